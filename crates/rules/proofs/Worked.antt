@@ -1,0 +1,170 @@
+-- Document 01's worked plans, P1 to P10, its sample file, and two runs on which planners go wrong: one table, one statement.
+-- Each row is a question and the answer that the page gives. `worked` has antt compute every answer from the definitions.
+-- Assumes nothing.
+use Prim.Native.Nat.{ℕ, zero, suc, _+_, _*_, _/_, _%_, _-_}
+use mathlib.Core.Path.{_≡_, refl}
+use mathlib.Core.Bool.{cond}
+use mathlib.Core.List.{List, [], _∷_, _++_, map, flatMap}
+use lib.Count.{ones, onesIn}
+use lib.Dec.{ltb}
+use lib.ListN.{length}
+use Rattle.days.specs.Days.{day, days}
+use Rattle.rules.specs.declared.BatteryString.{BatteryString}
+use Rattle.rules.specs.declared.Plan.{Plan}
+use Rattle.rules.specs.declared.Release.{Release}
+use Rattle.rules.specs.declared.Releases.{Releases}
+use Rattle.rules.specs.declared.Fault.the-variants.{OutOfBounds}
+use Rattle.rules.specs.declared.Checked.{Checked}
+use Rattle.rules.specs.declared.Checked.the-variants as checked
+use Rattle.rules.specs.declared.Verdict.{Verdict}
+use Rattle.rules.specs.declared.Verdict.the-variants.{Overload, Fail, Pass}
+use Rattle.rules.specs.declared.Assign.{Assign}
+use Rattle.rules.specs.declared.Assign.the-variants.{Takers}
+use Rattle.rules.specs.declared.Outcome.{Outcome}
+use Rattle.rules.specs.declared.Outcome.the-variants.{Miss, Clean}
+use Rattle.rules.specs.Count.{sumOf, largest, smallest, smallestWith, every, keep, countOf, upFrom, leastFrom}
+use Rattle.rules.specs.Plan.{noString, stringLawful, commonMultiple, multipleOf, dMin, dMax}
+use Rattle.rules.specs.Demand.{movingCost, holdOf, jobs, blockerHold, blockLimit, need, demand, load, overloaded}
+use Rattle.rules.specs.Verdict.{pairsAt, allPairs, broken, firstBroken, compared, judged, verdictOf, isPass}
+use Rattle.rules.specs.Search.{permit, withSet, setPasses, setsOf, ordered, firstPassing, searchOf}
+use Rattle.rules.specs.Release.{noRelease, tooClose, outOfOrder, releaseLawful, unlawfulFrom, firstUnlawful}
+use Rattle.rules.specs.Run.{chosen, lateAt, newSlot, joinFrom, joined, holder, payer, taken, nextUp, given, useOf, spent, morning, stateAt, useOn, lateOn, history, daysOf, missDay, runOf}
+use Rattle.rules.specs.Refusal.{countCheck, numbersCheck, stringsCheck, multipleCheck, planCheck, setCheck, releasesCheck, runCheck, verdictAnswer, setAnswer, searchAnswer, runAnswer}
+use Rattle.rules.specs.Text.{Line, before, linesOf, digitOf, wellFormed, pairsOf, frameOf, numberFrom, fieldAt, nIn, aIn, runIn, stringOf, releaseOf, filled, planIn, releasesIn, frameCheck, headerCheck, stringLineCheck, stringLinesCheck, releaseLineCheck, releaseLinesCheck, bodyCheck, linesCheck, textCheck, lawfulReading, readingOf}
+
+-- ---- Writing plans and texts down
+
+-- a string as the page writes it, (T, C, D)
+unfoldable pub string : ℕ → ℕ → ℕ → BatteryString
+string t c d = record { t = days t; c = days c; d = days d; x = 0 }
+
+-- strings, A, N
+unfoldable pub plan : List BatteryString → ℕ → ℕ → Plan
+plan ss a n = record { n = length ss; a = days a; run = days n; strings = filled 10 noString ss }
+
+-- a release as the page writes it, (day, place, need)
+unfoldable pub release : ℕ → ℕ → ℕ → Release
+release t i w = record { day = day t; place = i; need = days w }
+
+unfoldable pub releases : List Release → Releases
+releases rs = record { count = length rs; list = filled 1000 noRelease rs }
+
+-- the character of a hexadecimal digit
+unfoldable pub char : ℕ → ℕ
+char v = cond (ltb v 10) (0x30 + v) (0x57 + v)
+
+-- the last k digits of v, and what follows
+unfoldable pub digits : ℕ → ℕ → List ℕ → List ℕ
+digits zero v after = after
+digits (suc k) v after = digits k (v / 16) (char (v % 16) ∷ after)
+
+-- a line of k digits, with its 0a
+unfoldable pub line : ℕ → ℕ → List ℕ
+line k v = digits k v (0x0a ∷ [])
+
+-- ---- The plans of the page
+
+-- source, Example 1
+unfoldable pub two : Plan
+two = plan (string 10 3 5 ∷ string 10 5 10 ∷ []) 1 20
+
+-- source, Example 2
+unfoldable pub three : Plan
+three = plan (string 7 1 2 ∷ string 6 1 4 ∷ string 7 2 6 ∷ []) 1 20
+
+-- source, Example 3
+unfoldable pub eight : Plan
+eight = plan (string 10 1 3 ∷ string 3 1 3 ∷ string 5 2 5 ∷ []) 1 20
+
+unfoldable pub five : Plan
+five = plan (string 100 3 6 ∷ string 100 1 12 ∷ string 100 2 50 ∷ []) 5 20
+
+unfoldable pub nine : Plan
+nine = plan (string 2 2 2 ∷ []) 1 20
+
+unfoldable pub ten : Plan
+ten = plan (string 1 1 1 ∷ []) 0 20
+
+-- two strings of which the second may take the bank, with deadlines that can fall on one day
+unfoldable pub level : Plan
+level = plan (string 10 5 10 ∷ string 10 3 9 ∷ []) 1 20
+
+unfoldable pub sample : List ℕ
+sample =
+    line 18 0x010102000100000014
+    ++ line 16 0x0201000a00030005
+    ++ line 16 0x0200000a0005000a
+    ++ line 16 0x0302000000000005
+    ++ line 16 0x0301000000010003
+
+-- ---- The table
+
+pub data Question : Type 0 where
+  verdict-with : Plan → ℕ → Question
+  search : Plan → Question
+  run-with : Plan → ℕ → List Release → Question
+  file-verdict file-search file-run : List ℕ → Question
+
+pub data Answer : Type 0 where
+  verdict : Verdict → Answer
+  assign : Assign → Answer
+  run : Outcome → Answer
+
+pub record Row : Type 0 where
+  pub asked : Question
+  pub said : Answer
+
+unfoldable pub answered : Question → Answer
+answered (verdict-with p m) = verdict (setAnswer p m)
+answered (search p) = assign (searchAnswer p)
+answered (run-with p m rs) = run (runAnswer (withSet p m) (releases rs))
+answered (file-verdict text) = verdict (verdictAnswer (readingOf text .plan))
+answered (file-search text) = assign (searchAnswer (readingOf text .plan))
+answered (file-run text) = run (runAnswer (readingOf text .plan) (readingOf text .releases))
+
+unfoldable pub fails : ℕ → ℕ → ℕ → ℕ → Answer
+fails l b d k = verdict (Fail (days l) (days b) (days d) k)
+
+unfoldable pub clean : ℕ → ℕ → ℕ → Answer
+clean w m i = run (Clean (days w) (days m) (days i))
+
+unfoldable pub row : Question → Answer → Row
+row q a = record { asked = q; said = a }
+
+unfoldable pub table : List Row
+table =
+    row (verdict-with two 1) (verdict (Pass 44)) -- P1
+    ∷ row (verdict-with two 3) (verdict (Pass 48)) -- P2: the load is exactly H
+    ∷ row (verdict-with two 0) (fails 5 3 6 8) -- P3
+    ∷ row (search three) (assign (Takers 3)) -- P4
+    ∷ row (verdict-with five 2) (fails 6 4 7 10) -- P5: passes by the source's equation 7
+    ∷ row (run-with five 2 (release 0 3 2 ∷ release 1 2 1 ∷ release 2 1 3 ∷ [])) (run (Miss (day 8) 1)) -- P6
+    ∷ row (search five) (assign (Takers 0)) -- P7
+    ∷ row (search eight) (assign (Takers 1)) -- P8
+    ∷ row (verdict-with nine 1) (verdict Overload) -- P9
+    ∷ row (verdict-with nine 0) (verdict (Pass 3)) -- P9
+    ∷ row (verdict-with ten 0) (verdict (Pass 1)) -- P10
+    ∷ row (file-verdict sample) (verdict (Pass 44))
+    ∷ row (file-search sample) (assign (Takers 1))
+    ∷ row (file-run sample) (clean 8 1 11)
+    -- equal deadlines never take the bank
+    ∷ row (run-with level 2 (release 0 1 5 ∷ release 1 2 3 ∷ [])) (clean 8 0 12)
+    -- all releases of a day join before the bank is given: the later one in the list is due first
+    ∷ row (run-with two 0 (release 0 2 5 ∷ release 0 1 3 ∷ [])) (clean 8 0 12)
+    ∷ []
+
+pub worked : map (λ r. answered (r .asked)) table ≡ map (λ r. r .said) table
+unfolding
+  answered fails clean row table string plan release releases char digits line two three five eight nine ten level sample
+  ones onesIn flatMap
+  sumOf largest smallest smallestWith every keep countOf upFrom leastFrom
+  stringLawful commonMultiple multipleOf dMin dMax
+  movingCost holdOf jobs blockerHold blockLimit need demand load overloaded
+  pairsAt allPairs broken firstBroken compared judged verdictOf isPass
+  permit withSet setPasses setsOf ordered firstPassing searchOf
+  tooClose outOfOrder releaseLawful unlawfulFrom firstUnlawful
+  chosen lateAt newSlot joinFrom joined holder payer taken nextUp given useOf spent morning stateAt useOn lateOn history daysOf missDay runOf
+  countCheck numbersCheck stringsCheck multipleCheck planCheck setCheck releasesCheck runCheck verdictAnswer setAnswer searchAnswer runAnswer
+  before linesOf digitOf wellFormed pairsOf frameOf numberFrom fieldAt nIn aIn runIn stringOf releaseOf planIn releasesIn
+  frameCheck headerCheck stringLineCheck stringLinesCheck releaseLineCheck releaseLinesCheck bodyCheck linesCheck textCheck lawfulReading readingOf
+worked = refl

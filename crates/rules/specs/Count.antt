@@ -1,0 +1,56 @@
+-- Sums, extremes, counts and searches over lists and ranges, in which the rules are said.
+--     sumOf f xs            the sum of f over xs
+--     largest f xs          the largest f of xs, 0 of none
+--     smallest f xs         the smallest f of xs, 0 of none
+--     every f xs            all of xs pass f
+--     keep f xs             those of xs that pass f, in their order
+--     countOf f xs          how many of xs pass f
+--     upFrom k n            the n numbers k, k + 1, ..
+--     leastFrom f k n       the least of the n numbers from k on that passes f, or k + n where none does
+-- In a recursion both ways are bound before `cond` chooses, so that only the chosen one is computed. Assumes nothing.
+use Prim.Native.Nat.{ℕ, zero, suc, _+_, min, max}
+use mathlib.Core.Bool.{Bool, true, false, cond, _&&_}
+use mathlib.Core.List.{List, [], _∷_}
+
+module _ {ℓ} {A : Type ℓ} where
+  unfoldable pub sumOf : (A → ℕ) → List A → ℕ
+  sumOf f [] = 0
+  sumOf f (x ∷ xs) = f x + sumOf f xs
+
+  unfoldable pub largest : (A → ℕ) → List A → ℕ
+  largest f [] = 0
+  largest f (x ∷ xs) = max (f x) (largest f xs)
+
+  -- the smallest of m and of f over xs
+  unfoldable pub smallestWith : (A → ℕ) → ℕ → List A → ℕ
+  smallestWith f m [] = m
+  smallestWith f m (x ∷ xs) = min (f x) (smallestWith f m xs)
+
+  unfoldable pub smallest : (A → ℕ) → List A → ℕ
+  unfolding smallestWith
+  smallest f [] = 0
+  smallest f (x ∷ xs) = smallestWith f (f x) xs
+
+  unfoldable pub every : (A → Bool) → List A → Bool
+  every f [] = true
+  every f (x ∷ xs) =
+      let rest = every f xs in
+      cond (f x) rest false
+
+  unfoldable pub keep : (A → Bool) → List A → List A
+  keep f [] = []
+  keep f (x ∷ xs) = cond (f x) (x ∷ keep f xs) (keep f xs)
+
+  unfoldable pub countOf : (A → Bool) → List A → ℕ
+  countOf f [] = 0
+  countOf f (x ∷ xs) = cond (f x) 1 0 + countOf f xs
+
+unfoldable pub upFrom : ℕ → ℕ → List ℕ
+upFrom k zero = []
+upFrom k (suc n) = k ∷ upFrom (suc k) n
+
+unfoldable pub leastFrom : (ℕ → Bool) → ℕ → ℕ → ℕ
+leastFrom f k zero = k
+leastFrom f k (suc n) =
+    let later = leastFrom f (suc k) n in
+    cond (f k) k later

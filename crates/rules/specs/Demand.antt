@@ -1,0 +1,55 @@
+-- The demand rule (document 01, "The demand rule").
+--     movingCost p s        A, the moving days that a job of s pays when it takes the bank
+--     holdOf p s            E, C plus A times X: the longest that a job of s holds the bank
+--     jobs s w              the jobs of s in a window of w days (source, equation 1)
+--     blockLimit p l        B, the blocking limit at interval l (source, equation 7, with E for C)
+--     need p l b s          what s asks of an interval l with blocking b
+--     demand p l b          the demand at (l, b) (source, equation 9)
+--     Passes p              demand ≤ l for every whole l ≥ 1 and every b ≤ B: no upper end
+--     load p                the sum over strings of E × H / T
+--     overloaded p          the load exceeds H
+-- Assumes nothing.
+use Prim.Native.Nat.{ℕ, _+_, _-_, _*_, _/_, _≤_, min}
+use mathlib.Core.Bool.{Bool, cond, _&&_}
+use lib.Dec.{leb, ltb, eqb}
+use Rattle.rules.specs.declared.BatteryString.{BatteryString}
+use Rattle.rules.specs.declared.Plan.{Plan}
+use Rattle.rules.specs.Count.{sumOf, largest}
+use Rattle.rules.specs.Plan.{stringsOf, multipleOf, dMin, dMax}
+
+unfoldable pub movingCost : Plan → BatteryString → ℕ
+movingCost p s = p .a .0
+
+unfoldable pub holdOf : Plan → BatteryString → ℕ
+holdOf p s = s .c .0 + movingCost p s * s .x
+
+unfoldable pub jobs : BatteryString → ℕ → ℕ
+jobs s w = cond (ltb w (s .d .0)) 0 ((w - s .d .0) / s .t .0 + 1)
+
+-- E counts the moving too: a job that took the bank also holds it while moving. The source's equation 7 has C.
+unfoldable pub blockerHold : Plan → ℕ → BatteryString → ℕ
+blockerHold p l s = cond (ltb l (s .d .0)) (holdOf p s) 0
+
+unfoldable pub blockLimit : Plan → ℕ → ℕ
+blockLimit p l =
+    cond (leb (dMin p) l && ltb l (dMax p))
+    (min l (largest (blockerHold p l) (stringsOf p)))
+    0
+
+unfoldable pub need : Plan → ℕ → ℕ → BatteryString → ℕ
+need p l b s =
+    cond (eqb (s .x) 1)
+    (jobs s (l - b) * holdOf p s)
+    (jobs s l * s .c .0)
+
+unfoldable pub demand : Plan → ℕ → ℕ → ℕ
+demand p l b = b + sumOf (need p l b) (stringsOf p)
+
+abbrev pub Passes : Plan → Type 0
+Passes p = (l b : ℕ) → 1 ≤ l → b ≤ blockLimit p l → demand p l b ≤ l
+
+unfoldable pub load : Plan → ℕ
+load p = sumOf (λ s. holdOf p s * (multipleOf p / s .t .0)) (stringsOf p)
+
+unfoldable pub overloaded : Plan → Bool
+overloaded p = ltb (multipleOf p) (load p)

@@ -1,0 +1,10 @@
+-- The rules of document 01, in its order. Read: Plan, Demand, Verdict, Search, Release, Run, Refusal, Text.
+pub mod Count
+pub mod Plan
+pub mod Demand
+pub mod Verdict
+pub mod Search
+pub mod Release
+pub mod Run
+pub mod Refusal
+pub mod Text

@@ -1,0 +1,50 @@
+-- A plan and the bounds on it (document 01, "What the desk plans", "Bounds on a plan").
+--     stringsOf p           the strings of p, by place
+--     stringAt p i          the string at place i, from 1
+--     inBounds low v high   low ≤ v ≤ high
+--     commonMultiple ss h   every T of ss divides h
+--     multipleOf p          H, the least common multiple of all T; 100,001 stands for any H over 100,000
+--     dMin p, dMax p        the smallest and the largest D
+--     stringLawful s        T 1 to 1,000; D 1 to T; C 1 to D; X 0 or 1
+-- Assumes nothing.
+use Prim.Native.Nat.{ℕ, _+_, _-_, _%_}
+use mathlib.Core.Bool.{Bool, _&&_}
+use mathlib.Core.List.{List}
+use lib.Dec.{leb, eqb}
+use lib.ListN.{take, getD}
+use Rattle.days.specs.Days.{days}
+use Rattle.rules.specs.declared.BatteryString.{BatteryString}
+use Rattle.rules.specs.declared.Plan.{Plan}
+use Rattle.rules.specs.Count.{every, largest, smallest, leastFrom}
+
+abbrev pub stringsOf : Plan → List BatteryString
+stringsOf p = take (p .n) (p .strings)
+
+-- stands where there is no string; it is lawful nowhere
+abbrev pub noString : BatteryString
+noString = record { t = days 0; c = days 0; d = days 0; x = 0 }
+
+abbrev pub stringAt : Plan → ℕ → BatteryString
+stringAt p i = getD (stringsOf p) (i - 1) noString
+
+abbrev pub inBounds : ℕ → ℕ → ℕ → Bool
+inBounds low v high = leb low v && leb v high
+
+unfoldable pub stringLawful : BatteryString → Bool
+stringLawful s =
+    inBounds 1 (s .t .0) 1000
+    && inBounds 1 (s .d .0) (s .t .0)
+    && inBounds 1 (s .c .0) (s .d .0)
+    && inBounds 0 (s .x) 1
+
+unfoldable pub commonMultiple : List BatteryString → ℕ → Bool
+commonMultiple ss h = every (λ s. eqb (h % s .t .0) 0) ss
+
+unfoldable pub multipleOf : Plan → ℕ
+multipleOf p = leastFrom (commonMultiple (stringsOf p)) 1 100000
+
+unfoldable pub dMin : Plan → ℕ
+dMin p = smallest (λ s. s .d .0) (stringsOf p)
+
+unfoldable pub dMax : Plan → ℕ
+dMax p = largest (λ s. s .d .0) (stringsOf p)

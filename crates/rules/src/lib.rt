@@ -1,0 +1,112 @@
+// The words of the desk: the plan, its releases, the answers, and the slots of a run.
+// Letters are document 01's: T, C, D and X of a string, n, A and N of a plan.
+use days::{Day, Length};
+
+// A battery string: least days between two releases, most working days of a job, days from release to deadline, and
+// whether its jobs may take the bank (1) or not (0).
+pub struct BatteryString {
+    pub t: Length,
+    pub c: Length,
+    pub d: Length,
+    pub x: u32,
+}
+
+// A plan: n strings by place, one moving cost, the days of its run. Of the ten strings the first n count.
+pub struct Plan {
+    pub n: usize,
+    pub a: Length,
+    pub run: Length,
+    pub strings: [BatteryString; 10],
+}
+
+// A release: its day, the place of its string (from 1), and the working days it needs.
+pub struct Release {
+    pub day: Day,
+    pub place: usize,
+    pub need: Length,
+}
+
+// A list of releases. Of the thousand the first `count` count; a larger count is refused.
+pub struct Releases {
+    pub count: usize,
+    pub list: [Release; 1000],
+}
+
+// Why a plan, a text or a list is refused.
+pub enum Fault {
+    TextTooLong,
+    LineMalformed,
+    FrameWrong,
+    StringCount,
+    OutOfBounds,
+    MultipleOver,
+    ReleaseTooMany,
+    ReleaseUnlawful,
+}
+
+// Whether all rules were met; if not, the first fault, and where: a line, a place, or 0 for the whole.
+pub enum Checked {
+    Lawful,
+    Refused { fault: Fault, at: usize },
+}
+
+// What a text says: whether it is lawful and, where it is, the plan and the releases.
+pub struct Reading {
+    pub checked: Checked,
+    pub plan: Plan,
+    pub releases: Releases,
+}
+
+// The verdict on a plan. A fail names the interval, the blocking and the demand there; pairs are those compared.
+pub enum Verdict {
+    Refused { fault: Fault, at: usize },
+    Overload,
+    Fail {
+        interval: Length,
+        blocking: Length,
+        demand: Length,
+        pairs: u32,
+    },
+    Pass { pairs: u32 },
+}
+
+// What the search finds: a permission set, in which place 1 is worth 1, place 2 is worth 2, place 3 is worth 4.
+pub enum Assign {
+    Refused { fault: Fault, at: usize },
+    Takers { set: u32 },
+    Nobody,
+}
+
+// How a run ends: at a miss, or clean, with the days of each kind.
+pub enum Outcome {
+    Refused { fault: Fault, at: usize },
+    Miss { day: Day, place: usize },
+    Clean {
+        work: Length,
+        moving: Length,
+        idle: Length,
+    },
+}
+
+// The job of a slot, with the days of work and of moving that are left.
+pub enum Job {
+    Empty,
+    Waiting { work: Length, moving: Length },
+    OnBank { work: Length, moving: Length },
+}
+
+// The slot of a string: its job, when that was released and is due, and which release of the list it serves (from 1).
+pub struct Slot {
+    pub string: BatteryString,
+    pub job: Job,
+    pub release: Day,
+    pub deadline: Day,
+    pub serves: usize,
+}
+
+// What the bank did on a day: nothing, or work or moving for the release that the job at a place serves.
+pub enum Use {
+    Idle,
+    Work { place: usize, serves: usize },
+    Move { place: usize, serves: usize },
+}
