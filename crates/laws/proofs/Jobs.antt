@@ -1,0 +1,57 @@
+-- Laws of the job count. Everything above cites these and not the definition.
+-- Assumes nothing.
+use Prim.Native.Nat.{ℕ, zero, suc, _+_, _-_, _*_, _/_, _%_, _≤_, _<_}
+use mathlib.Core.Path.{_≡_, refl, sym, ap, _∙_}
+use native.Mathlib.Omega.{arith}
+use native.Mathlib.Decide.{decLe}
+use native.Mathlib.Nat.{div-add-mod', le-div-iff-mul-le, add-mul-div-right, mul-le-mul-right, div-mul-le-self}
+use borrow.Author.Tests.{lt-ltb, le-ltb}
+use Rattle.rules.specs.declared.BatteryString.{BatteryString}
+use Rattle.rules.specs.Demand.{jobs}
+
+-- a window shorter than D holds no job
+pub jobs-short : (s : BatteryString) (w : ℕ) → w < s .d .0 → jobs s w ≡ 0
+unfolding jobs
+jobs-short s w h = rw (lt-ltb w (s .d .0) h)
+
+pub jobs-from : (s : BatteryString) (w : ℕ) → s .d .0 ≤ w → jobs s w ≡ (w - s .d .0) / s .t .0 + 1
+unfolding jobs
+jobs-from s w h = rw (le-ltb w (s .d .0) h)
+
+-- from D on there is at least one
+pub jobs-first : (s : BatteryString) (w : ℕ) → s .d .0 ≤ w → 1 ≤ jobs s w
+jobs-first s w h = omega (arith, jobs-from s w h)
+
+pub jobs-zero : (s : BatteryString) → 1 ≤ s .d .0 → jobs s 0 ≡ 0
+jobs-zero s h = jobs-short s 0 h
+
+-- k releases of one string, each at least T after the one before, the first not before the window, the last deadline in it: k jobs
+pub jobs-window : (s : BatteryString) (k w : ℕ) → 1 ≤ s .t .0 → k * s .t .0 + s .d .0 ≤ w → suc k ≤ jobs s w
+jobs-window s k w t h =
+    let many : k ≤ (w - s .d .0) / s .t .0 = le-div-iff-mul-le t .1 (omega arith) in
+    omega (arith, jobs-from s w (omega arith))
+
+-- the last of them ends within the window
+pub jobs-last : (s : BatteryString) (w : ℕ) → 1 ≤ s .t .0 → s .d .0 ≤ w → (jobs s w - 1) * s .t .0 + s .d .0 ≤ w
+jobs-last s w t h =
+    let back : jobs s w - 1 ≡ (w - s .d .0) / s .t .0 = omega (arith, jobs-from s w h) in
+    rw back (omega (arith, div-mul-le-self (w - s .d .0) (s .t .0)))
+
+pub jobs-mono : (s : BatteryString) (v w : ℕ) → 1 ≤ s .t .0 → v ≤ w → jobs s v ≤ jobs s w
+jobs-mono s v w t h =
+    elim (decLe (s .d .0) v)
+    [ yes long ↦
+        let last = jobs-last s v t long in
+        let first = jobs-first s v long in
+        omega (arith, jobs-window s (jobs s v - 1) w t (omega arith))
+    | no short ↦ omega (arith, jobs-short s v (omega arith))
+    ]
+
+-- over a multiple h of T the count grows by h / T, once a job fits
+pub jobs-period : (s : BatteryString) (h w : ℕ) → 1 ≤ s .t .0 → h % s .t .0 ≡ 0 → s .d .0 ≤ w → jobs s (w + h) ≡ jobs s w + h / s .t .0
+jobs-period s h w t whole long =
+    let parts : h / s .t .0 * s .t .0 ≡ h = omega (arith, div-add-mod' h (s .t .0)) in
+    let split : w + h - s .d .0 ≡ (w - s .d .0) + h / s .t .0 * s .t .0 = omega arith in
+    let grown : (w + h - s .d .0) / s .t .0 ≡ (w - s .d .0) / s .t .0 + h / s .t .0 =
+          ap (λ n. n / s .t .0) split ∙ add-mul-div-right (w - s .d .0) (h / s .t .0) t in
+    omega (arith, jobs-from s (w + h) (omega arith), jobs-from s w long)

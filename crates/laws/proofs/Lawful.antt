@@ -1,0 +1,147 @@
+-- What the checks of a plan give where they find no fault.
+--     LawfulString s        the bounds on a string
+--     LawfulPlan p          the bounds on a plan, and that H is a common multiple of all T, the least, and at most 100,000
+-- Assumes nothing.
+use Prim.Native.Nat.{ℕ, zero, suc, _+_, _%_, _≤_, _<_}
+use mathlib.Core.Path.{_≡_, refl, sym, ap, _∙_}
+use mathlib.Core.Bool.{Bool, true, false, not, cond, _&&_}
+use mathlib.Core.List.{List, [], _∷_}
+use native.Mathlib.Omega.{arith}
+use native.Mathlib.Nat.{le-refl}
+use borrow.Author.Tests.{leb-true, ltb-false, eqb-true, not-false}
+use lib.Dec.{leb, ltb, eqb}
+use Rattle.rules.specs.declared.BatteryString.{BatteryString}
+use Rattle.rules.specs.declared.Plan.{Plan}
+use Rattle.rules.specs.declared.Fault.{Fault}
+use Rattle.rules.specs.declared.Fault.the-variants.{OutOfBounds}
+use Rattle.rules.specs.declared.Checked.{Checked}
+use Rattle.rules.specs.declared.Checked.the-variants.{Lawful, Refused}
+use Rattle.rules.specs.Count.{leastFrom}
+use Rattle.rules.specs.Plan.{stringsOf, inBounds, stringLawful, commonMultiple, multipleOf}
+use Rattle.rules.specs.Refusal.{then, refuseIf, countCheck, numbersCheck, stringsCheck, multipleCheck, planCheck}
+use Rattle.laws.proofs.Lists.{All, all-map, every-all, by-bool, true-not-false, and-left, and-right}
+use Rattle.laws.proofs.Least.{leastFrom-low, leastFrom-passes, leastFrom-before}
+
+-- ---- Checks
+
+-- a refusal is no Lawful
+pub refused-not-lawful : (f : Fault) (at : ℕ) → Refused f at ≡ Lawful → ⊥
+refused-not-lawful f at h =
+    let z : _≡_ {A = ℕ} 0 1 = cc in
+    omega arith
+
+pub then-first : (a b : Checked) → then a b ≡ Lawful → a ≡ Lawful
+then-first Lawful b h = refl
+then-first (Refused f at) b h = h
+
+pub then-second : (a b : Checked) → then a b ≡ Lawful → b ≡ Lawful
+then-second Lawful b h = h
+then-second (Refused f at) b h = absurd (refused-not-lawful f at h)
+
+pub refuseIf-not : (bad : Bool) (f : Fault) (at : ℕ) → refuseIf bad f at ≡ Lawful → bad ≡ false
+refuseIf-not true f at h = absurd (refused-not-lawful f at h)
+refuseIf-not false f at h = refl
+
+pub inBounds-low : (low v high : ℕ) → inBounds low v high ≡ true → low ≤ v
+inBounds-low low v high h = leb-true low v (and-left (leb low v) (leb v high) h)
+
+pub inBounds-high : (low v high : ℕ) → inBounds low v high ≡ true → v ≤ high
+inBounds-high low v high h = leb-true v high (and-right (leb low v) (leb v high) h)
+
+-- ---- A string
+
+pub record LawfulString (s : BatteryString) : Type 0 where
+  pub tPos : 1 ≤ s .t .0
+  pub tMax : s .t .0 ≤ 1000
+  pub dPos : 1 ≤ s .d .0
+  pub dMax : s .d .0 ≤ s .t .0
+  pub cPos : 1 ≤ s .c .0
+  pub cMax : s .c .0 ≤ s .d .0
+  pub xMax : s .x ≤ 1
+
+pub stringLawful-is : (s : BatteryString) → stringLawful s ≡ true → LawfulString s
+unfolding stringLawful
+stringLawful-is s h =
+    let T = inBounds 1 (s .t .0) 1000 in
+    let D = inBounds 1 (s .d .0) (s .t .0) in
+    let C = inBounds 1 (s .c .0) (s .d .0) in
+    let X = inBounds 0 (s .x) 1 in
+    let x = and-right (T && D && C) X h in
+    let tdc = and-left (T && D && C) X h in
+    let c = and-right (T && D) C tdc in
+    let td = and-left (T && D) C tdc in
+    let d = and-right T D td in
+    let t = and-left T D td in
+    record
+      { tPos = inBounds-low 1 (s .t .0) 1000 t
+      ; tMax = inBounds-high 1 (s .t .0) 1000 t
+      ; dPos = inBounds-low 1 (s .d .0) (s .t .0) d
+      ; dMax = inBounds-high 1 (s .d .0) (s .t .0) d
+      ; cPos = inBounds-low 1 (s .c .0) (s .d .0) c
+      ; cMax = inBounds-high 1 (s .c .0) (s .d .0) c
+      ; xMax = inBounds-high 0 (s .x) 1 x
+      }
+
+pub stringsCheck-all : (k : ℕ) (ss : List BatteryString) → stringsCheck k ss ≡ Lawful → All LawfulString ss
+unfolding stringsCheck
+stringsCheck-all k [] h = tt
+stringsCheck-all k (s ∷ ss) h =
+    by-bool (stringLawful s)
+    (λ t. (stringLawful-is s t, stringsCheck-all (suc k) ss (rw t at h)))
+    (λ e. absurd (refused-not-lawful OutOfBounds k (rw e at h)))
+
+-- ---- A plan
+
+pub record LawfulPlan (p : Plan) : Type 0 where
+  pub nPos : 1 ≤ p .n
+  pub nMax : p .n ≤ 10
+  pub aMax : p .a .0 ≤ 1000
+  pub runPos : 1 ≤ p .run .0
+  pub runMax : p .run .0 ≤ 1000000
+  pub each : All LawfulString (stringsOf p)
+  pub hPos : 1 ≤ multipleOf p
+  pub hMax : multipleOf p ≤ 100000
+  pub hWhole : All (λ s. multipleOf p % s .t .0 ≡ 0) (stringsOf p)
+  pub hLeast : (k : ℕ) → 1 ≤ k → k < multipleOf p → commonMultiple (stringsOf p) k ≡ false
+
+pub commonMultiple-whole : (ss : List BatteryString) (h : ℕ) → commonMultiple ss h ≡ true → All (λ s. h % s .t .0 ≡ 0) ss
+unfolding commonMultiple
+commonMultiple-whole ss h e =
+    all-map (λ s. eqb (h % s .t .0) 0 ≡ true) (λ s. h % s .t .0 ≡ 0) (λ s t. eqb-true (h % s .t .0) 0 t) ss
+    (every-all (λ s. eqb (h % s .t .0) 0) ss e)
+
+pub multipleOf-pos : (p : Plan) → 1 ≤ multipleOf p
+unfolding multipleOf
+multipleOf-pos p = leastFrom-low (commonMultiple (stringsOf p)) 1 100000
+
+pub multipleOf-common : (p : Plan) → multipleOf p ≤ 100000 → commonMultiple (stringsOf p) (multipleOf p) ≡ true
+unfolding multipleOf
+multipleOf-common p h = leastFrom-passes (commonMultiple (stringsOf p)) 1 100000 (omega arith)
+
+pub multipleOf-least : (p : Plan) (k : ℕ) → 1 ≤ k → k < multipleOf p → commonMultiple (stringsOf p) k ≡ false
+unfolding multipleOf
+multipleOf-least p k h m = leastFrom-before (commonMultiple (stringsOf p)) 1 100000 k h m
+
+pub planCheck-lawful : (p : Plan) → planCheck p ≡ Lawful → LawfulPlan p
+unfolding planCheck countCheck numbersCheck multipleCheck
+planCheck-lawful p h =
+    let strings = then (stringsCheck 1 (stringsOf p)) (multipleCheck p) in
+    let count = not-false _ (refuseIf-not _ _ _ (then-first (countCheck p) (then (numbersCheck p) strings) h)) in
+    let after = then-second (countCheck p) (then (numbersCheck p) strings) h in
+    let numbers = not-false _ (refuseIf-not _ _ _ (then-first (numbersCheck p) strings after)) in
+    let a = and-left (inBounds 0 (p .a .0) 1000) (inBounds 1 (p .run .0) 1000000) numbers in
+    let run = and-right (inBounds 0 (p .a .0) 1000) (inBounds 1 (p .run .0) 1000000) numbers in
+    let body = then-second (numbersCheck p) strings after in
+    let high : multipleOf p ≤ 100000 = ltb-false 100000 (multipleOf p) (refuseIf-not _ _ _ (then-second (stringsCheck 1 (stringsOf p)) (multipleCheck p) body)) in
+    record
+      { nPos = inBounds-low 1 (p .n) 10 count
+      ; nMax = inBounds-high 1 (p .n) 10 count
+      ; aMax = inBounds-high 0 (p .a .0) 1000 a
+      ; runPos = inBounds-low 1 (p .run .0) 1000000 run
+      ; runMax = inBounds-high 1 (p .run .0) 1000000 run
+      ; each = stringsCheck-all 1 (stringsOf p) (then-first (stringsCheck 1 (stringsOf p)) (multipleCheck p) body)
+      ; hPos = multipleOf-pos p
+      ; hMax = high
+      ; hWhole = commonMultiple-whole (stringsOf p) (multipleOf p) (multipleOf-common p high)
+      ; hLeast = multipleOf-least p
+      }

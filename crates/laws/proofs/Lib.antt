@@ -1,0 +1,5 @@
+-- Laws of the definitions in `rules`, in the order in which they build on each other.
+pub mod Lists
+pub mod Least
+pub mod Jobs
+pub mod Lawful

@@ -1,0 +1,180 @@
+-- Laws of tests, sums and extremes over a list.
+--     All P xs              every one of xs has P
+--     Some P xs             one of xs, at a place that is given, has P
+-- Assumes nothing.
+use Prim.Native.Nat.{ℕ, zero, suc, _+_, _≤_, _<_, min, max, zero-le}
+use mathlib.Core.Path.{_≡_, refl, sym, ap, _∙_, subst}
+use mathlib.Core.Logic.{_⊎_, inl, inr}
+use mathlib.Core.Bool.{Bool, true, false, cond, _&&_}
+use mathlib.Core.List.{List, [], _∷_}
+use native.Mathlib.Omega.{arith}
+use native.Mathlib.Numerals.{add-one}
+use native.Mathlib.Decide.{decLe}
+use native.Mathlib.Nat.{not-suc-le-zero, le-of-suc-le-suc, le-refl}
+use lib.ListN.{length, getD, drop}
+use lib.Seq.{drop-cons}
+use Rattle.rules.specs.Count.{sumOf, largest, smallest, smallestWith, every, countOf}
+
+-- ---- Tests
+
+-- what follows from a test and from its failing, follows
+pub by-bool {κ} : {B : Type κ} (b : Bool) → (b ≡ true → B) → (b ≡ false → B) → B
+by-bool true t f = t refl
+by-bool false t f = f refl
+
+pub true-not-false : true ≡ false → ⊥
+true-not-false h =
+    let z : _≡_ {A = ℕ} 0 1 = cc in
+    omega arith
+
+pub and-left : (a b : Bool) → (a && b) ≡ true → a ≡ true
+and-left true b h = refl
+and-left false b h = h
+
+pub and-right : (a b : Bool) → (a && b) ≡ true → b ≡ true
+and-right true b h = h
+and-right false b h = cc
+
+pub and-both : (a b : Bool) → a ≡ true → b ≡ true → (a && b) ≡ true
+and-both true b h k = k
+and-both false b h k = h
+
+-- ---- All and Some
+
+module _ {ℓ} {A : Type ℓ} where
+  abbrev pub All : (A → Type 0) → List A → Type 0
+  All P [] = Unit {0}
+  All P (x ∷ xs) = P x × All P xs
+
+  pub all-at : (P : A → Type 0) (xs : List A) (z : A) → All P xs → (i : ℕ) → i < length xs → P (getD xs i z)
+  all-at P [] z h i k = absurd (not-suc-le-zero k)
+  all-at P (x ∷ xs) z h zero k = h .0
+  all-at P (x ∷ xs) z h (suc i) k = all-at P xs z (h .1) i (le-of-suc-le-suc k)
+
+  pub all-by : (P : A → Type 0) (xs : List A) (z : A) → ((i : ℕ) → i < length xs → P (getD xs i z)) → All P xs
+  all-by P [] z f = tt
+  all-by P (x ∷ xs) z f = (f zero (omega arith), all-by P xs z (λ i k. f (suc i) (omega arith)))
+
+  pub all-map : (P Q : A → Type 0) → ((x : A) → P x → Q x) → (xs : List A) → All P xs → All Q xs
+  all-map P Q f [] h = tt
+  all-map P Q f (x ∷ xs) h = (f x (h .0), all-map P Q f xs (h .1))
+
+  abbrev pub Some : (A → Type 0) → List A → A → Type 0
+  Some P xs z = (i : ℕ) × (i < length xs) × P (getD xs i z)
+
+  -- ---- every
+
+  pub every-all : (f : A → Bool) (xs : List A) → every f xs ≡ true → All (λ x. f x ≡ true) xs
+  unfolding every
+  every-all f [] h = tt
+  every-all f (x ∷ xs) h = by-bool (f x) (λ t. (t, every-all f xs (rw t at h))) (λ e. absurd (true-not-false (sym h ∙ rw e)))
+
+  pub all-every : (f : A → Bool) (xs : List A) → All (λ x. f x ≡ true) xs → every f xs ≡ true
+  unfolding every
+  all-every f [] h = refl
+  all-every f (x ∷ xs) h = rw (h .0) (all-every f xs (h .1))
+
+  -- ---- sumOf
+
+  pub sumOf-le : (f g : A → ℕ) (xs : List A) → All (λ x. f x ≤ g x) xs → sumOf f xs ≤ sumOf g xs
+  unfolding sumOf
+  sumOf-le f g [] h = le-refl 0
+  sumOf-le f g (x ∷ xs) h =
+      let rest = sumOf-le f g xs (h .1) in
+      let first = h .0 in
+      omega arith
+
+  pub sumOf-eq : (f g : A → ℕ) (xs : List A) → All (λ x. f x ≡ g x) xs → sumOf f xs ≡ sumOf g xs
+  unfolding sumOf
+  sumOf-eq f g [] h = refl
+  sumOf-eq f g (x ∷ xs) h =
+      let rest = sumOf-eq f g xs (h .1) in
+      let first = h .0 in
+      omega arith
+
+  pub sumOf-add : (f g : A → ℕ) (xs : List A) → sumOf (λ x. f x + g x) xs ≡ sumOf f xs + sumOf g xs
+  unfolding sumOf
+  sumOf-add f g [] = refl
+  sumOf-add f g (x ∷ xs) =
+      let rest = sumOf-add f g xs in
+      omega arith
+
+  pub sumOf-drop : (f : A → ℕ) (xs : List A) (z : A) (i : ℕ) → i < length xs → sumOf f (drop i xs) ≡ f (getD xs i z) + sumOf f (drop (i + 1) xs)
+  unfolding sumOf
+  sumOf-drop f xs z i h = rw (add-one, drop-cons xs i z h)
+
+  -- ---- largest
+
+  pub largest-ge : (f : A → ℕ) (xs : List A) → All (λ x. f x ≤ largest f xs) xs
+  unfolding largest
+  largest-ge f [] = tt
+  largest-ge f (x ∷ xs) =
+      ( omega arith
+      , all-map (λ y. f y ≤ largest f xs) (λ y. f y ≤ max (f x) (largest f xs)) (λ y h. omega arith) xs (largest-ge f xs))
+
+  pub largest-le : (f : A → ℕ) (m : ℕ) (xs : List A) → All (λ x. f x ≤ m) xs → largest f xs ≤ m
+  unfolding largest
+  largest-le f m [] h = zero-le
+  largest-le f m (x ∷ xs) h =
+      let rest = largest-le f m xs (h .1) in
+      let first = h .0 in
+      omega arith
+
+  -- a largest above a bound is reached somewhere
+  pub largest-some : (f : A → ℕ) (m : ℕ) (xs : List A) (z : A) → m < largest f xs → Some (λ x. m < f x) xs z
+  unfolding largest
+  largest-some f m [] z h = absurd (not-suc-le-zero h)
+  largest-some f m (x ∷ xs) z h =
+      elim (decLe (suc m) (f x)) [ yes here ↦ (zero, omega arith, here) | no away ↦ later (largest-some f m xs z (omega arith)) ]
+    where
+      later : Some (λ y. m < f y) xs z → Some (λ y. m < f y) (x ∷ xs) z
+      later s = (suc (s .0), omega (arith, s .1), s .2)
+
+  pub largest-drop : (f : A → ℕ) (xs : List A) (z : A) (i : ℕ) → i < length xs → largest f (drop i xs) ≡ max (f (getD xs i z)) (largest f (drop (i + 1) xs))
+  unfolding largest
+  largest-drop f xs z i h = rw (add-one, drop-cons xs i z h)
+
+  -- ---- smallest
+
+  pub smallestWith-le : (f : A → ℕ) (m : ℕ) (xs : List A) → smallestWith f m xs ≤ m
+  unfolding smallestWith
+  smallestWith-le f m [] = le-refl m
+  smallestWith-le f m (x ∷ xs) =
+      let rest = smallestWith-le f m xs in
+      omega arith
+
+  pub smallestWith-all : (f : A → ℕ) (m : ℕ) (xs : List A) → All (λ x. smallestWith f m xs ≤ f x) xs
+  unfolding smallestWith
+  smallestWith-all f m [] = tt
+  smallestWith-all f m (x ∷ xs) =
+      ( omega arith
+      , all-map (λ y. smallestWith f m xs ≤ f y) (λ y. min (f x) (smallestWith f m xs) ≤ f y) (λ y h. omega arith) xs (smallestWith-all f m xs))
+
+  pub smallest-le : (f : A → ℕ) (xs : List A) → All (λ x. smallest f xs ≤ f x) xs
+  unfolding smallest
+  smallest-le f [] = tt
+  smallest-le f (x ∷ xs) = (smallestWith-le f (f x) xs, smallestWith-all f (f x) xs)
+
+  -- a smallest below a bound is reached somewhere
+  pub smallestWith-some : (f : A → ℕ) (m b : ℕ) (xs : List A) (z : A) → smallestWith f m xs ≤ b → (m ≤ b) ⊎ Some (λ x. f x ≤ b) xs z
+  unfolding smallestWith
+  smallestWith-some f m b [] z h = inl h
+  smallestWith-some f m b (x ∷ xs) z h =
+      elim (decLe (f x) b) [ yes here ↦ inr (zero, omega arith, here) | no away ↦ later (smallestWith-some f m b xs z (omega arith)) ]
+    where
+      later : (m ≤ b) ⊎ Some (λ y. f y ≤ b) xs z → (m ≤ b) ⊎ Some (λ y. f y ≤ b) (x ∷ xs) z
+      later (inl k) = inl k
+      later (inr s) = inr (suc (s .0), omega (arith, s .1), s .2)
+
+  pub smallest-some : (f : A → ℕ) (b : ℕ) (xs : List A) (z : A) → zero < length xs → smallest f xs ≤ b → Some (λ x. f x ≤ b) xs z
+  unfolding smallest
+  smallest-some f b [] z k h = absurd (not-suc-le-zero k)
+  smallest-some f b (x ∷ xs) z k h = place (smallestWith-some f (f x) b xs z h)
+    where
+      place : (f x ≤ b) ⊎ Some (λ y. f y ≤ b) xs z → Some (λ y. f y ≤ b) (x ∷ xs) z
+      place (inl e) = (zero, omega arith, e)
+      place (inr s) = (suc (s .0), omega (arith, s .1), s .2)
+
+  pub smallestWith-drop : (f : A → ℕ) (m : ℕ) (xs : List A) (z : A) (i : ℕ) → i < length xs → smallestWith f m (drop i xs) ≡ min (f (getD xs i z)) (smallestWith f m (drop (i + 1) xs))
+  unfolding smallestWith
+  smallestWith-drop f m xs z i h = rw (add-one, drop-cons xs i z h)
