@@ -1,0 +1,2 @@
+-- The verdict and the rule say the same, in the order in which the steps build on each other.
+pub mod Order
