@@ -1,2 +1,3 @@
 -- The verdict and the rule say the same, in the order in which the steps build on each other.
 pub mod Order
+pub mod Pairs
