@@ -8,7 +8,7 @@ use mathlib.Core.List.{List, [], _∷_, _++_, map, flatMap}
 use native.Mathlib.Omega.{arith}
 use native.Mathlib.Decide.{ℕ-discrete}
 use native.Mathlib.Nat.{le-refl}
-use Rattle.rules.specs.Count.{upFrom, keep}
+use Rattle.rules.specs.Count.{sumOf, upFrom, keep}
 use Rattle.laws.proofs.Lists.{All, all-map, by-bool, true-not-false}
 
 -- ---- All
@@ -33,6 +33,14 @@ module _ {ℓ} {A : Type ℓ} where
   pub all-right : (P : A → Type 0) (xs ys : List A) → All P (xs ++ ys) → All P ys
   all-right P [] ys h = h
   all-right P (x ∷ xs) ys h = all-right P xs ys (h .1)
+
+  pub sumOf-zero : (f : A → ℕ) (xs : List A) → All (λ x. f x ≡ 0) xs → sumOf f xs ≡ 0
+  unfolding sumOf
+  sumOf-zero f [] h = refl
+  sumOf-zero f (x ∷ xs) h =
+      let first = h .0 in
+      let rest = sumOf-zero f xs (h .1) in
+      omega arith
 
   -- ---- keep
 
