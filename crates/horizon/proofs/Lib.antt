@@ -2,3 +2,4 @@
 pub mod Order
 pub mod Pairs
 pub mod Period
+pub mod Range
