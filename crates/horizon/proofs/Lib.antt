@@ -3,3 +3,4 @@ pub mod Order
 pub mod Pairs
 pub mod Period
 pub mod Range
+pub mod First
