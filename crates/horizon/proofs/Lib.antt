@@ -4,3 +4,4 @@ pub mod Pairs
 pub mod Period
 pub mod Range
 pub mod First
+pub mod Verdict

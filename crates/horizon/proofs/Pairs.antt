@@ -12,7 +12,7 @@ use mathlib.Core.Option.{Option, none, some}
 use native.Mathlib.Omega.{arith}
 use native.Mathlib.Numerals.{add-one}
 use native.Mathlib.Nat.{add-zero}
-use borrow.Author.Tests.{lt-ltb, le-ltb}
+use borrow.Author.Tests.{lt-ltb, le-ltb, ltb-true, ltb-false}
 use lib.ListN.{length}
 use Rattle.days.specs.Days.{days}
 use Rattle.rules.specs.declared.Plan.{Plan}
@@ -44,6 +44,14 @@ broken-yes p q h = lt-ltb (q .l) (demand p (q .l) (q .b)) h
 pub broken-no : (p : Plan) (q : Pair) → demand p (q .l) (q .b) ≤ q .l → broken p q ≡ false
 unfolding broken
 broken-no p q h = le-ltb (q .l) (demand p (q .l) (q .b)) h
+
+pub broken-over : (p : Plan) (q : Pair) → broken p q ≡ true → q .l < demand p (q .l) (q .b)
+unfolding broken
+broken-over p q t = ltb-true (q .l) (demand p (q .l) (q .b)) t
+
+pub unbroken-holds : (p : Plan) (q : Pair) → broken p q ≡ false → demand p (q .l) (q .b) ≤ q .l
+unfolding broken
+unbroken-holds p q e = ltb-false (q .l) (demand p (q .l) (q .b)) e
 
 -- ---- The scan
 

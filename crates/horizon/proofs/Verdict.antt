@@ -1,0 +1,161 @@
+-- The verdict's definition means what document 01 says: Pass exactly where the plan passes, with all pairs counted; and a Fail
+-- names the first pair, in order of l, then b, that breaks the rule.
+--     FirstBreak p l b      the rule breaks at (l, b), and at no smaller interval, nor at l with a smaller blocking
+-- Assumes nothing.
+use Prim.Native.Nat.{ℕ, zero, suc, _+_, _-_, _≤_, _<_, zero-le}
+use mathlib.Core.Path.{_≡_, refl, sym, ap, _∙_}
+use mathlib.Core.Logic.{_⊎_, inl, inr, _↔_}
+use mathlib.Core.Bool.{Bool, true, false, cond}
+use mathlib.Core.List.{List, [], _∷_}
+use mathlib.Core.Option.{Option, none, some}
+use native.Mathlib.Omega.{arith}
+use native.Mathlib.Nat.{le-trans}
+use lib.ListN.{length}
+use Rattle.days.specs.Days.{days}
+use Rattle.days.specs.declared.Length.{Length}
+use Rattle.rules.specs.declared.Plan.{Plan}
+use Rattle.rules.specs.declared.Verdict.{Verdict}
+use Rattle.rules.specs.declared.Verdict.the-variants.{Overload, Fail, Pass}
+use Rattle.rules.specs.Plan.{multipleOf, dMax}
+use Rattle.rules.specs.Demand.{blockLimit, demand, Passes, overloaded}
+use Rattle.rules.specs.Verdict.{Pair, allPairs, broken, firstBroken, compared, judged, verdictOf, isPass}
+use Rattle.laws.proofs.Lists.{All, all-map, by-bool, true-not-false}
+use Rattle.laws.proofs.Lawful.{LawfulPlan}
+use Rattle.horizon.proofs.Pairs.{pair, broken-no, broken-over, unbroken-holds, verdictOf-overload}
+use Rattle.horizon.proofs.Range.{overload-at-period, range-suffices}
+use Rattle.horizon.proofs.First.{Before, none-broken, broken-none, compared-all, firstBroken-broken, firstBroken-in, firstBroken-least, all-pairs, pairs-all, pairs-rising}
+
+-- ---- Verdicts
+
+pub overload-no-pass : isPass Overload ≡ true → ⊥
+unfolding isPass
+overload-no-pass h = true-not-false (sym h)
+
+pub judged-pass : (p : Plan) (first : Option Pair) (k : ℕ) → isPass (judged p first k) ≡ true → first ≡ none
+unfolding judged isPass
+judged-pass p none k h = refl
+judged-pass p (some q) k h = absurd (true-not-false (sym h))
+
+pub judged-fail :
+  (p : Plan) (first : Option Pair) (pairs : ℕ) (l b d : Length) (k : ℕ) → judged p first pairs ≡ Fail l b d k
+  → (first ≡ some (pair (l .0) (b .0))) × (d ≡ days (demand p (l .0) (b .0))) × (pairs ≡ k)
+unfolding judged
+judged-fail p none pairs l b d k h =
+    let z : _≡_ {A = ℕ} 0 1 = cc in
+    absurd (omega arith)
+judged-fail p (some q) pairs l b d k h =
+    let interval : days (q .l) ≡ l = cc in
+    let blocking : days (q .b) ≡ b = cc in
+    let asked : days (demand p (q .l) (q .b)) ≡ d = cc in
+    let count : pairs ≡ k = cc in
+    let interval-days : q .l ≡ l .0 = ap (λ n. n .0) interval in
+    let blocking-days : q .b ≡ b .0 = ap (λ n. n .0) blocking in
+    ( rw (← interval-days, ← blocking-days)
+    , rw (← interval-days, ← blocking-days) (sym asked)
+    , count)
+
+-- ---- Pass
+
+module _ (p : Plan) where
+  pub pass-not-overloaded : isPass (verdictOf p) ≡ true → overloaded p ≡ false
+  pass-not-overloaded h =
+      by-bool (overloaded p) (λ t. absurd (overload-no-pass (sym (ap isPass (verdictOf-overload p t)) ∙ h))) (λ e. e)
+
+  pub pass-none-broken : isPass (verdictOf p) ≡ true → firstBroken p (allPairs p) ≡ none
+  unfolding verdictOf
+  pass-none-broken h =
+      let light = pass-not-overloaded h in
+      judged-pass p (firstBroken p (allPairs p)) (length (compared p (allPairs p))) (rw light at h)
+
+  -- a pass counts all pairs
+  pub pass-count : isPass (verdictOf p) ≡ true → verdictOf p ≡ Pass (length (allPairs p))
+  unfolding verdictOf judged
+  pass-count h =
+      let light = pass-not-overloaded h in
+      let none-is = pass-none-broken h in
+      let whole = compared-all p (allPairs p) (none-broken p (allPairs p) none-is) in
+      rw (light, none-is, whole)
+
+module _ (p : Plan) (ok : LawfulPlan p) where
+  pub pass-passes : isPass (verdictOf p) ≡ true → Passes p
+  pass-passes h =
+      range-suffices p ok (pass-not-overloaded p h) (λ l b low high limit.
+      unbroken-holds p (pair l b) (whole l b low high limit))
+    where
+      whole : (l b : ℕ) → 1 ≤ l → l ≤ dMax p + multipleOf p - 1 → b ≤ blockLimit p l → broken p (pair l b) ≡ false
+      whole = pairs-all p (λ q. broken p q ≡ false) (none-broken p (allPairs p) (pass-none-broken p h))
+
+  pub passes-pass : Passes p → isPass (verdictOf p) ≡ true
+  unfolding verdictOf judged isPass
+  passes-pass rule =
+      let light : overloaded p ≡ false =
+            by-bool (overloaded p)
+            (λ t. absurd (omega (arith, overload-at-period p ok t, rule (multipleOf p) 0 (ok .hPos) zero-le)))
+            (λ e. e) in
+      let none-is = broken-none p (allPairs p) (all-pairs p (λ q. broken p q ≡ false) (λ l b low high limit.
+            broken-no p (pair l b) (rule l b low limit))) in
+      rw (light, none-is)
+
+  -- the verdict is Pass exactly where the plan passes
+  pub pass-exactly : (isPass (verdictOf p) ≡ true) ↔ Passes p
+  pass-exactly = (pass-passes, passes-pass)
+
+-- ---- Fail
+
+pub record FirstBreak (p : Plan) (l b : ℕ) : Type 0 where
+  pub pos : 1 ≤ l
+  pub inRange : l ≤ dMax p + multipleOf p - 1
+  pub allowed : b ≤ blockLimit p l
+  pub breaks : l < demand p l b
+  pub shorter : (m c : ℕ) → 1 ≤ m → m < l → c ≤ blockLimit p m → demand p m c ≤ m
+  pub less : (c : ℕ) → c < b → demand p l c ≤ l
+
+module _ (p : Plan) where
+  -- the first of all pairs that is broken is the first break
+  pub firstBroken-names : (l b : ℕ) → firstBroken p (allPairs p) ≡ some (pair l b) → FirstBreak p l b
+  firstBroken-names l b h =
+      record
+        { pos = within .0
+        ; inRange = within .1
+        ; allowed = within .2
+        ; breaks = broken-over p (pair l b) (firstBroken-broken p (allPairs p) (pair l b) h)
+        ; shorter = λ m c low under limit. holds m c low (le-trans (omega arith) (within .1)) limit (inl under)
+        ; less = λ c under. holds l c (within .0) (within .1) (omega (arith, within .2)) (inr (refl, under))
+        }
+    where
+      within : (1 ≤ l) × (l ≤ dMax p + multipleOf p - 1) × (b ≤ blockLimit p l)
+      within =
+          firstBroken-in p (λ q. (1 ≤ q .l) × (q .l ≤ dMax p + multipleOf p - 1) × (q .b ≤ blockLimit p (q .l))) (allPairs p) (pair l b)
+          (all-pairs p (λ q. (1 ≤ q .l) × (q .l ≤ dMax p + multipleOf p - 1) × (q .b ≤ blockLimit p (q .l))) (λ i c low high limit. (low, high, limit)))
+          h
+      least : (m c : ℕ) → 1 ≤ m → m ≤ dMax p + multipleOf p - 1 → c ≤ blockLimit p m → broken p (pair m c) ≡ true → (pair l b ≡ pair m c) ⊎ Before (pair l b) (pair m c)
+      least =
+          pairs-all p (λ r. broken p r ≡ true → (pair l b ≡ r) ⊎ Before (pair l b) r)
+          (firstBroken-least p Before (allPairs p) (pair l b) (pairs-rising p) h)
+      not-after : (m c : ℕ) → Before (pair m c) (pair l b) → (pair l b ≡ pair m c) ⊎ Before (pair l b) (pair m c) → ⊥
+      not-after m c (inl under) (inl e) = omega (arith, ap (λ q. q .l) e)
+      not-after m c (inr under) (inl e) = omega (arith, ap (λ q. q .b) e)
+      not-after m c (inl under) (inr (inl over)) = omega arith
+      not-after m c (inl under) (inr (inr over)) = omega arith
+      not-after m c (inr under) (inr (inl over)) = omega arith
+      not-after m c (inr under) (inr (inr over)) = omega arith
+      holds : (m c : ℕ) → 1 ≤ m → m ≤ dMax p + multipleOf p - 1 → c ≤ blockLimit p m → Before (pair m c) (pair l b) → demand p m c ≤ m
+      holds m c low high limit earlier =
+          by-bool (broken p (pair m c))
+          (λ t. absurd (not-after m c earlier (least m c low high limit t)))
+          (λ e. unbroken-holds p (pair m c) e)
+
+  -- a fail names the first break and the demand there, and counts the pairs up to and including it
+  pub fail-names :
+    (l b d : Length) (k : ℕ) → verdictOf p ≡ Fail l b d k
+    → FirstBreak p (l .0) (b .0) × (d ≡ days (demand p (l .0) (b .0))) × (k ≡ length (compared p (allPairs p)))
+  unfolding verdictOf
+  fail-names l b d k h =
+      let light : overloaded p ≡ false = by-bool (overloaded p) (λ t. absurd (no-fail (sym (verdictOf-overload p t) ∙ h))) (λ e. e) in
+      let parts = judged-fail p (firstBroken p (allPairs p)) (length (compared p (allPairs p))) l b d k (rw light at h) in
+      (firstBroken-names (l .0) (b .0) (parts .0), parts .1, sym (parts .2))
+    where
+      no-fail : Overload ≡ Fail l b d k → ⊥
+      no-fail e =
+          let z : _≡_ {A = ℕ} 0 1 = cc in
+          omega arith
