@@ -5,3 +5,5 @@ pub mod Period
 pub mod Range
 pub mod First
 pub mod Verdict
+pub mod Sets
+pub mod Alone
