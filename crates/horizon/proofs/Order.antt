@@ -131,6 +131,14 @@ module _ {ℓ} {A : Type ℓ} where
   rising-map R S f [] h = tt
   rising-map R S f (x ∷ xs) h = (all-map (R x) (S x) (f x) xs (h .0), rising-map R S f xs (h .1))
 
+  -- the same where all of xs have P
+  pub rising-within :
+    (P : A → Type 0) (R S : A → A → Type 0) → ((x y : A) → P x → P y → R x y → S x y)
+    → (xs : List A) → All P xs → Rising R xs → Rising S xs
+  rising-within P R S f [] all h = tt
+  rising-within P R S f (x ∷ xs) all h =
+      (all-both P (R x) (S x) (λ y b r. f x y (all .0) b r) xs (all .1) (h .0), rising-within P R S f xs (all .1) (h .1))
+
 module _ {ℓ κ} {A : Type ℓ} {B : Type κ} where
   pub rising-mapped : (R : B → B → Type 0) (f : A → B) (xs : List A) → Rising (λ x y. R (f x) (f y)) xs → Rising R (map f xs)
   rising-mapped R f [] h = tt

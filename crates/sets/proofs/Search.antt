@@ -1,0 +1,94 @@
+-- The search's definition means what document 01 says: the set found passes, none that passes has fewer ones, none with as many
+-- is smaller, and "none" is given exactly if no set below 2^n passes. It names one answer.
+--     Best p m              m passes, no passing set has fewer ones, and none with as many ones is smaller
+-- Assumes nothing.
+use Prim.Native.Nat.{ℕ, _^_, _≤_, _<_}
+use mathlib.Core.Path.{_≡_, refl, sym, ap, _∙_}
+use mathlib.Core.Logic.{_⊎_, inl, inr, _↔_}
+use mathlib.Core.Bool.{true, false}
+use native.Mathlib.Omega.{arith}
+use native.Mathlib.Nat.{le-antisymm, le-refl}
+use lib.Count.{ones}
+use Rattle.rules.specs.declared.Plan.{Plan}
+use Rattle.rules.specs.declared.Assign.{Assign}
+use Rattle.rules.specs.declared.Assign.the-variants.{Takers, Nobody}
+use Rattle.rules.specs.Demand.{Passes}
+use Rattle.rules.specs.Search.{withSet, setPasses, ordered, firstPassing, searchOf}
+use Rattle.laws.proofs.Lists.{by-bool, true-not-false}
+use Rattle.laws.proofs.Lawful.{LawfulPlan}
+use Rattle.horizon.proofs.Verdict.{pass-exactly}
+use Rattle.horizon.proofs.Sets.{withSet-lawful}
+use Rattle.sets.proofs.First.{Sooner, takers-nobody, nobody-passes, passes-nobody, firstPassing-passes, firstPassing-in, firstPassing-least, all-sets, sets-all, sets-rising}
+
+-- ---- What it is for a set to pass
+
+-- the plan with that set passes the rule
+pub setPasses-exactly : (p : Plan) → LawfulPlan p → (m : ℕ) → (setPasses p m ≡ true) ↔ Passes (withSet p m)
+unfolding setPasses
+setPasses-exactly p ok m = pass-exactly (withSet p m) (withSet-lawful p m ok)
+
+-- ---- What the search finds
+
+module _ (p : Plan) (m : ℕ) (found : searchOf p ≡ Takers m) where
+  pub search-passes : (setPasses p m ≡ true) × (m < 2 ^ p .n)
+  unfolding searchOf
+  search-passes =
+      ( firstPassing-passes p (ordered (p .n)) m found
+      , firstPassing-in p (λ k. k < 2 ^ p .n) (ordered (p .n)) m (all-sets (p .n) (λ k. k < 2 ^ p .n) (λ k below. below)) found)
+
+  -- every other passing set comes later in the search's order
+  pub search-first : (k : ℕ) → k < 2 ^ p .n → setPasses p k ≡ true → (m ≡ k) ⊎ Sooner m k
+  unfolding searchOf
+  search-first =
+      sets-all (p .n) (λ k. setPasses p k ≡ true → (m ≡ k) ⊎ Sooner m k)
+      (firstPassing-least p Sooner (ordered (p .n)) m (sets-rising (p .n)) found)
+
+  pub search-fewest : (k : ℕ) → k < 2 ^ p .n → setPasses p k ≡ true → ones m ≤ ones k
+  search-fewest k below passes = fewest (search-first k below passes)
+    where
+      fewest : (m ≡ k) ⊎ Sooner m k → ones m ≤ ones k
+      fewest (inl same) = rw same (le-refl (ones k))
+      fewest (inr (inl fewer)) = omega arith
+      fewest (inr (inr smaller)) = omega arith
+
+  pub search-smallest : (k : ℕ) → k < 2 ^ p .n → setPasses p k ≡ true → ones k ≡ ones m → m ≤ k
+  search-smallest k below passes as-many = smallest (search-first k below passes)
+    where
+      smallest : (m ≡ k) ⊎ Sooner m k → m ≤ k
+      smallest (inl same) = omega arith
+      smallest (inr (inl fewer)) = omega arith
+      smallest (inr (inr smaller)) = omega arith
+
+-- ---- None
+
+module _ (p : Plan) where
+  pub search-none : searchOf p ≡ Nobody → (k : ℕ) → k < 2 ^ p .n → setPasses p k ≡ false
+  unfolding searchOf
+  search-none h = sets-all (p .n) (λ k. setPasses p k ≡ false) (nobody-passes p (ordered (p .n)) h)
+
+  pub none-search : ((k : ℕ) → k < 2 ^ p .n → setPasses p k ≡ false) → searchOf p ≡ Nobody
+  unfolding searchOf
+  none-search h = passes-nobody p (ordered (p .n)) (all-sets (p .n) (λ k. setPasses p k ≡ false) h)
+
+-- ---- One answer
+
+pub record Best (p : Plan) (m : ℕ) : Type 0 where
+  pub passes : setPasses p m ≡ true
+  pub below : m < 2 ^ p .n
+  pub fewest : (k : ℕ) → k < 2 ^ p .n → setPasses p k ≡ true → ones m ≤ ones k
+  pub smallest : (k : ℕ) → k < 2 ^ p .n → setPasses p k ≡ true → ones k ≡ ones m → m ≤ k
+
+pub search-best : (p : Plan) (m : ℕ) → searchOf p ≡ Takers m → Best p m
+search-best p m found =
+    record
+      { passes = search-passes p m found .0
+      ; below = search-passes p m found .1
+      ; fewest = search-fewest p m found
+      ; smallest = search-smallest p m found
+      }
+
+-- two sets that are best are the same
+pub best-unique : (p : Plan) (m k : ℕ) → Best p m → Best p k → m ≡ k
+best-unique p m k a b =
+    let as-many : ones m ≡ ones k = le-antisymm (a .fewest k (b .below) (b .passes)) (b .fewest m (a .below) (a .passes)) in
+    le-antisymm (a .smallest k (b .below) (b .passes) (sym as-many)) (b .smallest m (a .below) (a .passes) as-many)
