@@ -2,18 +2,18 @@
 -- passes, since E ≥ C and with no blocking every string counts its jobs in all the days.
 --     workOf l s            the work that the jobs of s within l days bring, without moving
 -- Assumes nothing.
-use Prim.Native.Nat.{ℕ, zero, suc, _+_, _-_, _*_, _≤_, _<_, zero-le}
-use mathlib.Core.Path.{_≡_, refl, sym, ap, _∙_}
-use mathlib.Core.Bool.{Bool, true, false}
+use Prim.Native.Nat.{ℕ, _-_, _*_, _≤_, _<_, zero-le}
+use mathlib.Core.Path.{_≡_, refl, ap, _∙_}
+use mathlib.Core.Bool.{true, false}
 use mathlib.Core.List.{List, [], _∷_}
 use native.Mathlib.Omega.{arith}
 use native.Mathlib.Decide.{ℕ-discrete}
-use native.Mathlib.Nat.{le-refl, mul-le-mul-left}
+use native.Mathlib.Nat.{mul-le-mul-left}
 use Rattle.rules.specs.declared.BatteryString.{BatteryString}
 use Rattle.rules.specs.declared.Plan.{Plan}
 use Rattle.rules.specs.Count.{sumOf}
 use Rattle.rules.specs.Plan.{stringsOf, multipleOf}
-use Rattle.rules.specs.Demand.{holdOf, jobs, blockLimit, need, demand, overloaded}
+use Rattle.rules.specs.Demand.{holdOf, jobs, need, demand, overloaded}
 use Rattle.rules.specs.Search.{permit, withSet, setPasses}
 use Rattle.laws.proofs.Lists.{All, all-map, sumOf-le, sumOf-eq, by-bool}
 use Rattle.laws.proofs.Lawful.{LawfulPlan}
@@ -35,11 +35,11 @@ pub need-work : (p : Plan) (l : ℕ) (s : BatteryString) → workOf l s ≤ need
 unfolding workOf
 need-work p l s =
     let all-days : l - 0 ≡ l = omega arith in
-    elim (ℕ-discrete (s .x) 1)
-    [ yes e ↦
-        let asked : need p l 0 s ≡ jobs s l * holdOf p s = need-taker p l 0 s e ∙ ap (λ w. jobs s w * holdOf p s) all-days in
-        omega (arith, mul-le-mul-left (jobs s l) (holdOf-work p s))
-    | no e ↦ omega (arith, need-keeper p l 0 s e)
+    elim (ℕ-discrete (s .x) 1) [
+      | yes e ↦
+          let asked : need p l 0 s ≡ jobs s l * holdOf p s = need-taker p l 0 s e ∙ ap (λ w. jobs s w * holdOf p s) all-days in
+          omega (arith, mul-le-mul-left (jobs s l) (holdOf-work p s))
+      | no e ↦ omega (arith, need-keeper p l 0 s e)
     ]
 
 pub demand-work : (p : Plan) (l : ℕ) → sumOf (workOf l) (stringsOf p) ≤ demand p l 0
@@ -57,17 +57,18 @@ pub demand-alone : (p : Plan) (l : ℕ) → demand (withSet p 0) l 0 ≡ sumOf (
 unfolding demand workOf
 demand-alone p l =
     let kept : All (λ s. s .x ≡ 0) (stringsOf (withSet p 0)) = rw withSet-strings (permit-none (stringsOf p)) in
-    omega
-    ( arith
-    , sumOf-eq (need (withSet p 0) l 0) (workOf l) (stringsOf (withSet p 0))
-      (all-map (λ s. s .x ≡ 0) (λ s. need (withSet p 0) l 0 s ≡ workOf l s) (λ s e. need-keeper (withSet p 0) l 0 s (λ f. omega arith))
-      (stringsOf (withSet p 0)) kept))
+    omega (
+      arith,
+      sumOf-eq (need (withSet p 0) l 0) (workOf l) (stringsOf (withSet p 0))
+          (all-map (λ s. s .x ≡ 0) (λ s. need (withSet p 0) l 0 s ≡ workOf l s) (λ s e. need-keeper (withSet p 0) l 0 s (λ f. omega arith))
+          (stringsOf (withSet p 0)) kept),
+    )
 
 -- no set asks for less
 pub withSet-work : (p : Plan) (m l : ℕ) → demand (withSet p 0) l 0 ≤ demand (withSet p m) l 0
 withSet-work p m l =
     let same : (k : ℕ) → sumOf (workOf l) (stringsOf (withSet p k)) ≡ sumOf (workOf l) (stringsOf p) =
-          λ k. ap (sumOf (workOf l)) (withSet-strings p k) ∙ permit-sumOf (workOf l) (workOf-blind l) k (stringsOf p) in
+    λ k. ap (sumOf (workOf l)) (withSet-strings p k) ∙ permit-sumOf (workOf l) (workOf-blind l) k (stringsOf p) in
     omega (arith, demand-alone p l, demand-work (withSet p m) l, same 0, same m)
 
 module _ (p : Plan) (ok : LawfulPlan p) where

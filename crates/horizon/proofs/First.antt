@@ -1,12 +1,13 @@
 -- The first broken pair of a list, and what the pairs of a plan are: those within the limits, in order of l, then b.
+--     Within p q            q has an interval from 1 to Dmax + H − 1 and a blocking up to its limit
 --     Before q r            the pair q comes before r: a smaller interval, or the same and a smaller blocking
 -- Assumes nothing.
-use Prim.Native.Nat.{ℕ, zero, suc, _+_, _-_, _≤_, _<_, zero-le}
-use mathlib.Core.Path.{_≡_, refl, sym, ap, _∙_}
+use Prim.Native.Nat.{ℕ, suc, _+_, _-_, _≤_, _<_, zero-le}
+use mathlib.Core.Path.{_≡_, refl, sym, _∙_}
 use mathlib.Core.Logic.{_⊎_, inl, inr}
-use mathlib.Core.Bool.{Bool, true, false, cond}
+use mathlib.Core.Bool.{true, false}
 use mathlib.Core.List.{List, [], _∷_}
-use mathlib.Core.Option.{Option, none, some}
+use mathlib.Core.Option.{none, some}
 use native.Mathlib.Omega.{arith}
 use Rattle.rules.specs.declared.Plan.{Plan}
 use Rattle.rules.specs.Count.{upFrom}
@@ -14,7 +15,8 @@ use Rattle.rules.specs.Plan.{multipleOf, dMax}
 use Rattle.rules.specs.Demand.{blockLimit}
 use Rattle.rules.specs.Verdict.{Pair, pairsAt, allPairs, broken, firstBroken, compared}
 use Rattle.laws.proofs.Lists.{All, all-map, by-bool, true-not-false}
-use Rattle.horizon.proofs.Order.{Rising, all-of, all-mapped, mapped-all, all-flat, flat-all, all-upFrom, upFrom-all, rising-map, rising-mapped, rising-flat, rising-upFrom}
+use Rattle.horizon.proofs.Order.{Rising, all-mapped, mapped-all, all-flat, flat-all}
+use Rattle.horizon.proofs.Order.{all-upFrom, upFrom-all, rising-map, rising-mapped, rising-flat, rising-upFrom}
 use Rattle.horizon.proofs.Pairs.{pair}
 
 -- ---- The first broken pair
@@ -77,8 +79,8 @@ module _ (p : Plan) where
 
   -- in a rising list no broken pair comes before it
   pub firstBroken-least :
-    (R : Pair → Pair → Type 0) (qs : List Pair) (q : Pair) → Rising R qs → firstBroken p qs ≡ some q
-    → All (λ r. broken p r ≡ true → (q ≡ r) ⊎ R q r) qs
+      (R : Pair → Pair → Type 0) (qs : List Pair) (q : Pair) → Rising R qs → firstBroken p qs ≡ some q
+      → All (λ r. broken p r ≡ true → (q ≡ r) ⊎ R q r) qs
   unfolding firstBroken
   firstBroken-least R [] q rise h = tt
   firstBroken-least R (r ∷ qs) q rise h =
@@ -86,11 +88,15 @@ module _ (p : Plan) where
       (λ t.
       let same : r ≡ q = cc (firstBroken-here r qs t) in
       ((λ u. inl (sym same)), all-map (R r) (λ s. broken p s ≡ true → (q ≡ s) ⊎ R q s) (λ s after u. inr (rw same at after)) qs (rise .0)))
-      (λ e.
-      ( (λ u. absurd (true-not-false (sym u ∙ e)))
-      , firstBroken-least R qs q (rise .1) (sym (firstBroken-later r qs e) ∙ h)))
+      (λ e. (
+        (λ u. absurd (true-not-false (sym u ∙ e))),
+        firstBroken-least R qs q (rise .1) (sym (firstBroken-later r qs e) ∙ h),
+      ))
 
 -- ---- The pairs of a plan
+
+abbrev pub Within : Plan → Pair → Type 0
+Within p q = (1 ≤ q .l) × (q .l ≤ dMax p + multipleOf p - 1) × (q .b ≤ blockLimit p (q .l))
 
 abbrev pub Before : Pair → Pair → Type 0
 Before q r = (q .l < r .l) ⊎ ((q .l ≡ r .l) × (q .b < r .b))
@@ -110,9 +116,9 @@ module _ (p : Plan) where
 
   -- the pairs are those with l from 1 to Dmax + H − 1 and b up to the blocking limit
   pub all-pairs :
-    (P : Pair → Type 0)
-    → ((l b : ℕ) → 1 ≤ l → l ≤ dMax p + multipleOf p - 1 → b ≤ blockLimit p l → P (pair l b))
-    → All P (allPairs p)
+      (P : Pair → Type 0)
+      → ((l b : ℕ) → 1 ≤ l → l ≤ dMax p + multipleOf p - 1 → b ≤ blockLimit p l → P (pair l b))
+      → All P (allPairs p)
   unfolding allPairs
   all-pairs P f =
       all-flat P (pairsAt p) (upFrom 1 (dMax p + multipleOf p - 1))
@@ -120,8 +126,8 @@ module _ (p : Plan) where
       all-row P l (λ b m. f l b low (omega arith) m)))
 
   pub pairs-all :
-    (P : Pair → Type 0) → All P (allPairs p)
-    → (l b : ℕ) → 1 ≤ l → l ≤ dMax p + multipleOf p - 1 → b ≤ blockLimit p l → P (pair l b)
+      (P : Pair → Type 0) → All P (allPairs p)
+      → (l b : ℕ) → 1 ≤ l → l ≤ dMax p + multipleOf p - 1 → b ≤ blockLimit p l → P (pair l b)
   unfolding allPairs
   pairs-all P h l b low high m =
       row-all P l
@@ -141,6 +147,7 @@ module _ (p : Plan) where
           rising-mapped Before (pair l) (upFrom 0 (suc (blockLimit p l)))
           (rising-map _<_ (λ b c. Before (pair l b) (pair l c)) (λ b c h. inr (refl, h)) (upFrom 0 (suc (blockLimit p l)))
           (rising-upFrom 0 (suc (blockLimit p l))))
+
       next : (l m : ℕ) → l < m → All (λ q. All (Before q) (pairsAt p m)) (pairsAt p l)
       next l m h =
           all-row (λ q. All (Before q) (pairsAt p m)) l (λ b limit.

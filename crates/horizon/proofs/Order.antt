@@ -2,8 +2,8 @@
 --     Rising R xs           each of xs is R-before every later one
 -- A search for the first of a rising list that passes a test finds the least that passes. Assumes nothing.
 use Prim.Native.Nat.{ℕ, zero, suc, _+_, _≤_, _<_}
-use mathlib.Core.Path.{_≡_, refl, sym, ap, _∙_}
-use mathlib.Core.Bool.{Bool, true, false, cond}
+use mathlib.Core.Path.{_≡_, refl, sym, _∙_}
+use mathlib.Core.Bool.{Bool, true, false}
 use mathlib.Core.List.{List, [], _∷_, _++_, map, flatMap}
 use native.Mathlib.Omega.{arith}
 use native.Mathlib.Decide.{ℕ-discrete}
@@ -115,7 +115,7 @@ module _ {ℓ} {A : Type ℓ} where
   Rising R (x ∷ xs) = All (R x) xs × Rising R xs
 
   pub rising-append :
-    (R : A → A → Type 0) (xs ys : List A) → Rising R xs → Rising R ys → All (λ x. All (R x) ys) xs → Rising R (xs ++ ys)
+      (R : A → A → Type 0) (xs ys : List A) → Rising R xs → Rising R ys → All (λ x. All (R x) ys) xs → Rising R (xs ++ ys)
   rising-append R [] ys h k c = k
   rising-append R (x ∷ xs) ys h k c = (all-append (R x) xs ys (h .0) (c .0), rising-append R xs ys (h .1) k (c .1))
 
@@ -133,8 +133,8 @@ module _ {ℓ} {A : Type ℓ} where
 
   -- the same where all of xs have P
   pub rising-within :
-    (P : A → Type 0) (R S : A → A → Type 0) → ((x y : A) → P x → P y → R x y → S x y)
-    → (xs : List A) → All P xs → Rising R xs → Rising S xs
+      (P : A → Type 0) (R S : A → A → Type 0) → ((x y : A) → P x → P y → R x y → S x y)
+      → (xs : List A) → All P xs → Rising R xs → Rising S xs
   rising-within P R S f [] all h = tt
   rising-within P R S f (x ∷ xs) all h =
       (all-both P (R x) (S x) (λ y b r. f x y (all .0) b r) xs (all .1) (h .0), rising-within P R S f xs (all .1) (h .1))
@@ -146,10 +146,10 @@ module _ {ℓ κ} {A : Type ℓ} {B : Type κ} where
 
   -- rows that rise, each before all later ones, make a list that rises
   pub rising-flat :
-    (S : A → A → Type 0) (R : B → B → Type 0) (f : A → List B)
-    → ((x : A) → Rising R (f x))
-    → ((x y : A) → S x y → All (λ a. All (R a) (f y)) (f x))
-    → (xs : List A) → Rising S xs → Rising R (flatMap f xs)
+      (S : A → A → Type 0) (R : B → B → Type 0) (f : A → List B)
+      → ((x : A) → Rising R (f x))
+      → ((x y : A) → S x y → All (λ a. All (R a) (f y)) (f x))
+      → (xs : List A) → Rising S xs → Rising R (flatMap f xs)
   unfolding flatMap
   rising-flat S R f row next [] h = tt
   rising-flat S R f row next (x ∷ xs) h =

@@ -4,11 +4,10 @@
 --     rows p l m            the pairs of the m intervals from l on
 --     scanFrom p k qs       the verdict where the pairs qs are left and k were compared before them
 -- A walk over intervals below an end cites scan-row, scan-good, scan-bad, scan-row-end and scan-end. Assumes nothing.
-use Prim.Native.Nat.{ℕ, zero, suc, _+_, _-_, _≤_, _<_}
-use mathlib.Core.Path.{_≡_, refl, sym, ap, _∙_}
-use mathlib.Core.Bool.{Bool, true, false, cond}
+use Prim.Native.Nat.{ℕ, suc, _+_, _-_, _≤_, _<_}
+use mathlib.Core.Path.{_≡_, refl, ap, _∙_}
+use mathlib.Core.Bool.{true, false}
 use mathlib.Core.List.{List, [], _∷_, _++_, map, flatMap}
-use mathlib.Core.Option.{Option, none, some}
 use native.Mathlib.Omega.{arith}
 use native.Mathlib.Numerals.{add-one}
 use native.Mathlib.Nat.{add-zero}
@@ -76,9 +75,9 @@ scanFrom-good p k q qs e =
     rw (e, one-on)
 
 pub scanFrom-bad :
-  (p : Plan) (k : ℕ) (q : Pair) (qs : List Pair)
-  → broken p q ≡ true
-  → scanFrom p k (q ∷ qs) ≡ Fail (days (q .l)) (days (q .b)) (days (demand p (q .l) (q .b))) (k + 1)
+    (p : Plan) (k : ℕ) (q : Pair) (qs : List Pair)
+    → broken p q ≡ true
+    → scanFrom p k (q ∷ qs) ≡ Fail (days (q .l)) (days (q .b)) (days (demand p (q .l) (q .b))) (k + 1)
 unfolding scanFrom firstBroken compared judged
 scanFrom-bad p k q qs t = rw t
 
@@ -119,21 +118,21 @@ rowFrom-end p l b h =
 module _ (p : Plan) (k l b : ℕ) where
   -- into a row
   pub scan-row :
-    (end : ℕ) → l < end → scanFrom p k (rows p l (end - l)) ≡ scanFrom p k (rowFrom p l 0 ++ rows p (l + 1) (end - (l + 1)))
+      (end : ℕ) → l < end → scanFrom p k (rows p l (end - l)) ≡ scanFrom p k (rowFrom p l 0 ++ rows p (l + 1) (end - (l + 1)))
   scan-row end h =
       let left : end - l ≡ suc (end - suc l) = omega arith in
       rw (add-one, left, rows-step p l (end - suc l), rowFrom-all p l)
 
   pub scan-good :
-    (qs : List Pair) → b ≤ blockLimit p l → demand p l b ≤ l
-    → scanFrom p k (rowFrom p l b ++ qs) ≡ scanFrom p (k + 1) (rowFrom p l (b + 1) ++ qs)
+      (qs : List Pair) → b ≤ blockLimit p l → demand p l b ≤ l
+      → scanFrom p k (rowFrom p l b ++ qs) ≡ scanFrom p (k + 1) (rowFrom p l (b + 1) ++ qs)
   scan-good qs h good =
       ap (λ row. scanFrom p k (row ++ qs)) (rowFrom-step p l b h)
       ∙ scanFrom-good p k (pair l b) (rowFrom p l (b + 1) ++ qs) (broken-no p (pair l b) good)
 
   pub scan-bad :
-    (qs : List Pair) → b ≤ blockLimit p l → l < demand p l b
-    → scanFrom p k (rowFrom p l b ++ qs) ≡ Fail (days l) (days b) (days (demand p l b)) (k + 1)
+      (qs : List Pair) → b ≤ blockLimit p l → l < demand p l b
+      → scanFrom p k (rowFrom p l b ++ qs) ≡ Fail (days l) (days b) (days (demand p l b)) (k + 1)
   scan-bad qs h bad =
       ap (λ row. scanFrom p k (row ++ qs)) (rowFrom-step p l b h)
       ∙ scanFrom-bad p k (pair l b) (rowFrom p l (b + 1) ++ qs) (broken-yes p (pair l b) bad)

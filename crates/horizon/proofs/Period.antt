@@ -1,20 +1,19 @@
 -- What one period H adds to the demand. D ≤ T and T divides H, so a string has H / T jobs in H days exactly, and H more days
 -- add at most that many to any count; summed over the strings, H more days add at most the load.
 -- Assumes nothing.
-use Prim.Native.Nat.{ℕ, zero, suc, _+_, _-_, _*_, _/_, _%_, _≤_, _<_, min}
-use mathlib.Core.Path.{_≡_, refl, sym, ap, _∙_}
-use mathlib.Core.Bool.{Bool, true, false, cond, _&&_}
-use mathlib.Core.List.{List, [], _∷_}
+use Prim.Native.Nat.{ℕ, zero, suc, _+_, _-_, _*_, _/_, _%_, _≤_, _<_}
+use mathlib.Core.Path.{_≡_, sym, ap, _∙_}
+use mathlib.Core.Bool.{_&&_}
 use native.Mathlib.Omega.{arith}
 use native.Mathlib.Decide.{decLe, ℕ-discrete}
-use native.Mathlib.Nat.{div-add-mod', div-lt-iff-lt-mul, add-mul, zero-mul, mul-zero, mul-comm, mul-le-mul-right, mul-le-mul-left, le-refl}
+use native.Mathlib.Nat.{div-add-mod', div-lt-iff-lt-mul, add-mul, zero-mul, mul-zero, mul-comm, mul-le-mul-right}
 use borrow.Author.Tests.{le-ltb, eq-eqb, ne-eqb}
-use lib.Dec.{leb, ltb, eqb}
+use lib.Dec.{leb, ltb}
 use Rattle.rules.specs.declared.BatteryString.{BatteryString}
 use Rattle.rules.specs.declared.Plan.{Plan}
 use Rattle.rules.specs.Count.{sumOf, largest}
 use Rattle.rules.specs.Plan.{stringsOf, multipleOf, dMin, dMax}
-use Rattle.rules.specs.Demand.{movingCost, holdOf, jobs, blockLimit, need, demand, load}
+use Rattle.rules.specs.Demand.{movingCost, holdOf, jobs, blockerHold, blockLimit, need, demand, load}
 use Rattle.laws.proofs.Lists.{All, all-map, sumOf-le, sumOf-eq, sumOf-add, largest-le, by-bool}
 use Rattle.laws.proofs.Jobs.{jobs-short, jobs-from, jobs-zero, jobs-window, jobs-period}
 use Rattle.laws.proofs.Lawful.{LawfulString, LawfulPlan}
@@ -36,16 +35,16 @@ t-le-period s h pos whole = go (h / s .t .0) (period-parts s h whole)
 -- H more days add at most H / T jobs, also where none fitted before
 pub jobs-period-le : (s : BatteryString) (h w : ℕ) → LawfulString s → h % s .t .0 ≡ 0 → jobs s (w + h) ≤ jobs s w + h / s .t .0
 jobs-period-le s h w ok whole =
-    elim (decLe (s .d .0) w)
-    [ yes long ↦ omega (arith, jobs-period s h w (ok .tPos) whole long)
-    | no short ↦
-        elim (decLe (s .d .0) (w + h))
-        [ yes fits ↦
-            let under : w + h - s .d .0 < h / s .t .0 * s .t .0 = omega (arith, period-parts s h whole) in
-            let few : (w + h - s .d .0) / s .t .0 < h / s .t .0 = div-lt-iff-lt-mul (ok .tPos) .1 under in
-            omega (arith, jobs-from s (w + h) fits)
-        | no shorter ↦ omega (arith, jobs-short s (w + h) (omega arith))
-        ]
+    elim (decLe (s .d .0) w) [
+      | yes long ↦ omega (arith, jobs-period s h w (ok .tPos) whole long)
+      | no short ↦
+          elim (decLe (s .d .0) (w + h)) [
+            | yes fits ↦
+                let under : w + h - s .d .0 < h / s .t .0 * s .t .0 = omega (arith, period-parts s h whole) in
+                let few : (w + h - s .d .0) / s .t .0 < h / s .t .0 = div-lt-iff-lt-mul (ok .tPos) .1 under in
+                omega (arith, jobs-from s (w + h) fits)
+            | no shorter ↦ omega (arith, jobs-short s (w + h) (omega arith))
+          ]
     ]
 
 pub jobs-in-period : (s : BatteryString) (h : ℕ) → LawfulString s → 1 ≤ h → h % s .t .0 ≡ 0 → jobs s h ≡ h / s .t .0
@@ -53,10 +52,12 @@ jobs-in-period s h ok pos whole = go (h / s .t .0) (period-parts s h whole) most
   where
     from-none : jobs s (0 + h) ≤ jobs s 0 + h / s .t .0
     from-none = jobs-period-le s h 0 ok whole
+
     most : jobs s h ≤ h / s .t .0
     most =
         let start : 0 + h ≡ h = omega arith in
         omega (arith, rw start at from-none, jobs-zero s (ok .dPos))
+
     go : (k : ℕ) → k * s .t .0 ≡ h → jobs s h ≤ k → jobs s h ≡ k
     go zero e m = omega arith
     go (suc k) e m =
@@ -86,11 +87,11 @@ need-keeper p l b s e = rw (ne-eqb (s .x) 1 e)
 pub need-unblocked : (p : Plan) (l : ℕ) (s : BatteryString) → s .x ≤ 1 → need p l 0 s ≡ jobs s l * holdOf p s
 need-unblocked p l s h =
     let all-days : l - 0 ≡ l = omega arith in
-    elim (ℕ-discrete (s .x) 1)
-    [ yes e ↦ need-taker p l 0 s e ∙ ap (λ w. jobs s w * holdOf p s) all-days
-    | no e ↦
-        let kept : s .x ≡ 0 = omega arith in
-        need-keeper p l 0 s e ∙ ap (λ c. jobs s l * c) (sym (holdOf-kept p s kept))
+    elim (ℕ-discrete (s .x) 1) [
+      | yes e ↦ need-taker p l 0 s e ∙ ap (λ w. jobs s w * holdOf p s) all-days
+      | no e ↦
+          let kept : s .x ≡ 0 = omega arith in
+          need-keeper p l 0 s e ∙ ap (λ c. jobs s l * c) (sym (holdOf-kept p s kept))
     ]
 
 -- ---- The plan over H days
@@ -98,8 +99,8 @@ need-unblocked p l s h =
 module _ (p : Plan) (ok : LawfulPlan p) where
   -- what holds of each string by its bounds and by H holds of all
   each-whole :
-    (P : BatteryString → Type 0) → ((s : BatteryString) → LawfulString s → multipleOf p % s .t .0 ≡ 0 → P s)
-    → All P (stringsOf p)
+      (P : BatteryString → Type 0) → ((s : BatteryString) → LawfulString s → multipleOf p % s .t .0 ≡ 0 → P s)
+      → All P (stringsOf p)
   each-whole P f = all-both LawfulString (λ s. multipleOf p % s .t .0 ≡ 0) P f (stringsOf p) (ok .each) (ok .hWhole)
 
   -- no job fits no day
@@ -107,10 +108,10 @@ module _ (p : Plan) (ok : LawfulPlan p) where
   unfolding demand
   demand-none =
       let nothing : sumOf (need p 0 0) (stringsOf p) ≡ 0 =
-            sumOf-zero (need p 0 0) (stringsOf p)
-            (all-map LawfulString (λ s. need p 0 0 s ≡ 0) (λ s lawful.
-            need-unblocked p 0 s (lawful .xMax) ∙ ap (λ k. k * holdOf p s) (jobs-zero s (lawful .dPos)) ∙ zero-mul (holdOf p s))
-            (stringsOf p) (ok .each)) in
+      sumOf-zero (need p 0 0) (stringsOf p)
+      (all-map LawfulString (λ s. need p 0 0 s ≡ 0) (λ s lawful.
+      need-unblocked p 0 s (lawful .xMax) ∙ ap (λ k. k * holdOf p s) (jobs-zero s (lawful .dPos)) ∙ zero-mul (holdOf p s))
+      (stringsOf p) (ok .each)) in
       omega arith
 
   -- within H days every string asks for its share of the load
@@ -118,11 +119,11 @@ module _ (p : Plan) (ok : LawfulPlan p) where
   unfolding demand load
   demand-period =
       let shares : sumOf (need p (multipleOf p) 0) (stringsOf p) ≡ sumOf (λ s. holdOf p s * (multipleOf p / s .t .0)) (stringsOf p) =
-            sumOf-eq (need p (multipleOf p) 0) (λ s. holdOf p s * (multipleOf p / s .t .0)) (stringsOf p)
-            (each-whole (λ s. need p (multipleOf p) 0 s ≡ holdOf p s * (multipleOf p / s .t .0)) (λ s lawful whole.
-            need-unblocked p (multipleOf p) s (lawful .xMax)
-            ∙ ap (λ k. k * holdOf p s) (jobs-in-period s (multipleOf p) lawful (ok .hPos) whole)
-            ∙ mul-comm (multipleOf p / s .t .0) (holdOf p s))) in
+      sumOf-eq (need p (multipleOf p) 0) (λ s. holdOf p s * (multipleOf p / s .t .0)) (stringsOf p)
+      (each-whole (λ s. need p (multipleOf p) 0 s ≡ holdOf p s * (multipleOf p / s .t .0)) (λ s lawful whole.
+      need-unblocked p (multipleOf p) s (lawful .xMax)
+      ∙ ap (λ k. k * holdOf p s) (jobs-in-period s (multipleOf p) lawful (ok .hPos) whole)
+      ∙ mul-comm (multipleOf p / s .t .0) (holdOf p s))) in
       omega arith
 
   -- H more days add at most the load
@@ -131,21 +132,22 @@ module _ (p : Plan) (ok : LawfulPlan p) where
   demand-later l =
       let share : BatteryString → ℕ = λ s. holdOf p s * (multipleOf p / s .t .0) in
       let more : sumOf (need p (l + multipleOf p) 0) (stringsOf p) ≤ sumOf (λ s. need p l 0 s + share s) (stringsOf p) =
-            sumOf-le (need p (l + multipleOf p) 0) (λ s. need p l 0 s + share s) (stringsOf p)
-            (each-whole (λ s. need p (l + multipleOf p) 0 s ≤ need p l 0 s + share s) grows) in
+      sumOf-le (need p (l + multipleOf p) 0) (λ s. need p l 0 s + share s) (stringsOf p)
+      (each-whole (λ s. need p (l + multipleOf p) 0 s ≤ need p l 0 s + share s) grows) in
       omega (arith, sumOf-add (need p l 0) share (stringsOf p))
     where
       grows :
-        (s : BatteryString) → LawfulString s → multipleOf p % s .t .0 ≡ 0
-        → need p (l + multipleOf p) 0 s ≤ need p l 0 s + holdOf p s * (multipleOf p / s .t .0)
+          (s : BatteryString) → LawfulString s → multipleOf p % s .t .0 ≡ 0
+          → need p (l + multipleOf p) 0 s ≤ need p l 0 s + holdOf p s * (multipleOf p / s .t .0)
       grows s lawful whole =
           let then-jobs = mul-le-mul-right (holdOf p s) (jobs-period-le s (multipleOf p) l lawful whole) in
-          omega
-          ( arith
-          , need-unblocked p (l + multipleOf p) s (lawful .xMax)
-          , need-unblocked p l s (lawful .xMax)
-          , add-mul (jobs s l) (multipleOf p / s .t .0) (holdOf p s)
-          , mul-comm (multipleOf p / s .t .0) (holdOf p s))
+          omega (
+            arith,
+            need-unblocked p (l + multipleOf p) s (lawful .xMax),
+            need-unblocked p l s (lawful .xMax),
+            add-mul (jobs s l) (multipleOf p / s .t .0) (holdOf p s),
+            mul-comm (multipleOf p / s .t .0) (holdOf p s),
+          )
 
   -- H is at least the largest D
   pub dMax-le-period : dMax p ≤ multipleOf p
@@ -164,3 +166,19 @@ unfolding blockLimit
 blockLimit-late p l h =
     let late = le-ltb l (dMax p) h in
     by-bool (leb (dMin p) l) (λ t. rw (t, late)) (λ e. rw e)
+
+-- it is never above the interval
+pub blockLimit-interval : (p : Plan) (l : ℕ) → blockLimit p l ≤ l
+unfolding blockLimit
+blockLimit-interval p l = by-bool (leb (dMin p) l && ltb l (dMax p)) (λ t. rw t (omega arith)) (λ e. rw e (omega arith))
+
+-- nor above a bound on every E
+pub blockLimit-hold : (p : Plan) (l m : ℕ) → All (λ s. holdOf p s ≤ m) (stringsOf p) → blockLimit p l ≤ m
+unfolding blockLimit
+blockLimit-hold p l m h =
+    let most : largest (blockerHold p l) (stringsOf p) ≤ m =
+    largest-le (blockerHold p l) m (stringsOf p) (all-map (λ s. holdOf p s ≤ m) (λ s. blockerHold p l s ≤ m) one (stringsOf p) h) in
+    by-bool (leb (dMin p) l && ltb l (dMax p)) (λ t. rw t (omega arith)) (λ e. rw e (omega arith))
+  where
+    one : (s : BatteryString) → holdOf p s ≤ m → blockerHold p l s ≤ m
+    one s k = unfold blockerHold in by-bool (ltb l (s .d .0)) (λ t. rw t k) (λ e. rw e (omega arith))

@@ -2,7 +2,7 @@
 -- every interval if it keeps it up to Dmax + H − 1, since H more days bring at most H more days of demand.
 -- Assumes nothing.
 use Prim.Native.Nat.{ℕ, zero, suc, _+_, _-_, _≤_, _<_, zero-le}
-use mathlib.Core.Path.{_≡_, refl, sym, ap, _∙_}
+use mathlib.Core.Path.{_≡_}
 use mathlib.Core.Bool.{true, false}
 use native.Mathlib.Omega.{arith}
 use native.Mathlib.Decide.{decLe}
@@ -41,29 +41,26 @@ module _ (p : Plan) (ok : LawfulPlan p) where
 
   -- beyond that range nothing blocks, and the rule at l follows from the rule H days earlier
   beyond :
-    load p ≤ multipleOf p
-    → ((l b : ℕ) → 1 ≤ l → l ≤ dMax p + multipleOf p - 1 → b ≤ blockLimit p l → demand p l b ≤ l)
-    → (most l b : ℕ) → l ≤ most → 1 ≤ l → b ≤ blockLimit p l → demand p l b ≤ l
+      load p ≤ multipleOf p
+      → ((l b : ℕ) → 1 ≤ l → l ≤ dMax p + multipleOf p - 1 → b ≤ blockLimit p l → demand p l b ≤ l)
+      → (most l b : ℕ) → l ≤ most → 1 ≤ l → b ≤ blockLimit p l → demand p l b ≤ l
   beyond light near zero l b m pos h = absurd (omega arith)
   beyond light near (suc most) l b m pos h =
       let hPos = ok .hPos in
-      let earlier = beyond light near most (l - multipleOf p) 0 (omega arith) in
-      elim (decLe l (dMax p + multipleOf p - 1))
-      [ yes inside ↦ near l b pos inside h
-      | no outside ↦ far (omega arith) earlier
+      let earlier : demand p (l - multipleOf p) 0 ≤ l - multipleOf p =
+            start (l - multipleOf p) (λ from-one. beyond light near most (l - multipleOf p) 0 (omega arith) from-one zero-le) in
+      elim (decLe l (dMax p + multipleOf p - 1)) [
+        | yes inside ↦ near l b pos inside h
+        | no outside ↦
+            let unblocked : b ≡ 0 = omega (arith, blockLimit-late p l (omega arith)) in
+            let back : l - multipleOf p + multipleOf p ≡ l = omega arith in
+            let later : demand p l 0 ≤ demand p (l - multipleOf p) 0 + load p = rw back at (demand-later p ok (l - multipleOf p)) in
+            rw unblocked (omega arith)
       ]
-    where
-      far : dMax p + multipleOf p ≤ l → (1 ≤ l - multipleOf p → 0 ≤ blockLimit p (l - multipleOf p) → demand p (l - multipleOf p) 0 ≤ l - multipleOf p) → demand p l b ≤ l
-      far out earlier =
-          let unblocked : b ≡ 0 = omega (arith, blockLimit-late p l (omega arith)) in
-          let back : l - multipleOf p + multipleOf p ≡ l = omega arith in
-          let later : demand p l 0 ≤ demand p (l - multipleOf p) 0 + load p = rw back at (demand-later p ok (l - multipleOf p)) in
-          let before : demand p (l - multipleOf p) 0 ≤ l - multipleOf p = start (l - multipleOf p) (λ pos. earlier pos zero-le) in
-          rw unblocked (omega arith)
 
   -- a plan that is not overloaded passes if the rule holds for l from 1 to Dmax + H − 1
   pub range-suffices :
-    overloaded p ≡ false
-    → ((l b : ℕ) → 1 ≤ l → l ≤ dMax p + multipleOf p - 1 → b ≤ blockLimit p l → demand p l b ≤ l)
-    → Passes p
+      overloaded p ≡ false
+      → ((l b : ℕ) → 1 ≤ l → l ≤ dMax p + multipleOf p - 1 → b ≤ blockLimit p l → demand p l b ≤ l)
+      → Passes p
   range-suffices e near l b pos h = beyond (overloaded-not p e) near l l b (le-refl l) pos h

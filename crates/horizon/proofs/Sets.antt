@@ -32,8 +32,8 @@ permit-take (suc n) m [] = refl
 permit-take (suc n) m (s ∷ ss) = ap (λ rest. permitted s (m % 2) ∷ rest) (permit-take n (m / 2) ss)
 
 pub permit-all :
-  (P Q : BatteryString → Type 0) → ((s : BatteryString) (x : ℕ) → x ≤ 1 → P s → Q (permitted s x))
-  → (m : ℕ) (ss : List BatteryString) → All P ss → All Q (permit m ss)
+    (P Q : BatteryString → Type 0) → ((s : BatteryString) (x : ℕ) → x ≤ 1 → P s → Q (permitted s x))
+    → (m : ℕ) (ss : List BatteryString) → All P ss → All Q (permit m ss)
 unfolding permit
 permit-all P Q f m [] h = tt
 permit-all P Q f m (s ∷ ss) h = (f s (m % 2) (permission-le m) (h .0), permit-all P Q f (m / 2) ss (h .1))
@@ -61,8 +61,8 @@ module _ (f : BatteryString → ℕ) (blind : (s : BatteryString) (x : ℕ) → 
   permit-smallest m (s ∷ ss) = rw (blind s (m % 2), permit-smallestWith (f s) (m / 2) ss)
 
 pub permit-every :
-  (f : BatteryString → Bool) → ((s : BatteryString) (x : ℕ) → f (permitted s x) ≡ f s)
-  → (m : ℕ) (ss : List BatteryString) → every f (permit m ss) ≡ every f ss
+    (f : BatteryString → Bool) → ((s : BatteryString) (x : ℕ) → f (permitted s x) ≡ f s)
+    → (m : ℕ) (ss : List BatteryString) → every f (permit m ss) ≡ every f ss
 unfolding permit every
 permit-every f blind m [] = refl
 permit-every f blind m (s ∷ ss) = rw (blind s (m % 2), permit-every f blind (m / 2) ss)
@@ -86,8 +86,8 @@ module _ (p : Plan) (m : ℕ) where
   unfolding multipleOf commonMultiple
   withSet-multiple =
       let same : commonMultiple (stringsOf (withSet p m)) ≡ commonMultiple (stringsOf p) =
-            ap commonMultiple withSet-strings
-            ∙ fun-ext (λ h. permit-every (λ s. eqb (h % s .t .0) 0) (λ s x. refl) m (stringsOf p)) in
+      ap commonMultiple withSet-strings
+      ∙ fun-ext (λ h. permit-every (λ s. eqb (h % s .t .0) 0) (λ s x. refl) m (stringsOf p)) in
       ap (λ f. leastFrom f 1 100000) same
 
   permitted-lawful : (s : BatteryString) (x : ℕ) → x ≤ 1 → LawfulString s → LawfulString (permitted s x)
@@ -99,15 +99,15 @@ module _ (p : Plan) (m : ℕ) where
   unfolding withSet
   withSet-lawful ok =
       let low : multipleOf (withSet p m) ≤ 100000 = rw withSet-multiple (ok .hMax) in
-      record
-        { nPos = ok .nPos
-        ; nMax = ok .nMax
-        ; aMax = ok .aMax
-        ; runPos = ok .runPos
-        ; runMax = ok .runMax
-        ; each = rw withSet-strings (permit-all LawfulString LawfulString permitted-lawful m (stringsOf p) (ok .each))
-        ; hPos = multipleOf-pos (withSet p m)
-        ; hMax = low
-        ; hWhole = commonMultiple-whole (stringsOf (withSet p m)) (multipleOf (withSet p m)) (multipleOf-common (withSet p m) low)
-        ; hLeast = multipleOf-least (withSet p m)
-        }
+      record {
+        nPos = ok .nPos;
+        nMax = ok .nMax;
+        aMax = ok .aMax;
+        runPos = ok .runPos;
+        runMax = ok .runMax;
+        each = rw withSet-strings (permit-all LawfulString LawfulString permitted-lawful m (stringsOf p) (ok .each));
+        hPos = multipleOf-pos (withSet p m);
+        hMax = low;
+        hWhole = commonMultiple-whole (stringsOf (withSet p m)) (multipleOf (withSet p m)) (multipleOf-common (withSet p m) low);
+        hLeast = multipleOf-least (withSet p m);
+      }

@@ -2,28 +2,28 @@
 -- names the first pair, in order of l, then b, that breaks the rule.
 --     FirstBreak p l b      the rule breaks at (l, b), and at no smaller interval, nor at l with a smaller blocking
 -- Assumes nothing.
-use Prim.Native.Nat.{ℕ, zero, suc, _+_, _-_, _≤_, _<_, zero-le}
+use Prim.Native.Nat.{ℕ, _+_, _-_, _≤_, _<_, zero-le}
 use mathlib.Core.Path.{_≡_, refl, sym, ap, _∙_}
 use mathlib.Core.Logic.{_⊎_, inl, inr, _↔_}
-use mathlib.Core.Bool.{Bool, true, false, cond}
-use mathlib.Core.List.{List, [], _∷_}
+use mathlib.Core.Bool.{true, false}
 use mathlib.Core.Option.{Option, none, some}
 use native.Mathlib.Omega.{arith}
-use native.Mathlib.Nat.{le-trans}
+use native.Mathlib.Decide.{decLe}
+use native.Mathlib.Nat.{le-trans, le-antisymm}
 use lib.ListN.{length}
 use Rattle.days.specs.Days.{days}
 use Rattle.days.specs.declared.Length.{Length}
 use Rattle.rules.specs.declared.Plan.{Plan}
-use Rattle.rules.specs.declared.Verdict.{Verdict}
 use Rattle.rules.specs.declared.Verdict.the-variants.{Overload, Fail, Pass}
 use Rattle.rules.specs.Plan.{multipleOf, dMax}
 use Rattle.rules.specs.Demand.{blockLimit, demand, Passes, overloaded}
 use Rattle.rules.specs.Verdict.{Pair, allPairs, broken, firstBroken, compared, judged, verdictOf, isPass}
-use Rattle.laws.proofs.Lists.{All, all-map, by-bool, true-not-false}
+use Rattle.laws.proofs.Lists.{by-bool, true-not-false}
 use Rattle.laws.proofs.Lawful.{LawfulPlan}
-use Rattle.horizon.proofs.Pairs.{pair, broken-no, broken-over, unbroken-holds, verdictOf-overload}
+use Rattle.horizon.proofs.Pairs.{pair, broken-no, broken-over, unbroken-holds, scanFrom, verdictOf-overload, verdictOf-scan}
 use Rattle.horizon.proofs.Range.{overload-at-period, range-suffices}
-use Rattle.horizon.proofs.First.{Before, none-broken, broken-none, compared-all, firstBroken-broken, firstBroken-in, firstBroken-least, all-pairs, pairs-all, pairs-rising}
+use Rattle.horizon.proofs.First.{Within, Before, all-pairs, pairs-all, pairs-rising}
+use Rattle.horizon.proofs.First.{none-broken, broken-none, compared-all, firstBroken-broken, firstBroken-in, firstBroken-least}
 
 -- ---- Verdicts
 
@@ -37,8 +37,8 @@ judged-pass p none k h = refl
 judged-pass p (some q) k h = absurd (true-not-false (sym h))
 
 pub judged-fail :
-  (p : Plan) (first : Option Pair) (pairs : ℕ) (l b d : Length) (k : ℕ) → judged p first pairs ≡ Fail l b d k
-  → (first ≡ some (pair (l .0) (b .0))) × (d ≡ days (demand p (l .0) (b .0))) × (pairs ≡ k)
+    (p : Plan) (first : Option Pair) (pairs : ℕ) (l b d : Length) (k : ℕ) → judged p first pairs ≡ Fail l b d k
+    → (first ≡ some (pair (l .0) (b .0))) × (d ≡ days (demand p (l .0) (b .0))) × (pairs ≡ k)
 unfolding judged
 judged-fail p none pairs l b d k h =
     let z : _≡_ {A = ℕ} 0 1 = cc in
@@ -49,10 +49,11 @@ judged-fail p (some q) pairs l b d k h =
     let asked : days (demand p (q .l) (q .b)) ≡ d = cc in
     let count : pairs ≡ k = cc in
     let interval-days : q .l ≡ l .0 = ap (λ n. n .0) interval in
-    let blocking-days : q .b ≡ b .0 = ap (λ n. n .0) blocking in
-    ( rw (← interval-days, ← blocking-days)
-    , rw (← interval-days, ← blocking-days) (sym asked)
-    , count)
+    let blocking-days : q .b ≡ b .0 = ap (λ n. n .0) blocking in (
+      rw (← interval-days, ← blocking-days),
+      rw (← interval-days, ← blocking-days) (sym asked),
+      count,
+    )
 
 -- ---- Pass
 
@@ -89,11 +90,11 @@ module _ (p : Plan) (ok : LawfulPlan p) where
   unfolding verdictOf judged isPass
   passes-pass rule =
       let light : overloaded p ≡ false =
-            by-bool (overloaded p)
-            (λ t. absurd (omega (arith, overload-at-period p ok t, rule (multipleOf p) 0 (ok .hPos) zero-le)))
-            (λ e. e) in
+      by-bool (overloaded p)
+      (λ t. absurd (omega (arith, overload-at-period p ok t, rule (multipleOf p) 0 (ok .hPos) zero-le)))
+      (λ e. e) in
       let none-is = broken-none p (allPairs p) (all-pairs p (λ q. broken p q ≡ false) (λ l b low high limit.
-            broken-no p (pair l b) (rule l b low limit))) in
+      broken-no p (pair l b) (rule l b low limit))) in
       rw (light, none-is)
 
   -- the verdict is Pass exactly where the plan passes
@@ -114,24 +115,25 @@ module _ (p : Plan) where
   -- the first of all pairs that is broken is the first break
   pub firstBroken-names : (l b : ℕ) → firstBroken p (allPairs p) ≡ some (pair l b) → FirstBreak p l b
   firstBroken-names l b h =
-      record
-        { pos = within .0
-        ; inRange = within .1
-        ; allowed = within .2
-        ; breaks = broken-over p (pair l b) (firstBroken-broken p (allPairs p) (pair l b) h)
-        ; shorter = λ m c low under limit. holds m c low (le-trans (omega arith) (within .1)) limit (inl under)
-        ; less = λ c under. holds l c (within .0) (within .1) (omega (arith, within .2)) (inr (refl, under))
-        }
+      record {
+        pos = within .0;
+        inRange = within .1;
+        allowed = within .2;
+        breaks = broken-over p (pair l b) (firstBroken-broken p (allPairs p) (pair l b) h);
+        shorter = λ m c low under limit. holds m c low (le-trans (omega arith) (within .1)) limit (inl under);
+        less = λ c under. holds l c (within .0) (within .1) (omega (arith, within .2)) (inr (refl, under));
+      }
     where
-      within : (1 ≤ l) × (l ≤ dMax p + multipleOf p - 1) × (b ≤ blockLimit p l)
-      within =
-          firstBroken-in p (λ q. (1 ≤ q .l) × (q .l ≤ dMax p + multipleOf p - 1) × (q .b ≤ blockLimit p (q .l))) (allPairs p) (pair l b)
-          (all-pairs p (λ q. (1 ≤ q .l) × (q .l ≤ dMax p + multipleOf p - 1) × (q .b ≤ blockLimit p (q .l))) (λ i c low high limit. (low, high, limit)))
-          h
-      least : (m c : ℕ) → 1 ≤ m → m ≤ dMax p + multipleOf p - 1 → c ≤ blockLimit p m → broken p (pair m c) ≡ true → (pair l b ≡ pair m c) ⊎ Before (pair l b) (pair m c)
+      within : Within p (pair l b)
+      within = firstBroken-in p (Within p) (allPairs p) (pair l b) (all-pairs p (Within p) (λ i c low high limit. (low, high, limit))) h
+
+      least :
+          (m c : ℕ) → 1 ≤ m → m ≤ dMax p + multipleOf p - 1 → c ≤ blockLimit p m
+          → broken p (pair m c) ≡ true → (pair l b ≡ pair m c) ⊎ Before (pair l b) (pair m c)
       least =
           pairs-all p (λ r. broken p r ≡ true → (pair l b ≡ r) ⊎ Before (pair l b) r)
           (firstBroken-least p Before (allPairs p) (pair l b) (pairs-rising p) h)
+
       not-after : (m c : ℕ) → Before (pair m c) (pair l b) → (pair l b ≡ pair m c) ⊎ Before (pair l b) (pair m c) → ⊥
       not-after m c (inl under) (inl e) = omega (arith, ap (λ q. q .l) e)
       not-after m c (inr under) (inl e) = omega (arith, ap (λ q. q .b) e)
@@ -139,6 +141,7 @@ module _ (p : Plan) where
       not-after m c (inl under) (inr (inr over)) = omega arith
       not-after m c (inr under) (inr (inl over)) = omega arith
       not-after m c (inr under) (inr (inr over)) = omega arith
+
       holds : (m c : ℕ) → 1 ≤ m → m ≤ dMax p + multipleOf p - 1 → c ≤ blockLimit p m → Before (pair m c) (pair l b) → demand p m c ≤ m
       holds m c low high limit earlier =
           by-bool (broken p (pair m c))
@@ -147,8 +150,8 @@ module _ (p : Plan) where
 
   -- a fail names the first break and the demand there, and counts the pairs up to and including it
   pub fail-names :
-    (l b d : Length) (k : ℕ) → verdictOf p ≡ Fail l b d k
-    → FirstBreak p (l .0) (b .0) × (d ≡ days (demand p (l .0) (b .0))) × (k ≡ length (compared p (allPairs p)))
+      (l b d : Length) (k : ℕ) → verdictOf p ≡ Fail l b d k
+      → FirstBreak p (l .0) (b .0) × (d ≡ days (demand p (l .0) (b .0))) × (k ≡ length (compared p (allPairs p)))
   unfolding verdictOf
   fail-names l b d k h =
       let light : overloaded p ≡ false = by-bool (overloaded p) (λ t. absurd (no-fail (sym (verdictOf-overload p t) ∙ h))) (λ e. e) in
@@ -159,3 +162,63 @@ module _ (p : Plan) where
       no-fail e =
           let z : _≡_ {A = ℕ} 0 1 = cc in
           omega arith
+
+-- ---- Exactly
+
+-- a plan has one first break at most
+pub firstBreak-unique : (p : Plan) (l b m c : ℕ) → FirstBreak p l b → FirstBreak p m c → (l ≡ m) × (b ≡ c)
+firstBreak-unique p l b m c one two =
+    let interval : l ≡ m = le-antisymm (not-later l b m c one two) (not-later m c l b two one) in
+    let here : FirstBreak p m b = rw interval at one in
+    (interval, le-antisymm (not-more m b c here two) (not-more m c b two here))
+  where
+    not-later : (l b m c : ℕ) → FirstBreak p l b → FirstBreak p m c → l ≤ m
+    not-later l b m c one two =
+        elim (decLe l m) [
+          | yes h ↦ h
+          | no h ↦ absurd (omega (arith, two .breaks, one .shorter m c (two .pos) (omega arith) (two .allowed)))
+        ]
+
+    not-more : (l b c : ℕ) → FirstBreak p l b → FirstBreak p l c → b ≤ c
+    not-more l b c one two =
+        elim (decLe b c) [ yes h ↦ h | no h ↦ absurd (omega (arith, two .breaks, one .less c (omega arith))) ]
+
+module _ (p : Plan) where
+  -- a plan that is not overloaded and has a first break fails there
+  pub break-fails :
+      (l b : ℕ) → overloaded p ≡ false → FirstBreak p l b
+      → verdictOf p ≡ Fail (days l) (days b) (days (demand p l b)) (length (compared p (allPairs p)))
+  unfolding verdictOf judged
+  break-fails l b light first =
+      let at = found (firstBroken p (allPairs p)) refl in
+      rw (light, at)
+    where
+      found : (o : Option Pair) → firstBroken p (allPairs p) ≡ o → firstBroken p (allPairs p) ≡ some (pair l b)
+      found none e =
+          let holds = pairs-all p (λ q. broken p q ≡ false) (none-broken p (allPairs p) e) l b (first .pos) (first .inRange) (first .allowed) in
+          absurd (omega (arith, first .breaks, unbroken-holds p (pair l b) holds))
+      found (some q) e =
+          let same = firstBreak-unique p (q .l) (q .b) l b (firstBroken-names p (q .l) (q .b) e) first in
+          let interval : q .l ≡ l = same .0 in
+          let blocking : q .b ≡ b = same .1 in
+          let pair-is : q ≡ pair l b = ap (λ i. pair i (q .b)) interval ∙ ap (pair l) blocking in
+          e ∙ ap (λ r. some r) pair-is
+
+  -- the verdict is Overload exactly where the plan is overloaded
+  pub overload-exactly : (verdictOf p ≡ Overload) ↔ (overloaded p ≡ true)
+  overload-exactly = (overload-only, verdictOf-overload p)
+    where
+      not-judged : (first : Option Pair) (k : ℕ) → judged p first k ≡ Overload → ⊥
+      not-judged none k h = unfold judged in
+          let z : _≡_ {A = ℕ} 0 1 = cc in
+          omega arith
+      not-judged (some q) k h = unfold judged in
+          let z : _≡_ {A = ℕ} 0 1 = cc in
+          omega arith
+
+      overload-only : verdictOf p ≡ Overload → overloaded p ≡ true
+      overload-only h =
+          by-bool (overloaded p) (λ t. t) (λ e.
+          absurd
+          (not-judged (firstBroken p (allPairs p)) (0 + length (compared p (allPairs p)))
+          (unfold scanFrom in (sym (verdictOf-scan p e) ∙ h))))

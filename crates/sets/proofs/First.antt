@@ -1,22 +1,22 @@
 -- The first passing set of a list, and what the search's list is: every set below 2^n, fewer ones first, then the smaller number.
 --     Sooner m k            the set m comes before k: fewer ones, or as many and a smaller number
 -- Assumes nothing.
-use Prim.Native.Nat.{ℕ, zero, suc, _+_, _^_, _≤_, _<_, zero-le}
-use mathlib.Core.Path.{_≡_, refl, sym, ap, _∙_}
+use Prim.Native.Nat.{ℕ, suc, _^_, _<_, zero-le}
+use mathlib.Core.Path.{_≡_, refl, sym, _∙_}
 use mathlib.Core.Logic.{_⊎_, inl, inr}
-use mathlib.Core.Bool.{Bool, true, false}
+use mathlib.Core.Bool.{true, false}
 use mathlib.Core.List.{List, [], _∷_}
 use native.Mathlib.Omega.{arith}
 use borrow.Author.Tests.{eqb-true, eq-eqb}
 use lib.Count.{ones, ones-le}
 use lib.Dec.{eqb}
 use Rattle.rules.specs.declared.Plan.{Plan}
-use Rattle.rules.specs.declared.Assign.{Assign}
 use Rattle.rules.specs.declared.Assign.the-variants.{Takers, Nobody}
-use Rattle.rules.specs.Count.{upFrom, keep}
+use Rattle.rules.specs.Count.{upFrom}
 use Rattle.rules.specs.Search.{setPasses, setsOf, ordered, firstPassing}
 use Rattle.laws.proofs.Lists.{All, all-map, by-bool, true-not-false}
-use Rattle.horizon.proofs.Order.{Rising, all-of, all-keep, keep-all, all-flat, flat-all, all-upFrom, upFrom-all, rising-keep, rising-within, rising-flat, rising-upFrom}
+use Rattle.horizon.proofs.Order.{Rising, all-keep, keep-all, all-flat, flat-all}
+use Rattle.horizon.proofs.Order.{all-upFrom, upFrom-all, rising-keep, rising-within, rising-flat, rising-upFrom}
 
 -- ---- The first passing set
 
@@ -37,6 +37,13 @@ module _ (p : Plan) where
   pub firstPassing-end : firstPassing p [] ≡ Nobody
   unfolding firstPassing
   firstPassing-end = refl
+
+  -- there is a first, or there is none
+  pub firstPassing-answers : (ms : List ℕ) → (firstPassing p ms ≡ Nobody) ⊎ ((m : ℕ) × (firstPassing p ms ≡ Takers m))
+  firstPassing-answers [] = inl firstPassing-end
+  firstPassing-answers (m ∷ ms) =
+      let rest = firstPassing-answers ms in
+      by-bool (setPasses p m) (λ t. inr (m, firstPassing-here m ms t)) (λ e. rw (firstPassing-later m ms e) rest)
 
   -- Nobody exactly where none passes
   pub nobody-passes : (ms : List ℕ) → firstPassing p ms ≡ Nobody → All (λ m. setPasses p m ≡ false) ms
@@ -72,17 +79,18 @@ module _ (p : Plan) where
 
   -- in a rising list no passing set comes before it
   pub firstPassing-least :
-    (R : ℕ → ℕ → Type 0) (ms : List ℕ) (m : ℕ) → Rising R ms → firstPassing p ms ≡ Takers m
-    → All (λ k. setPasses p k ≡ true → (m ≡ k) ⊎ R m k) ms
+      (R : ℕ → ℕ → Type 0) (ms : List ℕ) (m : ℕ) → Rising R ms → firstPassing p ms ≡ Takers m
+      → All (λ k. setPasses p k ≡ true → (m ≡ k) ⊎ R m k) ms
   firstPassing-least R [] m rise h = tt
   firstPassing-least R (k ∷ ms) m rise h =
       by-bool (setPasses p k)
       (λ t.
       let same : k ≡ m = cc (firstPassing-here k ms t) in
       ((λ u. inl (sym same)), all-map (R k) (λ i. setPasses p i ≡ true → (m ≡ i) ⊎ R m i) (λ i after u. inr (rw same at after)) ms (rise .0)))
-      (λ e.
-      ( (λ u. absurd (true-not-false (sym u ∙ e)))
-      , firstPassing-least R ms m (rise .1) (sym (firstPassing-later k ms e) ∙ h)))
+      (λ e. (
+        (λ u. absurd (true-not-false (sym u ∙ e))),
+        firstPassing-least R ms m (rise .1) (sym (firstPassing-later k ms e) ∙ h),
+      ))
 
 -- ---- The sets in the search's order
 
@@ -125,10 +133,12 @@ module _ (n : ℕ) where
     where
       as-many : (k : ℕ) → All (λ m. ones m ≡ k) (setsOf n k)
       as-many k = all-setsOf (λ m. ones m ≡ k) k (λ m below e. e)
+
       row : (k : ℕ) → Rising Sooner (setsOf n k)
       row k =
           rising-within (λ m. ones m ≡ k) _<_ Sooner (λ m i e f h. inr (e ∙ sym f, h)) (setsOf n k) (as-many k)
           (unfold setsOf in rising-keep _<_ (λ m. eqb (ones m) k) (upFrom 0 (2 ^ n)) (rising-upFrom 0 (2 ^ n)))
+
       next : (k i : ℕ) → k < i → All (λ m. All (Sooner m) (setsOf n i)) (setsOf n k)
       next k i h =
           all-setsOf (λ m. All (Sooner m) (setsOf n i)) k (λ m below e.

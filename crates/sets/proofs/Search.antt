@@ -3,22 +3,22 @@
 --     Best p m              m passes, no passing set has fewer ones, and none with as many ones is smaller
 -- Assumes nothing.
 use Prim.Native.Nat.{ℕ, _^_, _≤_, _<_}
-use mathlib.Core.Path.{_≡_, refl, sym, ap, _∙_}
+use mathlib.Core.Path.{_≡_, sym, ap, _∙_}
 use mathlib.Core.Logic.{_⊎_, inl, inr, _↔_}
 use mathlib.Core.Bool.{true, false}
 use native.Mathlib.Omega.{arith}
 use native.Mathlib.Nat.{le-antisymm, le-refl}
 use lib.Count.{ones}
 use Rattle.rules.specs.declared.Plan.{Plan}
-use Rattle.rules.specs.declared.Assign.{Assign}
 use Rattle.rules.specs.declared.Assign.the-variants.{Takers, Nobody}
 use Rattle.rules.specs.Demand.{Passes}
-use Rattle.rules.specs.Search.{withSet, setPasses, ordered, firstPassing, searchOf}
-use Rattle.laws.proofs.Lists.{by-bool, true-not-false}
+use Rattle.rules.specs.Search.{withSet, setPasses, ordered, searchOf}
+use Rattle.laws.proofs.Lists.{true-not-false}
 use Rattle.laws.proofs.Lawful.{LawfulPlan}
 use Rattle.horizon.proofs.Verdict.{pass-exactly}
 use Rattle.horizon.proofs.Sets.{withSet-lawful}
-use Rattle.sets.proofs.First.{Sooner, takers-nobody, nobody-passes, passes-nobody, firstPassing-passes, firstPassing-in, firstPassing-least, all-sets, sets-all, sets-rising}
+use Rattle.sets.proofs.First.{firstPassing-answers, nobody-passes, passes-nobody, firstPassing-passes, firstPassing-in, firstPassing-least}
+use Rattle.sets.proofs.First.{Sooner, all-sets, sets-all, sets-rising}
 
 -- ---- What it is for a set to pass
 
@@ -32,9 +32,10 @@ setPasses-exactly p ok m = pass-exactly (withSet p m) (withSet-lawful p m ok)
 module _ (p : Plan) (m : ℕ) (found : searchOf p ≡ Takers m) where
   pub search-passes : (setPasses p m ≡ true) × (m < 2 ^ p .n)
   unfolding searchOf
-  search-passes =
-      ( firstPassing-passes p (ordered (p .n)) m found
-      , firstPassing-in p (λ k. k < 2 ^ p .n) (ordered (p .n)) m (all-sets (p .n) (λ k. k < 2 ^ p .n) (λ k below. below)) found)
+  search-passes = (
+    firstPassing-passes p (ordered (p .n)) m found,
+    firstPassing-in p (λ k. k < 2 ^ p .n) (ordered (p .n)) m (all-sets (p .n) (λ k. k < 2 ^ p .n) (λ k below. below)) found,
+  )
 
   -- every other passing set comes later in the search's order
   pub search-first : (k : ℕ) → k < 2 ^ p .n → setPasses p k ≡ true → (m ≡ k) ⊎ Sooner m k
@@ -80,15 +81,27 @@ pub record Best (p : Plan) (m : ℕ) : Type 0 where
 
 pub search-best : (p : Plan) (m : ℕ) → searchOf p ≡ Takers m → Best p m
 search-best p m found =
-    record
-      { passes = search-passes p m found .0
-      ; below = search-passes p m found .1
-      ; fewest = search-fewest p m found
-      ; smallest = search-smallest p m found
-      }
+    record {
+      passes = search-passes p m found .0;
+      below = search-passes p m found .1;
+      fewest = search-fewest p m found;
+      smallest = search-smallest p m found;
+    }
 
 -- two sets that are best are the same
 pub best-unique : (p : Plan) (m k : ℕ) → Best p m → Best p k → m ≡ k
 best-unique p m k a b =
     let as-many : ones m ≡ ones k = le-antisymm (a .fewest k (b .below) (b .passes)) (b .fewest m (a .below) (a .passes)) in
     le-antisymm (a .smallest k (b .below) (b .passes) (sym as-many)) (b .smallest m (a .below) (a .passes) as-many)
+
+pub best-search : (p : Plan) (m : ℕ) → Best p m → searchOf p ≡ Takers m
+unfolding searchOf
+best-search p m best = which (firstPassing-answers p (ordered (p .n)))
+  where
+    which : (searchOf p ≡ Nobody) ⊎ ((k : ℕ) × (searchOf p ≡ Takers k)) → searchOf p ≡ Takers m
+    which (inl none-is) = absurd (true-not-false (sym (best .passes) ∙ search-none p none-is m (best .below)))
+    which (inr found) = found .1 ∙ ap Takers (best-unique p (found .0) m (search-best p (found .0) (found .1)) best)
+
+-- the search gives the set m exactly if m is best
+pub search-exactly : (p : Plan) (m : ℕ) → (searchOf p ≡ Takers m) ↔ Best p m
+search-exactly p m = (search-best p m, best-search p m)

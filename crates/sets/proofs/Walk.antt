@@ -2,8 +2,8 @@
 --     setsFrom n k m        the sets of n places with k ones, from the number m on
 --     setRows n k           the sets of n places with k ones or more, in the search's order
 -- The walk cites walk-row, walk-other, walk-fails, walk-found, walk-row-end and walk-end. Assumes nothing.
-use Prim.Native.Nat.{ℕ, zero, suc, _+_, _-_, _^_, _≤_, _<_}
-use mathlib.Core.Path.{_≡_, refl, sym, ap, _∙_}
+use Prim.Native.Nat.{ℕ, suc, _+_, _-_, _^_, _≤_, _<_}
+use mathlib.Core.Path.{_≡_, ap, _∙_}
 use mathlib.Core.Bool.{true, false}
 use mathlib.Core.List.{List, [], _∷_, _++_, flatMap}
 use native.Mathlib.Omega.{arith}
@@ -84,18 +84,18 @@ module _ (p : Plan) (n k m : ℕ) where
 
   -- another count of ones
   pub walk-other :
-    (ms : List ℕ) → m < 2 ^ n → (ones m ≡ k → ⊥)
-    → firstPassing p (setsFrom n k m ++ ms) ≡ firstPassing p (setsFrom n k (m + 1) ++ ms)
+      (ms : List ℕ) → m < 2 ^ n → (ones m ≡ k → ⊥)
+      → firstPassing p (setsFrom n k m ++ ms) ≡ firstPassing p (setsFrom n k (m + 1) ++ ms)
   walk-other ms h e = ap (λ row. firstPassing p (row ++ ms)) (setsFrom-other n k m h e)
 
   pub walk-fails :
-    (ms : List ℕ) → m < 2 ^ n → ones m ≡ k → setPasses p m ≡ false
-    → firstPassing p (setsFrom n k m ++ ms) ≡ firstPassing p (setsFrom n k (m + 1) ++ ms)
+      (ms : List ℕ) → m < 2 ^ n → ones m ≡ k → setPasses p m ≡ false
+      → firstPassing p (setsFrom n k m ++ ms) ≡ firstPassing p (setsFrom n k (m + 1) ++ ms)
   walk-fails ms h e fails =
       ap (λ row. firstPassing p (row ++ ms)) (setsFrom-set n k m h e) ∙ firstPassing-later p m (setsFrom n k (m + 1) ++ ms) fails
 
   pub walk-found :
-    (ms : List ℕ) → m < 2 ^ n → ones m ≡ k → setPasses p m ≡ true → firstPassing p (setsFrom n k m ++ ms) ≡ Takers m
+      (ms : List ℕ) → m < 2 ^ n → ones m ≡ k → setPasses p m ≡ true → firstPassing p (setsFrom n k m ++ ms) ≡ Takers m
   walk-found ms h e passes =
       ap (λ row. firstPassing p (row ++ ms)) (setsFrom-set n k m h e) ∙ firstPassing-here p m (setsFrom n k (m + 1) ++ ms) passes
 
