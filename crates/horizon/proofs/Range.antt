@@ -48,7 +48,7 @@ module _ (p : Plan) (ok : LawfulPlan p) where
   beyond light near (suc most) l b m pos h =
       let hPos = ok .hPos in
       let earlier : demand p (l - multipleOf p) 0 ≤ l - multipleOf p =
-            start (l - multipleOf p) (λ from-one. beyond light near most (l - multipleOf p) 0 (omega arith) from-one zero-le) in
+      start (l - multipleOf p) (λ from-one. beyond light near most (l - multipleOf p) 0 (omega arith) from-one zero-le) in
       elim (decLe l (dMax p + multipleOf p - 1)) [
         | yes inside ↦ near l b pos inside h
         | no outside ↦
