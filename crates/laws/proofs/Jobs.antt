@@ -39,12 +39,12 @@ jobs-last s w t h =
 
 pub jobs-mono : (s : BatteryString) (v w : ℕ) → 1 ≤ s .t .0 → v ≤ w → jobs s v ≤ jobs s w
 jobs-mono s v w t h =
-    elim (decLe (s .d .0) v)
-    [ yes long ↦
-        let last = jobs-last s v t long in
-        let first = jobs-first s v long in
-        omega (arith, jobs-window s (jobs s v - 1) w t (omega arith))
-    | no short ↦ omega (arith, jobs-short s v (omega arith))
+    elim (decLe (s .d .0) v) [
+      | yes long ↦
+          let last = jobs-last s v t long in
+          let first = jobs-first s v long in
+          omega (arith, jobs-window s (jobs s v - 1) w t (omega arith))
+      | no short ↦ omega (arith, jobs-short s v (omega arith))
     ]
 
 -- over a multiple h of T the count grows by h / T, once a job fits
@@ -53,5 +53,5 @@ jobs-period s h w t whole long =
     let parts : h / s .t .0 * s .t .0 ≡ h = omega (arith, div-add-mod' h (s .t .0)) in
     let split : w + h - s .d .0 ≡ (w - s .d .0) + h / s .t .0 * s .t .0 = omega arith in
     let grown : (w + h - s .d .0) / s .t .0 ≡ (w - s .d .0) / s .t .0 + h / s .t .0 =
-          ap (λ n. n / s .t .0) split ∙ add-mul-div-right (w - s .d .0) (h / s .t .0) t in
+    ap (λ n. n / s .t .0) split ∙ add-mul-div-right (w - s .d .0) (h / s .t .0) t in
     omega (arith, jobs-from s (w + h) (omega arith), jobs-from s w long)

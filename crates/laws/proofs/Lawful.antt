@@ -2,25 +2,25 @@
 --     LawfulString s        the bounds on a string
 --     LawfulPlan p          the bounds on a plan, and that H is a common multiple of all T, the least, and at most 100,000
 -- Assumes nothing.
-use Prim.Native.Nat.{ℕ, zero, suc, _+_, _%_, _≤_, _<_}
+use Prim.Native.Nat.{ℕ, zero, suc, _+_, _%_, _≤_, _<_, zero-le}
 use mathlib.Core.Path.{_≡_, refl, sym, ap, _∙_}
 use mathlib.Core.Bool.{Bool, true, false, not, cond, _&&_}
 use mathlib.Core.List.{List, [], _∷_}
 use native.Mathlib.Omega.{arith}
 use native.Mathlib.Nat.{le-refl}
-use borrow.Author.Tests.{leb-true, ltb-false, eqb-true, not-false}
+use borrow.Author.Tests.{leb-true, ltb-false, eqb-true, not-false, le-leb, lt-ltb, le-ltb}
 use lib.Dec.{leb, ltb, eqb}
 use Rattle.rules.specs.declared.BatteryString.{BatteryString}
 use Rattle.rules.specs.declared.Plan.{Plan}
 use Rattle.rules.specs.declared.Fault.{Fault}
-use Rattle.rules.specs.declared.Fault.the-variants.{OutOfBounds}
+use Rattle.rules.specs.declared.Fault.the-variants.{StringCount, OutOfBounds, MultipleOver}
 use Rattle.rules.specs.declared.Checked.{Checked}
 use Rattle.rules.specs.declared.Checked.the-variants.{Lawful, Refused}
 use Rattle.rules.specs.Count.{leastFrom}
 use Rattle.rules.specs.Plan.{stringsOf, inBounds, stringLawful, commonMultiple, multipleOf}
 use Rattle.rules.specs.Refusal.{then, refuseIf, countCheck, numbersCheck, stringsCheck, multipleCheck, planCheck}
-use Rattle.laws.proofs.Lists.{All, all-map, every-all, by-bool, true-not-false, and-left, and-right}
-use Rattle.laws.proofs.Least.{leastFrom-low, leastFrom-passes, leastFrom-before}
+use Rattle.laws.proofs.Lists.{All, all-map, every-all, by-bool, true-not-false, and-left, and-right, and-both}
+use Rattle.laws.proofs.Least.{leastFrom-low, leastFrom-passes, leastFrom-before, leastFrom-unique, leastFrom-none}
 
 -- ---- Checks
 
@@ -38,6 +38,16 @@ pub then-second : (a b : Checked) → then a b ≡ Lawful → b ≡ Lawful
 then-second Lawful b h = h
 then-second (Refused f at) b h = absurd (refused-not-lawful f at h)
 
+pub then-lawful : (a b : Checked) → a ≡ Lawful → then a b ≡ b
+then-lawful a b h = ap (λ v. then v b) h
+
+pub then-refused : (a b : Checked) (f : Fault) (at : ℕ) → a ≡ Refused f at → then a b ≡ Refused f at
+then-refused a b f at h = ap (λ v. then v b) h
+
+pub then-assoc : (a b d : Checked) → then (then a b) d ≡ then a (then b d)
+then-assoc Lawful b d = refl
+then-assoc (Refused f at) b d = refl
+
 pub refuseIf-not : (bad : Bool) (f : Fault) (at : ℕ) → refuseIf bad f at ≡ Lawful → bad ≡ false
 refuseIf-not true f at h = absurd (refused-not-lawful f at h)
 refuseIf-not false f at h = refl
@@ -47,6 +57,45 @@ inBounds-low low v high h = leb-true low v (and-left (leb low v) (leb v high) h)
 
 pub inBounds-high : (low v high : ℕ) → inBounds low v high ≡ true → v ≤ high
 inBounds-high low v high h = leb-true v high (and-right (leb low v) (leb v high) h)
+
+pub inBounds-yes : (low v high : ℕ) → low ≤ v → v ≤ high → inBounds low v high ≡ true
+inBounds-yes low v high h k = and-both (leb low v) (leb v high) (le-leb low v h) (le-leb v high k)
+
+pub inBounds-not : (low v high : ℕ) → (low ≤ v → v ≤ high → ⊥) → inBounds low v high ≡ false
+inBounds-not low v high out =
+    by-bool (inBounds low v high)
+    (λ t. absurd (out (inBounds-low low v high t) (inBounds-high low v high t)))
+    (λ e. e)
+
+-- ---- n, A and N
+
+pub countCheck-good : (p : Plan) → 1 ≤ p .n → p .n ≤ 10 → countCheck p ≡ Lawful
+unfolding countCheck
+countCheck-good p h k = rw (inBounds-yes 1 (p .n) 10 h k)
+
+pub countCheck-bad : (p : Plan) → (1 ≤ p .n → p .n ≤ 10 → ⊥) → countCheck p ≡ Refused StringCount 0
+unfolding countCheck
+countCheck-bad p out = rw (inBounds-not 1 (p .n) 10 out)
+
+pub countCheck-high : (p : Plan) → countCheck p ≡ Lawful → p .n ≤ 10
+unfolding countCheck
+countCheck-high p h = inBounds-high 1 (p .n) 10 (not-false _ (refuseIf-not _ _ _ h))
+
+pub numbersCheck-good : (p : Plan) → p .a .0 ≤ 1000 → 1 ≤ p .run .0 → p .run .0 ≤ 1000000 → numbersCheck p ≡ Lawful
+unfolding numbersCheck
+numbersCheck-good p a h k = rw (inBounds-yes 0 (p .a .0) 1000 zero-le a, inBounds-yes 1 (p .run .0) 1000000 h k)
+
+pub numbersCheck-bad : (p : Plan) → (p .a .0 ≤ 1000 → 1 ≤ p .run .0 → p .run .0 ≤ 1000000 → ⊥) → numbersCheck p ≡ Refused OutOfBounds 0
+unfolding numbersCheck
+numbersCheck-bad p out =
+    let A = inBounds 0 (p .a .0) 1000 in
+    let N = inBounds 1 (p .run .0) 1000000 in
+    by-bool (A && N)
+    (λ t.
+    absurd
+    (out (inBounds-high 0 (p .a .0) 1000 (and-left A N t)) (inBounds-low 1 (p .run .0) 1000000 (and-right A N t))
+    (inBounds-high 1 (p .run .0) 1000000 (and-right A N t))))
+    (λ e. rw e)
 
 -- ---- A string
 
@@ -72,15 +121,28 @@ stringLawful-is s h =
     let td = and-left (T && D) C tdc in
     let d = and-right T D td in
     let t = and-left T D td in
-    record
-      { tPos = inBounds-low 1 (s .t .0) 1000 t
-      ; tMax = inBounds-high 1 (s .t .0) 1000 t
-      ; dPos = inBounds-low 1 (s .d .0) (s .t .0) d
-      ; dMax = inBounds-high 1 (s .d .0) (s .t .0) d
-      ; cPos = inBounds-low 1 (s .c .0) (s .d .0) c
-      ; cMax = inBounds-high 1 (s .c .0) (s .d .0) c
-      ; xMax = inBounds-high 0 (s .x) 1 x
-      }
+    record {
+      tPos = inBounds-low 1 (s .t .0) 1000 t;
+      tMax = inBounds-high 1 (s .t .0) 1000 t;
+      dPos = inBounds-low 1 (s .d .0) (s .t .0) d;
+      dMax = inBounds-high 1 (s .d .0) (s .t .0) d;
+      cPos = inBounds-low 1 (s .c .0) (s .d .0) c;
+      cMax = inBounds-high 1 (s .c .0) (s .d .0) c;
+      xMax = inBounds-high 0 (s .x) 1 x;
+    }
+
+pub stringLawful-yes : (s : BatteryString) → LawfulString s → stringLawful s ≡ true
+unfolding stringLawful
+stringLawful-yes s h =
+    rw (
+      inBounds-yes 1 (s .t .0) 1000 (h .tPos) (h .tMax),
+      inBounds-yes 1 (s .d .0) (s .t .0) (h .dPos) (h .dMax),
+      inBounds-yes 1 (s .c .0) (s .d .0) (h .cPos) (h .cMax),
+      inBounds-yes 0 (s .x) 1 zero-le (h .xMax),
+    )
+
+pub stringLawful-not : (s : BatteryString) → (LawfulString s → ⊥) → stringLawful s ≡ false
+stringLawful-not s out = by-bool (stringLawful s) (λ t. absurd (out (stringLawful-is s t))) (λ e. e)
 
 pub stringsCheck-all : (k : ℕ) (ss : List BatteryString) → stringsCheck k ss ≡ Lawful → All LawfulString ss
 unfolding stringsCheck
@@ -122,6 +184,23 @@ pub multipleOf-least : (p : Plan) (k : ℕ) → 1 ≤ k → k < multipleOf p →
 unfolding multipleOf
 multipleOf-least p k h m = leastFrom-before (commonMultiple (stringsOf p)) 1 100000 k h m
 
+-- a common multiple within the bound before which there is none is H; where there is none, 100,001 stands
+pub multipleOf-found : (p : Plan) (h : ℕ) → 1 ≤ h → h ≤ 100000 → commonMultiple (stringsOf p) h ≡ true → ((k : ℕ) → 1 ≤ k → k < h → commonMultiple (stringsOf p) k ≡ false) → multipleOf p ≡ h
+unfolding multipleOf
+multipleOf-found p h low high t before = leastFrom-unique (commonMultiple (stringsOf p)) 1 100000 h low (omega arith) t before
+
+pub multipleOf-over : (p : Plan) → ((k : ℕ) → 1 ≤ k → k < 100001 → commonMultiple (stringsOf p) k ≡ false) → multipleOf p ≡ 100001
+unfolding multipleOf
+multipleOf-over p before = leastFrom-none (commonMultiple (stringsOf p)) 1 100000 before
+
+pub multipleCheck-good : (p : Plan) → multipleOf p ≤ 100000 → multipleCheck p ≡ Lawful
+unfolding multipleCheck
+multipleCheck-good p h = rw (le-ltb 100000 (multipleOf p) h)
+
+pub multipleCheck-bad : (p : Plan) → 100000 < multipleOf p → multipleCheck p ≡ Refused MultipleOver 0
+unfolding multipleCheck
+multipleCheck-bad p h = rw (lt-ltb 100000 (multipleOf p) h)
+
 pub planCheck-lawful : (p : Plan) → planCheck p ≡ Lawful → LawfulPlan p
 unfolding planCheck countCheck numbersCheck multipleCheck
 planCheck-lawful p h =
@@ -133,15 +212,15 @@ planCheck-lawful p h =
     let run = and-right (inBounds 0 (p .a .0) 1000) (inBounds 1 (p .run .0) 1000000) numbers in
     let body = then-second (numbersCheck p) strings after in
     let high : multipleOf p ≤ 100000 = ltb-false 100000 (multipleOf p) (refuseIf-not _ _ _ (then-second (stringsCheck 1 (stringsOf p)) (multipleCheck p) body)) in
-    record
-      { nPos = inBounds-low 1 (p .n) 10 count
-      ; nMax = inBounds-high 1 (p .n) 10 count
-      ; aMax = inBounds-high 0 (p .a .0) 1000 a
-      ; runPos = inBounds-low 1 (p .run .0) 1000000 run
-      ; runMax = inBounds-high 1 (p .run .0) 1000000 run
-      ; each = stringsCheck-all 1 (stringsOf p) (then-first (stringsCheck 1 (stringsOf p)) (multipleCheck p) body)
-      ; hPos = multipleOf-pos p
-      ; hMax = high
-      ; hWhole = commonMultiple-whole (stringsOf p) (multipleOf p) (multipleOf-common p high)
-      ; hLeast = multipleOf-least p
-      }
+    record {
+      nPos = inBounds-low 1 (p .n) 10 count;
+      nMax = inBounds-high 1 (p .n) 10 count;
+      aMax = inBounds-high 0 (p .a .0) 1000 a;
+      runPos = inBounds-low 1 (p .run .0) 1000000 run;
+      runMax = inBounds-high 1 (p .run .0) 1000000 run;
+      each = stringsCheck-all 1 (stringsOf p) (then-first (stringsCheck 1 (stringsOf p)) (multipleCheck p) body);
+      hPos = multipleOf-pos p;
+      hMax = high;
+      hWhole = commonMultiple-whole (stringsOf p) (multipleOf p) (multipleOf-common p high);
+      hLeast = multipleOf-least p;
+    }

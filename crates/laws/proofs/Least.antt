@@ -49,11 +49,11 @@ module _ (f : ℕ → Bool) where
   pub leastFrom-unique : (k n r : ℕ) → k ≤ r → r < k + n → f r ≡ true → ((i : ℕ) → k ≤ i → i < r → f i ≡ false) → leastFrom f k n ≡ r
   leastFrom-unique k zero r h m t none-before = absurd (omega arith)
   leastFrom-unique k (suc n) r h m t none-before =
-      elim (ℕ-discrete k r)
-      [ yes same ↦ leastFrom-here k n (rw (sym same) at t) ∙ same
-      | no other ↦
-          leastFrom-later k n (none-before k (le-refl k) (omega arith))
-          ∙ leastFrom-unique (suc k) n r (omega arith) (omega arith) t (λ i a b. none-before i (omega arith) b)
+      elim (ℕ-discrete k r) [
+        | yes same ↦ leastFrom-here k n (rw (sym same) at t) ∙ same
+        | no other ↦
+            leastFrom-later k n (none-before k (le-refl k) (omega arith))
+            ∙ leastFrom-unique (suc k) n r (omega arith) (omega arith) t (λ i a b. none-before i (omega arith) b)
       ]
 
   pub leastFrom-none : (k n : ℕ) → ((i : ℕ) → k ≤ i → i < k + n → f i ≡ false) → leastFrom f k n ≡ k + n

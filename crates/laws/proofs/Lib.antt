@@ -3,3 +3,4 @@ pub mod Lists
 pub mod Least
 pub mod Jobs
 pub mod Lawful
+pub mod Powers

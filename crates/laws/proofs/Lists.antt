@@ -108,9 +108,10 @@ module _ {ℓ} {A : Type ℓ} where
   pub largest-ge : (f : A → ℕ) (xs : List A) → All (λ x. f x ≤ largest f xs) xs
   unfolding largest
   largest-ge f [] = tt
-  largest-ge f (x ∷ xs) =
-      ( omega arith
-      , all-map (λ y. f y ≤ largest f xs) (λ y. f y ≤ max (f x) (largest f xs)) (λ y h. omega arith) xs (largest-ge f xs))
+  largest-ge f (x ∷ xs) = (
+    omega arith,
+    all-map (λ y. f y ≤ largest f xs) (λ y. f y ≤ max (f x) (largest f xs)) (λ y h. omega arith) xs (largest-ge f xs),
+  )
 
   pub largest-le : (f : A → ℕ) (m : ℕ) (xs : List A) → All (λ x. f x ≤ m) xs → largest f xs ≤ m
   unfolding largest
@@ -146,9 +147,10 @@ module _ {ℓ} {A : Type ℓ} where
   pub smallestWith-all : (f : A → ℕ) (m : ℕ) (xs : List A) → All (λ x. smallestWith f m xs ≤ f x) xs
   unfolding smallestWith
   smallestWith-all f m [] = tt
-  smallestWith-all f m (x ∷ xs) =
-      ( omega arith
-      , all-map (λ y. smallestWith f m xs ≤ f y) (λ y. min (f x) (smallestWith f m xs) ≤ f y) (λ y h. omega arith) xs (smallestWith-all f m xs))
+  smallestWith-all f m (x ∷ xs) = (
+    omega arith,
+    all-map (λ y. smallestWith f m xs ≤ f y) (λ y. min (f x) (smallestWith f m xs) ≤ f y) (λ y h. omega arith) xs (smallestWith-all f m xs),
+  )
 
   pub smallest-le : (f : A → ℕ) (xs : List A) → All (λ x. smallest f xs ≤ f x) xs
   unfolding smallest

@@ -133,17 +133,17 @@ row q a = record { asked = q; said = a }
 
 unfoldable pub table : List Row
 table =
-    row (verdict-with two 1) (verdict (Pass 44)) -- P1
-    ∷ row (verdict-with two 3) (verdict (Pass 48)) -- P2: the load is exactly H
-    ∷ row (verdict-with two 0) (fails 5 3 6 8) -- P3
-    ∷ row (search three) (assign (Takers 3)) -- P4
-    ∷ row (verdict-with five 2) (fails 6 4 7 10) -- P5: passes by the source's equation 7
-    ∷ row (run-with five 2 (release 0 3 2 ∷ release 1 2 1 ∷ release 2 1 3 ∷ [])) (run (Miss (day 8) 1)) -- P6
-    ∷ row (search five) (assign (Takers 0)) -- P7
-    ∷ row (search eight) (assign (Takers 1)) -- P8
-    ∷ row (verdict-with nine 1) (verdict Overload) -- P9
-    ∷ row (verdict-with nine 0) (verdict (Pass 3)) -- P9
-    ∷ row (verdict-with ten 0) (verdict (Pass 1)) -- P10
+    row (verdict-with two 1) (verdict (Pass 44))  -- P1
+    ∷ row (verdict-with two 3) (verdict (Pass 48))  -- P2: the load is exactly H
+    ∷ row (verdict-with two 0) (fails 5 3 6 8)  -- P3
+    ∷ row (search three) (assign (Takers 3))  -- P4
+    ∷ row (verdict-with five 2) (fails 6 4 7 10)  -- P5: passes by the source's equation 7
+    ∷ row (run-with five 2 (release 0 3 2 ∷ release 1 2 1 ∷ release 2 1 3 ∷ [])) (run (Miss (day 8) 1))  -- P6
+    ∷ row (search five) (assign (Takers 0))  -- P7
+    ∷ row (search eight) (assign (Takers 1))  -- P8
+    ∷ row (verdict-with nine 1) (verdict Overload)  -- P9
+    ∷ row (verdict-with nine 0) (verdict (Pass 3))  -- P9
+    ∷ row (verdict-with ten 0) (verdict (Pass 1))  -- P10
     ∷ row (file-verdict sample) (verdict (Pass 44))
     ∷ row (file-search sample) (assign (Takers 1))
     ∷ row (file-run sample) (clean 8 1 11)
@@ -155,16 +155,16 @@ table =
 
 pub worked : map (λ r. answered (r .asked)) table ≡ map (λ r. r .said) table
 unfolding
-  answered fails clean row table string plan release releases char digits line two three five eight nine ten level sample
-  ones onesIn flatMap
-  sumOf largest smallest smallestWith every keep countOf upFrom leastFrom
-  stringLawful commonMultiple multipleOf dMin dMax
-  movingCost holdOf jobs blockerHold blockLimit need demand load overloaded
-  pairsAt allPairs broken firstBroken compared judged verdictOf isPass
-  permit withSet setPasses setsOf ordered firstPassing searchOf
-  tooClose outOfOrder releaseLawful unlawfulFrom firstUnlawful
-  chosen lateAt newSlot joinFrom joined holder payer taken nextUp given useOf spent morning stateAt useOn lateOn history daysOf missDay runOf
-  countCheck numbersCheck stringsCheck multipleCheck planCheck setCheck releasesCheck runCheck verdictAnswer setAnswer searchAnswer runAnswer
-  before linesOf digitOf wellFormed pairsOf frameOf numberFrom fieldAt nIn aIn runIn stringOf releaseOf planIn releasesIn
-  frameCheck headerCheck stringLineCheck stringLinesCheck releaseLineCheck releaseLinesCheck bodyCheck linesCheck textCheck lawfulReading readingOf
+    answered fails clean row table string plan release releases char digits line two three five eight nine ten level sample
+    ones onesIn flatMap
+    sumOf largest smallest smallestWith every keep countOf upFrom leastFrom
+    stringLawful commonMultiple multipleOf dMin dMax
+    movingCost holdOf jobs blockerHold blockLimit need demand load overloaded
+    pairsAt allPairs broken firstBroken compared judged verdictOf isPass
+    permit withSet setPasses setsOf ordered firstPassing searchOf
+    tooClose outOfOrder releaseLawful unlawfulFrom firstUnlawful
+    chosen lateAt newSlot joinFrom joined holder payer taken nextUp given useOf spent morning stateAt useOn lateOn history daysOf missDay runOf
+    countCheck numbersCheck stringsCheck multipleCheck planCheck setCheck releasesCheck runCheck verdictAnswer setAnswer searchAnswer runAnswer
+    before linesOf digitOf wellFormed pairsOf frameOf numberFrom fieldAt nIn aIn runIn stringOf releaseOf planIn releasesIn
+    frameCheck headerCheck stringLineCheck stringLinesCheck releaseLineCheck releaseLinesCheck bodyCheck linesCheck textCheck lawfulReading readingOf
 worked = refl

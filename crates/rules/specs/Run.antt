@@ -66,13 +66,13 @@ slotAt ss i = getD ss (i - 1) noSlot
 abbrev pub withJob : List Slot → ℕ → Job → List Slot
 withJob ss i j =
     set ss (i - 1)
-    (record
-      { string = slotAt ss i .string
-      ; job = j
-      ; release = slotAt ss i .release
-      ; deadline = slotAt ss i .deadline
-      ; serves = slotAt ss i .serves
-      })
+    (record {
+      string = slotAt ss i .string;
+      job = j;
+      release = slotAt ss i .release;
+      deadline = slotAt ss i .deadline;
+      serves = slotAt ss i .serves;
+    })
 
 unfoldable pub chosen : (Slot → Bool) → (Slot → Slot → Bool) → List Slot → ℕ → ℕ
 chosen ok ahead ss zero = 0
@@ -99,13 +99,13 @@ lateAt t ss = chosen (lateSlot t) noneAhead ss (length ss)
 -- the slot of the release r, which is the k-th of the list
 unfoldable pub newSlot : Plan → Release → ℕ → Slot
 newSlot p r k =
-    record
-      { string = stringAt p (r .place)
-      ; job = Waiting (r .need) (days 0)
-      ; release = r .day
-      ; deadline = day (r .day .0 + stringAt p (r .place) .d .0)
-      ; serves = k
-      }
+    record {
+      string = stringAt p (r .place);
+      job = Waiting (r .need) (days 0);
+      release = r .day;
+      deadline = day (r .day .0 + stringAt p (r .place) .d .0);
+      serves = k;
+    }
 
 -- k is the place in the list of the first of the releases
 unfoldable pub joinFrom : Plan → ℕ → ℕ → List Release → List Slot → List Slot

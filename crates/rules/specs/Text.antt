@@ -112,12 +112,12 @@ noReleases = record { count = 0; list = replicate 1000 noRelease }
 unfoldable pub planIn : List Line → Plan
 planIn [] = noPlan
 planIn (header ∷ lines) =
-    record
-      { n = nIn header
-      ; a = days (aIn header)
-      ; run = days (runIn header)
-      ; strings = filled 10 noString (map stringOf (take (nIn header) lines))
-      }
+    record {
+      n = nIn header;
+      a = days (aIn header);
+      run = days (runIn header);
+      strings = filled 10 noString (map stringOf (take (nIn header) lines));
+    }
 
 unfoldable pub releasesIn : List Line → Releases
 releasesIn [] = noReleases

@@ -1,6 +1,7 @@
 // The words of the desk: the plan, its releases, the answers, and the slots of a run.
 // Letters are document 01's: T, C, D and X of a string, n, A and N of a plan.
-use days::{Day, Length};
+use days::Day;
+use days::Length;
 
 // A battery string: least days between two releases, most working days of a job, days from release to deadline, and
 // whether its jobs may take the bank (1) or not (0).
@@ -59,7 +60,10 @@ pub struct Reading {
 
 // The verdict on a plan. A fail names the interval, the blocking and the demand there; pairs are those compared.
 pub enum Verdict {
-    Refused { fault: Fault, at: usize },
+    Refused {
+        fault: Fault,
+        at: usize,
+    },
     Overload,
     Fail {
         interval: Length,
@@ -67,7 +71,9 @@ pub enum Verdict {
         demand: Length,
         pairs: u32,
     },
-    Pass { pairs: u32 },
+    Pass {
+        pairs: u32,
+    },
 }
 
 // What the search finds: a permission set, in which place 1 is worth 1, place 2 is worth 2, place 3 is worth 4.
@@ -79,8 +85,14 @@ pub enum Assign {
 
 // How a run ends: at a miss, or clean, with the days of each kind.
 pub enum Outcome {
-    Refused { fault: Fault, at: usize },
-    Miss { day: Day, place: usize },
+    Refused {
+        fault: Fault,
+        at: usize,
+    },
+    Miss {
+        day: Day,
+        place: usize,
+    },
     Clean {
         work: Length,
         moving: Length,
