@@ -4,3 +4,4 @@ pub mod Least
 pub mod Jobs
 pub mod Lawful
 pub mod Powers
+pub mod Releases

@@ -1,0 +1,110 @@
+-- `bounds::releases::admitted` meets its contract: each test that ends it denies one of the facts that `admits` tests.
+-- Assumes nothing.
+use Prim.Native.Nat.{ℕ, _+_, _-_, _≤_}
+use mathlib.Core.Bool.{false}
+use mathlib.Core.Path.{_≡_, refl, sym, ap, _∙_}
+use native.Mathlib.Omega.{arith}
+use borrow.Author.Needs.{needs}
+use borrow.Author.Tests.{eq-eqb, ne-eqb}
+use lib.Dec.{eqb}
+use lib.ListN.{length, length-map, getD}
+use Rattle.rules.specs.declared.BatteryString.{BatteryString}
+use Rattle.rules.specs.declared.Plan.{Plan}
+use Rattle.rules.specs.Plan.{stringAt, noString}
+use Rattle.bounds.proofs.ByPlace.{stringAt-is, stringAt-out}
+use Rattle.bounds.proofs.Seen.{admits-not, admits-apart}
+use Rattle.bounds.proofs.releases.admitted.Statement.{statement}
+use Rattle.bounds.proofs.releases.admitted.Tie as tie
+
+-- C and T of the string at a place, as the array has them
+work-at : (p : Plan) (i : ℕ) → 1 ≤ i → i ≤ p .n → stringAt p i .c .0 ≡ getD (p .strings) (i - 1) noString .c .0
+work-at p i h k = ap (λ (s : BatteryString). s .c .0) (stringAt-is p i h k)
+
+period-at : (p : Plan) (i : ℕ) → 1 ≤ i → i ≤ p .n → stringAt p i .t .0 ≡ getD (p .strings) (i - 1) noString .t .0
+period-at p i h k = ap (λ (s : BatteryString). s .t .0) (stringAt-is p i h k)
+
+returns : tie.Need-returns
+returns c = sym (admits-not _ _ _ _ (λ h. omega arith))
+
+returns-2 : tie.Need-returns-2
+returns-2 c = sym (admits-not _ _ _ _ (λ h. omega arith))
+
+-- there is no eleventh string
+returns-3 : tie.Need-returns-3
+returns-3 c =
+    let start = c .before .before .before .before in
+    let p = start .args .p in
+    let i = start .args .r .place in
+    let ten : length (p .strings) ≡ 10 = simp length-map at (start .good .0 .1 .1 .1 .1 .1 .0 .1 .0 .1) in
+    let nothing : stringAt p i .c .0 ≡ 0 = ap (λ (s : BatteryString). s .c .0) (stringAt-out p i (omega arith)) in
+    sym (admits-not _ _ _ _ (λ h. omega arith))
+
+mul-s : tie.Need-mul-s
+mul-s c = search needs
+
+array-copy-out-s : tie.Need-array-copy-out-s
+array-copy-out-s c = search needs
+
+returns-4 : tie.Need-returns-4
+returns-4 c = sym (admits-not _ _ _ _ (λ h. omega arith))
+
+returns-5 : tie.Need-returns-5
+returns-5 c =
+    let g = c .before .before .before .before .before .before .before .before .before .args in
+    let work = work-at (g .p) (g .r .place) (omega arith) (omega arith) in
+    sym (admits-not _ _ _ _ (λ h. omega arith))
+
+returns-6 : tie.Need-returns-6
+returns-6 c = sym (admits-not _ _ _ _ (λ h. omega arith))
+
+returns-7 : tie.Need-returns-7
+returns-7 c = sym (admits-not _ _ _ _ (λ h. omega arith))
+
+returns-8 : tie.Need-returns-8
+returns-8 c =
+    let g = c .before .before .before .before .before .before .before .before .before .before .before .before .before .args in
+    let i = g .r .place in
+    let work = work-at (g .p) i (omega arith) (omega arith) in
+    sym (admits-apart (g .p) (g .latest) (g .last) (g .r) (omega arith) (omega arith) (omega arith) (omega arith) (omega arith) (omega arith) ∙ rw (eq-eqb (g .last) 0 (c .if8 .taken)))
+
+sub-result : tie.Need-sub-result
+sub-result c = search needs
+
+cast-result : tie.Need-cast-result
+cast-result c = search needs
+
+add-result : tie.Need-add-result
+add-result c = search needs
+
+cast-result-2 : tie.Need-cast-result-2
+cast-result-2 c = search needs
+
+returns-9 : tie.Need-returns-9
+returns-9 c =
+    let g = c .before .before .before .before .before .before .before .before .before .before .before .before .before .before .args in
+    let i = g .r .place in
+    let work = work-at (g .p) i (omega arith) (omega arith) in
+    let some : eqb (g .last) 0 ≡ false = ne-eqb (g .last) 0 (omega arith) in
+    sym
+    (admits-apart (g .p) (g .latest) (g .last) (g .r) (omega arith) (omega arith) (omega arith) (omega arith) (omega arith) (omega arith)
+    ∙ rw (some, period-at (g .p) i (omega arith) (omega arith)))
+
+pub admitted-spec : {M : Type 1} → statement M
+admitted-spec =
+    tie.close
+    (tie.spec
+    returns
+    returns-2
+    returns-3
+    mul-s
+    array-copy-out-s
+    returns-4
+    returns-5
+    returns-6
+    returns-7
+    returns-8
+    sub-result
+    cast-result
+    add-result
+    cast-result-2
+    returns-9)

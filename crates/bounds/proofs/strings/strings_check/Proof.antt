@@ -1,0 +1,95 @@
+-- `bounds::strings::strings_check` meets its contract: what is left to check, from the place reached on, gives what the whole gives.
+-- Assumes nothing.
+use Prim.Native.Nat.{_+_, _-_, _≤_, _<_}
+use mathlib.Core.Path.{_≡_, refl, sym, ap, _∙_}
+use native.Mathlib.Omega.{arith}
+use borrow.Author.Needs.{needs}
+use borrow.Author.Tests.{not-true, not-false}
+use lib.ListN.{length, take, drop, length-map}
+use Rattle.rules.specs.Plan.{stringsOf}
+use Rattle.rules.specs.Refusal.{stringsCheck}
+use Rattle.bounds.proofs.ByPlace.{take-min, stringsCheck-good, stringsCheck-bad, stringsCheck-end}
+use Rattle.bounds.proofs.strings.strings_check.Statement.{statement}
+use Rattle.bounds.proofs.strings.strings_check.Tie as tie
+
+abbrev Inv-loop : tie.InvT-loop
+Inv-loop n strings i₀ i =
+    (i ≤ n) × (n ≤ 10) × (length strings ≡ 10) × (stringsCheck (i + 1) (drop i (take n strings)) ≡ stringsCheck 1 (take n strings))
+
+abbrev μ-loop : tie.MeasureT-loop
+μ-loop n strings i₀ i = n - i
+
+counted-requires : tie.Need-counted-requires Inv-loop μ-loop
+counted-requires c κs = search needs
+
+loop-holds : tie.Need-loop-holds Inv-loop μ-loop
+loop-holds c = (omega arith, omega arith, simp length-map at (c .before .before .good .0 .1 .1 .1 .1 .1 .0 .1 .0 .1), refl)
+
+mul-s : tie.Need-mul-s Inv-loop μ-loop
+mul-s c = omega arith
+
+array-copy-out-s : tie.Need-array-copy-out-s Inv-loop μ-loop
+array-copy-out-s c = omega arith
+
+string-lawful-requires : tie.Need-string-lawful-requires Inv-loop μ-loop
+string-lawful-requires c κs = search needs
+
+add-t13 : tie.Need-add-t13 Inv-loop μ-loop
+add-t13 c = omega arith
+
+-- the strings that count are those of the plan
+counted : (c : tie.At-loop Inv-loop μ-loop) → take (c .before .before .counted .result) (c .before .before .before .args .p .strings) ≡ stringsOf (c .before .before .before .args .p)
+counted c =
+    let p = c .before .before .before .args .p in
+    ap (λ k. take k (p .strings)) (c .before .before .counted .ensures) ∙ take-min (p .n) 10 (p .strings) (c .loop .inv .2)
+
+returns : tie.Need-returns Inv-loop μ-loop
+returns c =
+    let at = c .before .before .before .before in
+    let p = at .before .before .before .args .p in
+    let n = at .before .before .counted .result in
+    let i = at .loop .i in
+    let fits : n ≤ length (p .strings) = omega arith in
+    let inside : i < n = omega arith in
+    sym (stringsCheck-bad (i + 1) n i (p .strings) inside fits (sym (c .before .string-lawful .ensures) ∙ not-true _ (c .if1 .taken))) ∙ at .loop .inv .3 ∙ ap (stringsCheck 1) (counted at)
+
+add-i : tie.Need-add-i Inv-loop μ-loop
+add-i c = omega arith
+
+loop-less : tie.Need-loop-less Inv-loop μ-loop
+loop-less c = omega arith
+
+loop-again : tie.Need-loop-again Inv-loop μ-loop
+loop-again c =
+    let at = c .before .before .before .before in
+    let p = at .before .before .before .args .p in
+    let n = at .before .before .counted .result in
+    let i = at .loop .i in
+    let fits : n ≤ length (p .strings) = omega arith in
+    let inside : i < n = omega arith in
+    (omega arith, omega arith, at .loop .inv .2, sym (stringsCheck-good (i + 1) n i (p .strings) inside fits (sym (c .before .string-lawful .ensures) ∙ not-false _ (c .if1 .left))) ∙ at .loop .inv .3)
+
+returns-2 : tie.Need-returns-2 Inv-loop μ-loop
+returns-2 c =
+    let at = c .before in
+    let p = at .before .before .before .args .p in
+    let n = at .before .before .counted .result in
+    sym (stringsCheck-end (at .loop .i + 1) n (at .loop .i) (p .strings) (c .loop-test .left)) ∙ at .loop .inv .3 ∙ ap (stringsCheck 1) (counted at)
+
+pub strings-check-spec : {M : Type 1} → statement M
+strings-check-spec =
+    tie.close
+    (tie.spec
+    Inv-loop
+    μ-loop
+    counted-requires
+    loop-holds
+    mul-s
+    array-copy-out-s
+    string-lawful-requires
+    add-t13
+    returns
+    add-i
+    loop-less
+    loop-again
+    returns-2)

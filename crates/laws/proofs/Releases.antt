@@ -1,0 +1,46 @@
+-- Laws of the check of a release list, and what it gives where it finds no fault.
+-- Assumes nothing.
+use Prim.Native.Nat.{ℕ, zero, suc, _≤_, _<_}
+use mathlib.Core.Path.{_≡_, refl, sym, ap, _∙_}
+use native.Mathlib.Omega.{arith}
+use lib.Dec.{ltb}
+use borrow.Author.Tests.{lt-ltb, le-ltb, ltb-false}
+use Rattle.rules.specs.declared.Plan.{Plan}
+use Rattle.rules.specs.declared.Releases.{Releases}
+use Rattle.rules.specs.declared.Fault.the-variants.{ReleaseTooMany, ReleaseUnlawful}
+use Rattle.rules.specs.declared.Checked.the-variants.{Lawful, Refused}
+use Rattle.rules.specs.Release.{releasesOf, firstUnlawful}
+use Rattle.rules.specs.Refusal.{then, refuseIf, planCheck, releasesCheck, runCheck}
+use Rattle.laws.proofs.Lawful.{LawfulPlan, planCheck-lawful, then-first, then-second, refuseIf-not}
+
+pub releasesCheck-many : (p : Plan) (rs : Releases) → 1000 < rs .count → releasesCheck p rs ≡ Refused ReleaseTooMany 1001
+unfolding releasesCheck
+releasesCheck-many p rs h = rw (lt-ltb 1000 (rs .count) h)
+
+pub releasesCheck-bad : (p : Plan) (rs : Releases) (k : ℕ) → rs .count ≤ 1000 → firstUnlawful p (releasesOf rs) ≡ k → 0 < k → releasesCheck p rs ≡ Refused ReleaseUnlawful k
+unfolding releasesCheck
+releasesCheck-bad p rs k h e low = rw (le-ltb 1000 (rs .count) h, e, lt-ltb 0 k low)
+
+pub releasesCheck-good : (p : Plan) (rs : Releases) → rs .count ≤ 1000 → firstUnlawful p (releasesOf rs) ≡ 0 → releasesCheck p rs ≡ Lawful
+unfolding releasesCheck
+releasesCheck-good p rs h e = rw (le-ltb 1000 (rs .count) h, e)
+
+-- what a lawful input of a run gives
+pub record LawfulRun (p : Plan) (rs : Releases) : Type 0 where
+  pub plan : LawfulPlan p
+  pub few : rs .count ≤ 1000
+  pub none-bad : firstUnlawful p (releasesOf rs) ≡ 0
+
+pub runCheck-lawful : (p : Plan) (rs : Releases) → runCheck p rs ≡ Lawful → LawfulRun p rs
+unfolding runCheck releasesCheck
+runCheck-lawful p rs h =
+    let bad = firstUnlawful p (releasesOf rs) in
+    let many = refuseIf (ltb 1000 (rs .count)) ReleaseTooMany 1001 in
+    let unlawful = refuseIf (ltb 0 bad) ReleaseUnlawful bad in
+    let list = then-second (planCheck p) (then many unlawful) h in
+    let none : bad ≤ 0 = ltb-false 0 bad (refuseIf-not (ltb 0 bad) ReleaseUnlawful bad (then-second many unlawful list)) in
+    record {
+      plan = planCheck-lawful p (then-first (planCheck p) (then many unlawful) h);
+      few = ltb-false 1000 (rs .count) (refuseIf-not (ltb 1000 (rs .count)) ReleaseTooMany 1001 (then-first many unlawful list));
+      none-bad = omega arith;
+    }
