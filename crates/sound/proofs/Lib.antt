@@ -1,0 +1,23 @@
+-- A plan that passes never misses a deadline. Modules stand in the order in which they build on each other; the theorems are in Clean, Answers and Served.
+pub mod Sums
+pub mod History
+pub mod Chosen
+pub mod Places
+pub mod Releases
+pub mod Joining
+pub mod Taking
+pub mod Using
+pub mod Holding
+pub mod Orderly
+pub mod Arriving
+pub mod Morning
+pub mod Account
+pub mod Asking
+pub mod Turn
+pub mod Keeping
+pub mod Closing
+pub mod Clean
+pub mod Answers
+pub mod Parts
+pub mod Progress
+pub mod Served

@@ -1,0 +1,207 @@
+-- What a lawful release list gives: each release is within the bounds, and two of one place are at least T days apart.
+--     str p j               the string with index j: the string of place j + 1
+--     Released rs j t       a release of the list is of the place with index j and of day t
+-- Assumes nothing.
+use Prim.Native.Nat.{ℕ, zero, suc, _+_, _-_, _≤_, _<_}
+use mathlib.Core.Path.{_≡_, sym, ap, _∙_}
+use mathlib.Core.Bool.{true, false, not, _&&_}
+use mathlib.Core.List.{List, [], _∷_}
+use native.Mathlib.Omega.{arith}
+use native.Mathlib.Decide.{decLe, ℕ-discrete}
+use native.Mathlib.Nat.{not-suc-le-zero, le-of-suc-le-suc}
+use borrow.Author.Tests.{ltb-true, ltb-false, eqb-false, not-true}
+use lib.Dec.{ltb, eqb}
+use lib.ListN.{length, getD, List·getD-eq-default}
+use Rattle.rules.specs.declared.BatteryString.{BatteryString}
+use Rattle.rules.specs.declared.Plan.{Plan}
+use Rattle.rules.specs.declared.Release.{Release}
+use Rattle.rules.specs.Plan.{inBounds, stringsOf, stringAt, noString}
+use Rattle.rules.specs.Release.{noRelease, tooClose, outOfOrder, releaseLawful, unlawfulFrom, firstUnlawful}
+use Rattle.laws.proofs.Lists.{All, all-map, by-bool, and-left, and-right}
+use Rattle.laws.proofs.Lawful.{inBounds-low, inBounds-high}
+
+abbrev pub str : Plan → ℕ → BatteryString
+str p j = getD (stringsOf p) j noString
+
+pub stringAt-suc : (p : Plan) (j : ℕ) → stringAt p (suc j) ≡ str p j
+stringAt-suc p j =
+    let e : suc j - 1 ≡ j = omega arith in
+    ap (λ i. getD (stringsOf p) i noString) e
+
+-- ---- One release
+
+pub record LawfulRelease (p : Plan) (r : Release) : Type 0 where
+  pub placePos : 1 ≤ r .place
+  pub needPos : 1 ≤ r .need .0
+  pub needMax : r .need .0 ≤ stringAt p (r .place) .c .0
+  pub early : r .day .0 < p .run .0
+  pub within : r .place ≤ length (stringsOf p)
+
+-- where no string is, no need is lawful
+string-there : (p : Plan) (i : ℕ) → 1 ≤ i → 1 ≤ stringAt p i .c .0 → i ≤ length (stringsOf p)
+string-there p i a c =
+    elim (decLe i (length (stringsOf p))) [
+      | yes h ↦ h
+      | no h ↦
+          let none : stringAt p i ≡ noString = List·getD-eq-default (stringsOf p) noString (omega arith) in
+          let zero-c : stringAt p i .c .0 ≡ 0 = ap (λ s. s .c .0) none in
+          absurd (omega arith)
+    ]
+
+-- the latest before r is no later, and r keeps T to its own place
+abbrev pub Keeps : Plan → Release → Release → Type 0
+Keeps p r q = (q .day .0 ≤ r .day .0) × (q .place ≡ r .place → q .day .0 + stringAt p (r .place) .t .0 ≤ r .day .0)
+
+-- each of seen keeps its distance to those listed before it
+abbrev pub Chain : Plan → List Release → Type 0
+Chain p [] = Unit {0}
+Chain p (q ∷ seen) = All (Keeps p q) seen × Chain p seen
+
+ordered-all : (p : Plan) (r : Release) (seen : List Release) → Chain p seen → outOfOrder r seen ≡ false
+    → All (λ q. q .day .0 ≤ r .day .0) seen
+unfolding outOfOrder
+ordered-all p r [] c h = tt
+ordered-all p r (q ∷ seen) c h =
+    let last : q .day .0 ≤ r .day .0 = ltb-false _ _ h in
+    (last, all-map (Keeps p q) (λ e. e .day .0 ≤ r .day .0) (λ e k. omega (arith, k .0)) seen (c .0))
+
+apart-all : (p : Plan) (t : ℕ) (r : Release) (seen : List Release) → Chain p seen → tooClose t r seen ≡ false
+    → All (λ q. q .place ≡ r .place → q .day .0 + t ≤ r .day .0) seen
+unfolding tooClose
+apart-all p t r [] c h = tt
+apart-all p t r (q ∷ seen) c h =
+    by-bool (eqb (q .place) (r .place))
+    (λ e.
+    let last : q .day .0 + t ≤ r .day .0 = ltb-false _ _ (rw e at h) in (
+      (λ s. last),
+      all-map (Keeps p q) (λ o. o .place ≡ r .place → o .day .0 + t ≤ r .day .0) (λ o k s. omega (arith, k .0)) seen (c .0),
+    ))
+    (λ e. ((λ s. absurd (eqb-false _ _ e s)), apart-all p t r seen (c .1) (rw e at h)))
+
+both-all : (P Q : Release → Type 0) (xs : List Release) → All P xs → All Q xs → All (λ x. P x × Q x) xs
+both-all P Q [] a b = tt
+both-all P Q (x ∷ xs) a b = ((a .0, b .0), both-all P Q xs (a .1) (b .1))
+
+pub releaseLawful-is : (p : Plan) (seen : List Release) (r : Release) → Chain p seen → releaseLawful p seen r ≡ true
+    → LawfulRelease p r × All (Keeps p r) seen
+unfolding releaseLawful
+releaseLawful-is p seen r c h =
+    let P = inBounds 1 (r .place) (p .n) in
+    let N = inBounds 1 (r .need .0) (stringAt p (r .place) .c .0) in
+    let D = ltb (r .day .0) (p .run .0) in
+    let O = not (outOfOrder r seen) in
+    let A = not (tooClose (stringAt p (r .place) .t .0) r seen) in
+    let apart : tooClose (stringAt p (r .place) .t .0) r seen ≡ false = not-true _ (and-right (P && N && D && O) A h) in
+    let pndo = and-left (P && N && D && O) A h in
+    let order : outOfOrder r seen ≡ false = not-true _ (and-right (P && N && D) O pndo) in
+    let pnd = and-left (P && N && D) O pndo in
+    let pn = and-left (P && N) D pnd in
+    let place : 1 ≤ r .place = inBounds-low 1 (r .place) (p .n) (and-left P N pn) in
+    let needLow : 1 ≤ r .need .0 = inBounds-low 1 (r .need .0) (stringAt p (r .place) .c .0) (and-right P N pn) in
+    let needHigh : r .need .0 ≤ stringAt p (r .place) .c .0 = inBounds-high 1 (r .need .0) (stringAt p (r .place) .c .0) (and-right P N pn) in (
+      record {
+        placePos = place;
+        needPos = needLow;
+        needMax = needHigh;
+        early = ltb-true _ _ (and-right (P && N) D pnd);
+        within = string-there p (r .place) place (omega arith);
+      },
+      both-all (λ q. q .day .0 ≤ r .day .0) (λ q. q .place ≡ r .place → q .day .0 + stringAt p (r .place) .t .0 ≤ r .day .0) seen
+          (ordered-all p r seen c order)
+          (apart-all p (stringAt p (r .place) .t .0) r seen c apart),
+    )
+
+-- ---- A list of releases, listed after those seen
+
+abbrev pub Spaced : Plan → List Release → List Release → Type 0
+Spaced p seen [] = Unit {0}
+Spaced p seen (r ∷ rs) = LawfulRelease p r × All (Keeps p r) seen × Spaced p (r ∷ seen) rs
+
+unlawfulFrom-spaced : (p : Plan) (seen : List Release) (k : ℕ) (rs : List Release) → 1 ≤ k → Chain p seen → unlawfulFrom p seen k rs ≡ 0
+    → Spaced p seen rs
+unfolding unlawfulFrom
+unlawfulFrom-spaced p seen k [] a c h = tt
+unlawfulFrom-spaced p seen k (r ∷ rs) a c h =
+    by-bool (releaseLawful p seen r)
+    (λ t.
+    let good = releaseLawful-is p seen r c t in
+    (good .0, good .1, unlawfulFrom-spaced p (r ∷ seen) (suc k) rs (omega arith) (good .1, c) (rw t at h)))
+    (λ f.
+    let now : k ≡ 0 = rw f at h in
+    absurd (omega arith))
+
+spaced-lawful : (p : Plan) (seen rs : List Release) → Spaced p seen rs → (m : ℕ) → m < length rs → LawfulRelease p (getD rs m noRelease)
+spaced-lawful p seen [] s m h = absurd (not-suc-le-zero h)
+spaced-lawful p seen (r ∷ rs) s zero h = s .0
+spaced-lawful p seen (r ∷ rs) s (suc m) h = spaced-lawful p (r ∷ seen) rs (s .2) m (le-of-suc-le-suc h)
+
+spaced-seen : (p : Plan) (seen rs : List Release) → Spaced p seen rs → (m : ℕ) → m < length rs → All (Keeps p (getD rs m noRelease)) seen
+spaced-seen p seen [] s m h = absurd (not-suc-le-zero h)
+spaced-seen p seen (r ∷ rs) s zero h = s .1
+spaced-seen p seen (r ∷ rs) s (suc m) h = spaced-seen p (r ∷ seen) rs (s .2) m (le-of-suc-le-suc h) .1
+
+spaced-keeps : (p : Plan) (seen rs : List Release) → Spaced p seen rs → (i m : ℕ) → i < m → m < length rs
+    → Keeps p (getD rs m noRelease) (getD rs i noRelease)
+spaced-keeps p seen [] s i m k h = absurd (not-suc-le-zero h)
+spaced-keeps p seen (r ∷ rs) s i zero k h = absurd (not-suc-le-zero k)
+spaced-keeps p seen (r ∷ rs) s zero (suc m) k h = spaced-seen p (r ∷ seen) rs (s .2) m (le-of-suc-le-suc h) .0
+spaced-keeps p seen (r ∷ rs) s (suc i) (suc m) k h =
+    spaced-keeps p (r ∷ seen) rs (s .2) i m (le-of-suc-le-suc k) (le-of-suc-le-suc h)
+
+-- ---- By index
+
+abbrev pub Released : List Release → ℕ → ℕ → Type 0
+Released rs j t = (m : ℕ) × (m < length rs) × (getD rs m noRelease .place ≡ suc j) × (getD rs m noRelease .day .0 ≡ t)
+
+-- the string of a release, by the index of its place
+pub release-string : (p : Plan) (rs : List Release) (j m : ℕ) → getD rs m noRelease .place ≡ suc j
+    → stringAt p (getD rs m noRelease .place) ≡ str p j
+release-string p rs j m e = ap (stringAt p) e ∙ stringAt-suc p j
+
+module _ (p : Plan) (rs : List Release) (lawful : firstUnlawful p rs ≡ 0) where
+  pub list-spaced : Spaced p [] rs
+  unfolding firstUnlawful
+  list-spaced = unlawfulFrom-spaced p [] 1 rs (omega arith) tt lawful
+
+  pub release-lawful : (m : ℕ) → m < length rs → LawfulRelease p (getD rs m noRelease)
+  release-lawful = spaced-lawful p [] rs list-spaced
+
+  -- two releases of one place, the earlier listed first, are T days apart
+  listed-apart : (j i m : ℕ) → i < m → m < length rs → getD rs i noRelease .place ≡ suc j → getD rs m noRelease .place ≡ suc j
+      → getD rs i noRelease .day .0 + str p j .t .0 ≤ getD rs m noRelease .day .0
+  listed-apart j i m k h a b =
+      let far = spaced-keeps p [] rs list-spaced i m k h .1 (a ∙ sym b) in
+      rw (release-string p rs j m b) at far
+
+  pub released-apart : (j t u : ℕ) → Released rs j t → Released rs j u → t < u → t + str p j .t .0 ≤ u
+  released-apart j t u a b h =
+      elim (decLe (suc (a .0)) (b .0)) [
+        | yes before ↦
+            let far = listed-apart j (a .0) (b .0) before (b .1) (a .2) (b .2) in
+            omega (arith, a .3, b .3)
+        | no after ↦
+            elim (ℕ-discrete (a .0) (b .0)) [
+              | yes same ↦
+                  let day-same : getD rs (a .0) noRelease .day .0 ≡ getD rs (b .0) noRelease .day .0 = ap (λ m. getD rs m noRelease .day .0) same in
+                  absurd (omega (arith, a .3, b .3))
+              | no other ↦
+                  let back = spaced-keeps p [] rs list-spaced (b .0) (a .0) (omega arith) (a .1) .0 in
+                  absurd (omega (arith, a .3, b .3))
+            ]
+      ]
+
+  -- a place has one release a day
+  pub released-once : (j t : ℕ) → 1 ≤ str p j .t .0 → (a b : Released rs j t) → a .0 ≡ b .0
+  released-once j t pos a b =
+      elim (ℕ-discrete (a .0) (b .0)) [
+        | yes same ↦ same
+        | no other ↦
+            elim (decLe (a .0) (b .0)) [
+              | yes before ↦
+                  let far = listed-apart j (a .0) (b .0) (omega arith) (b .1) (a .2) (b .2) in
+                  absurd (omega (arith, a .3, b .3))
+              | no after ↦
+                  let far = listed-apart j (b .0) (a .0) (omega arith) (a .1) (b .2) (a .2) in
+                  absurd (omega (arith, a .3, b .3))
+            ]
+      ]

@@ -1,0 +1,133 @@
+-- Job by job: in a run of a plan that passes, each release has, by its deadline, exactly its need in days of work, and the moving cost
+-- in moving days if it was the payer of its release day, else none; and no day is for it after.
+-- Assumes nothing.
+use Prim.Native.Nat.{ℕ, zero, suc, _+_, _-_, _≤_, _<_}
+use mathlib.Core.Path.{_≡_, refl, sym, ap, _∙_, subst}
+use mathlib.Core.Bool.{cond}
+use mathlib.Core.List.{List}
+use native.Mathlib.Omega.{arith}
+use native.Mathlib.Decide.{decLe}
+use lib.ListN.{length, getD}
+use Rattle.rules.specs.declared.Plan.{Plan}
+use Rattle.rules.specs.declared.Release.{Release}
+use Rattle.rules.specs.Count.{countOf}
+use Rattle.rules.specs.Plan.{stringsOf, stringAt}
+use Rattle.rules.specs.Release.{noRelease, firstUnlawful}
+use Rattle.rules.specs.Demand.{movingCost, Passes}
+use Rattle.rules.specs.Run.{left, given, spent, useOf, joined, taken, morning, stateAt, useOn, lateOn, history}
+use Rattle.laws.proofs.Lawful.{LawfulPlan}
+use Rattle.sound.specs.Served.{worksFor, movesFor, payerIn, payerOn, paid}
+use Rattle.sound.proofs.Chosen.{at}
+use Rattle.sound.proofs.Releases.{str, release-lawful}
+use Rattle.sound.proofs.Using.{spent-using}
+use Rattle.sound.proofs.Orderly.{live-if-left}
+use Rattle.sound.proofs.Arriving.{lawful-str, morning-orderly}
+use Rattle.sound.proofs.Morning.{fee, morning-place}
+use Rattle.sound.proofs.History.{history-next}
+use Rattle.sound.proofs.Clean.{Punctual, orderly-at, due-done, punctual}
+use Rattle.sound.proofs.Parts.{parts-left}
+use Rattle.sound.proofs.Progress.{Progress, toCome, serving, past, morning-progress, using-progress}
+
+module _ (p : Plan) (rs : List Release) (lawful : LawfulPlan p) (listed : firstUnlawful p rs ≡ 0)
+    (m j : ℕ) (h : m < length rs) (place : getD rs m noRelease .place ≡ suc j) where
+  -- the days for the release so far
+  abbrev works : ℕ → ℕ
+  works t = countOf (worksFor (suc m)) (history p rs t)
+
+  abbrev moves : ℕ → ℕ
+  moves t = countOf (movesFor (suc m)) (history p rs t)
+
+  -- what it pays
+  abbrev owed : ℕ
+  owed = fee p (payerOn p rs (getD rs m noRelease .day .0)) j
+
+  there : j < length (stringsOf p)
+  there = omega (arith, release-lawful p rs listed m h .within)
+
+  abbrev Sofar : ℕ → Type 0
+  Sofar t = Progress rs m j owed t (works t) (moves t) (at (stateAt p rs t) j)
+
+  progress-day : (t : ℕ) → Punctual p rs (suc t) → Sofar t → Sofar (suc t)
+  unfolding stateAt morning useOn lateOn payerOn
+  progress-day t so-far before =
+      let ss = stateAt p rs t in
+      let o = orderly-at p rs lawful listed t (λ i a. so-far i (omega arith)) in
+      let today = so-far t (omega arith) in
+      let js = joined p rs t ss in
+      let ks = taken p t js in
+      let owes : getD rs m noRelease .day .0 ≡ t → fee p (payerIn t js) j ≡ owed = λ e. ap (λ d. fee p (payerOn p rs d) j) (sym e) in
+      let mid =
+      morning-progress p rs listed m j h place (lawful-str p lawful j there .tPos) owed t (works t) (moves t) (payerIn t js) (at ss j) (at ks j)
+      owes (morning-place p rs lawful listed t ss o today j there) before in
+      let done =
+      using-progress p rs m j place owed (suc t) (works t) (moves t) ks (spent (given ks)) (useOf (given ks))
+      (morning-orderly p rs lawful listed t ss o today) (spent-using ks) mid in
+      rw (history-next p rs t (worksFor (suc m)), history-next p rs t (movesFor (suc m))) done
+
+  progress-at : (t : ℕ) → Punctual p rs t → Sofar t
+  unfolding history countOf
+  progress-at zero so-far = toCome (omega arith) refl refl
+  progress-at (suc t) so-far = progress-day t so-far (progress-at t (λ i a. so-far i (omega arith)))
+
+  module _ (passes : Passes p) where
+    -- by its deadline the slot has nothing left for it
+    nothing-owed : (e : ℕ) → getD rs m noRelease .day .0 + str p j .d .0 ≤ e → at (stateAt p rs e) j .serves ≡ suc m
+        → left (at (stateAt p rs e) j .job) ≡ 0
+    nothing-owed e due named =
+        let s = at (stateAt p rs e) j in
+        let so-far = punctual p rs lawful listed passes e in
+        elim (decLe 1 (left (s .job))) [
+          | yes some ↦
+              let l = live-if-left p rs e j s (orderly-at p rs lawful listed e so-far .sits j there) some in
+              let this : l .released .0 ≡ m = omega (arith, l .named) in
+              let day : getD rs (l .released .0) noRelease .day .0 ≡ getD rs m noRelease .day .0 = ap (λ i. getD rs i noRelease .day .0) this in
+              due-done p rs lawful listed passes e so-far j there (omega (arith, l .released .3, l .due))
+          | no none ↦ omega arith
+        ]
+
+    served-by : (e : ℕ) → getD rs m noRelease .day .0 + str p j .d .0 ≤ e → Sofar e
+        → (works e ≡ getD rs m noRelease .need .0) × (moves e ≡ owed)
+    served-by e due (toCome before w v) = absurd (omega (arith, lawful-str p lawful j there .dPos))
+    served-by e due (serving before named w v) =
+        let s = at (stateAt p rs e) j in
+        let none = nothing-owed e due named in
+        let parts = parts-left (s .job) in
+        (omega arith, omega arith)
+    served-by e due (past before named w v) = (w, v)
+
+-- what the k-th release pays, by its place
+paid-fee : (p : Plan) (rs : List Release) (m j : ℕ) → getD rs m noRelease .place ≡ suc j
+    → fee p (payerOn p rs (getD rs m noRelease .day .0)) j ≡ cond (paid p rs (suc m)) (movingCost p (str p j)) 0
+unfolding paid
+paid-fee p rs m j place =
+    let index : suc m - 1 ≡ m = omega arith in
+    rw (index, place)
+
+module _ (p : Plan) (rs : List Release) (lawful : LawfulPlan p) (listed : firstUnlawful p rs ≡ 0) (passes : Passes p) where
+  -- the release with index m
+  served-index : (m e : ℕ) → m < length rs → getD rs m noRelease .day .0 + stringAt p (getD rs m noRelease .place) .d .0 ≤ e
+      → (countOf (worksFor (suc m)) (history p rs e) ≡ getD rs m noRelease .need .0)
+      × (countOf (movesFor (suc m)) (history p rs e) ≡ cond (paid p rs (suc m)) (movingCost p (stringAt p (getD rs m noRelease .place))) 0)
+  served-index m e h due =
+      let r = getD rs m noRelease in
+      let j = r .place - 1 in
+      let place : r .place ≡ suc j = omega (arith, release-lawful p rs listed m h .placePos) in
+      let string-is : stringAt p (r .place) ≡ str p j = refl in
+      let so-far = progress-at p rs lawful listed m j h place e (punctual p rs lawful listed passes e) in
+      let done = served-by p rs lawful listed m j h place passes e due so-far in
+      (done .0, done .1 ∙ paid-fee p rs m j place)
+
+  -- the k-th release, in the history up to any day e from its deadline on. Where e is at most N this is the history of the run; after it
+  -- the definition goes on with no further release.
+  pub served : (k e : ℕ) → 1 ≤ k → k ≤ length rs
+      → getD rs (k - 1) noRelease .day .0 + stringAt p (getD rs (k - 1) noRelease .place) .d .0 ≤ e
+      → (countOf (worksFor k) (history p rs e) ≡ getD rs (k - 1) noRelease .need .0)
+      × (countOf (movesFor k) (history p rs e) ≡ cond (paid p rs k) (movingCost p (stringAt p (getD rs (k - 1) noRelease .place))) 0)
+  served k e low high due =
+      let number : suc (k - 1) ≡ k = omega arith in
+      subst
+      (λ n.
+      (countOf (worksFor n) (history p rs e) ≡ getD rs (k - 1) noRelease .need .0)
+      × (countOf (movesFor n) (history p rs e) ≡ cond (paid p rs n) (movingCost p (stringAt p (getD rs (k - 1) noRelease .place))) 0))
+      number
+      (served-index (k - 1) e (omega arith) due)
