@@ -1,16 +1,20 @@
 -- Laws of the check of a release list, and what it gives where it finds no fault.
 -- Assumes nothing.
-use Prim.Native.Nat.{ℕ, zero, suc, _≤_, _<_}
+use Prim.Native.Nat.{ℕ, zero, suc, _+_, _≤_, _<_}
+use mathlib.Core.List.{List, [], _∷_}
+use lib.ListN.{length}
 use mathlib.Core.Path.{_≡_, refl, sym, ap, _∙_}
 use native.Mathlib.Omega.{arith}
 use lib.Dec.{ltb}
 use borrow.Author.Tests.{lt-ltb, le-ltb, ltb-false}
 use Rattle.rules.specs.declared.Plan.{Plan}
+use Rattle.rules.specs.declared.Release.{Release}
 use Rattle.rules.specs.declared.Releases.{Releases}
 use Rattle.rules.specs.declared.Fault.the-variants.{ReleaseTooMany, ReleaseUnlawful}
 use Rattle.rules.specs.declared.Checked.the-variants.{Lawful, Refused}
-use Rattle.rules.specs.Release.{releasesOf, firstUnlawful}
+use Rattle.rules.specs.Release.{releasesOf, releaseLawful, unlawfulFrom, firstUnlawful}
 use Rattle.rules.specs.Refusal.{then, refuseIf, planCheck, releasesCheck, runCheck}
+use Rattle.laws.proofs.Lists.{by-bool}
 use Rattle.laws.proofs.Lawful.{LawfulPlan, planCheck-lawful, then-first, then-second, refuseIf-not}
 
 pub releasesCheck-many : (p : Plan) (rs : Releases) → 1000 < rs .count → releasesCheck p rs ≡ Refused ReleaseTooMany 1001
@@ -44,3 +48,15 @@ runCheck-lawful p rs h =
       few = ltb-false 1000 (rs .count) (refuseIf-not (ltb 1000 (rs .count)) ReleaseTooMany 1001 (then-first many unlawful list));
       none-bad = omega arith;
     }
+
+-- the place that a check names lies in the list
+pub unlawfulFrom-le : (p : Plan) (seen : List Release) (k : ℕ) (rs : List Release) → unlawfulFrom p seen k rs ≤ k + length rs
+unfolding unlawfulFrom
+unlawfulFrom-le p seen k [] = omega arith
+unlawfulFrom-le p seen k (r ∷ rs) =
+    let later = unlawfulFrom-le p (r ∷ seen) (suc k) rs in
+    by-bool (releaseLawful p seen r) (λ t. rw t (omega arith)) (λ e. rw e (omega arith))
+
+pub firstUnlawful-le : (p : Plan) (rs : List Release) → firstUnlawful p rs ≤ 1 + length rs
+unfolding firstUnlawful
+firstUnlawful-le p rs = unlawfulFrom-le p [] 1 rs
