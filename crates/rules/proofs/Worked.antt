@@ -30,6 +30,9 @@ use Rattle.rules.specs.Search.{permit, withSet, setPasses, setsOf, order
 use Rattle.rules.specs.Release.{noRelease, tooClose, outOfOrder, releaseLawful, unlawfulFrom, firstUnlawful}
 use Rattle.rules.specs.Run.{chosen, lateAt, newSlot, joinFrom, joined, holder, payer, taken, nextUp, given, useOf, spent, morning, stateAt, useOn, lateOn, history, daysOf, missDay, runOf}
 use Rattle.rules.specs.Refusal.{countCheck, numbersCheck, stringsCheck, multipleCheck, planCheck, setCheck, releasesCheck, runCheck, verdictAnswer, setAnswer, searchAnswer, runAnswer}
+use Rattle.rules.specs.Answer.{answerOf}
+use Rattle.rules.specs.Answer as answers
+use Rattle.rules.specs.Lines.{bytesOf, decimalIn, decimal, refusedLine, verdictLine, assignLine, outcomeLine, linesFor}
 use Rattle.rules.specs.Text.{Line, before, linesOf, digitOf, wellFormed, pairsOf, frameOf, numberFrom, fieldAt, nIn, aIn, runIn, stringOf, releaseOf, filled, planIn, releasesIn, frameCheck, headerCheck, stringLineCheck, stringLinesCheck, releaseLineCheck, releaseLinesCheck, bodyCheck, linesCheck, textCheck, lawfulReading, readingOf}
 
 -- ---- Writing plans and texts down
@@ -103,12 +106,13 @@ pub data Question : Type 0 where
   verdict-with : Plan → ℕ → Question
   search : Plan → Question
   run-with : Plan → ℕ → List Release → Question
-  file-verdict file-search file-run : List ℕ → Question
+  file : List ℕ → Question
 
 pub data Answer : Type 0 where
   verdict : Verdict → Answer
   assign : Assign → Answer
   run : Outcome → Answer
+  written : List ℕ → Answer
 
 pub record Row : Type 0 where
   pub asked : Question
@@ -118,9 +122,7 @@ unfoldable pub answered : Question → Answer
 answered (verdict-with p m) = verdict (setAnswer p m)
 answered (search p) = assign (searchAnswer p)
 answered (run-with p m rs) = run (runAnswer (withSet p m) (releases rs))
-answered (file-verdict text) = verdict (verdictAnswer (readingOf text .plan))
-answered (file-search text) = assign (searchAnswer (readingOf text .plan))
-answered (file-run text) = run (runAnswer (readingOf text .plan) (readingOf text .releases))
+answered (file text) = written (linesFor (answerOf text))
 
 unfoldable pub fails : ℕ → ℕ → ℕ → ℕ → Answer
 fails l b d k = verdict (Fail (days l) (days b) (days d) k)
@@ -144,9 +146,10 @@ table =
     ∷ row (verdict-with nine 1) (verdict Overload)  -- P9
     ∷ row (verdict-with nine 0) (verdict (Pass 3))  -- P9
     ∷ row (verdict-with ten 0) (verdict (Pass 1))  -- P10
-    ∷ row (file-verdict sample) (verdict (Pass 44))
-    ∷ row (file-search sample) (assign (Takers 1))
-    ∷ row (file-run sample) (clean 8 1 11)
+    ∷ row (file sample) (written (bytesOf "verdict pass pairs 44\nassign 1\nrun clean work 8 move 1 idle 11\n"))
+    -- its second string with T 1001
+    ∷ row (file (line 18 0x010102000100000014 ++ line 16 0x0201000a00030005 ++ line 16 0x020003e90005000a)) (written (bytesOf "refused 5 line 3\n"))
+    ∷ row (file []) (written (bytesOf "refused 3 line 1\n"))
     -- equal deadlines never take the bank
     ∷ row (run-with level 2 (release 0 1 5 ∷ release 1 2 3 ∷ [])) (clean 8 0 12)
     -- all releases of a day join before the bank is given: the later one in the list is due first
@@ -167,4 +170,5 @@ unfolding
     countCheck numbersCheck stringsCheck multipleCheck planCheck setCheck releasesCheck runCheck verdictAnswer setAnswer searchAnswer runAnswer
     before linesOf digitOf wellFormed pairsOf frameOf numberFrom fieldAt nIn aIn runIn stringOf releaseOf planIn releasesIn
     frameCheck headerCheck stringLineCheck stringLinesCheck releaseLineCheck releaseLinesCheck bodyCheck linesCheck textCheck lawfulReading readingOf
+    answers.answered answerOf bytesOf decimalIn decimal refusedLine verdictLine assignLine outcomeLine linesFor
 worked = refl

@@ -1,4 +1,4 @@
--- The rules of document 01, in its order. Read: Plan, Demand, Verdict, Search, Release, Run, Refusal, Text.
+-- The rules of document 01, in its order. Read: Plan, Demand, Verdict, Search, Release, Run, Refusal, Text, Answer, Lines.
 pub mod Count
 pub mod Plan
 pub mod Demand
@@ -8,3 +8,5 @@ pub mod Release
 pub mod Run
 pub mod Refusal
 pub mod Text
+pub mod Answer
+pub mod Lines

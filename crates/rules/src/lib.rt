@@ -100,6 +100,19 @@ pub enum Outcome {
     },
 }
 
+// All that is answered for a plan file: its refusal, or the three answers.
+pub enum Answer {
+    Refused {
+        fault: Fault,
+        at: usize,
+    },
+    Answered {
+        verdict: Verdict,
+        assign: Assign,
+        outcome: Outcome,
+    },
+}
+
 // The job of a slot, with the days of work and of moving that are left.
 pub enum Job {
     Empty,

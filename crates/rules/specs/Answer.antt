@@ -1,0 +1,19 @@
+-- All that is answered for a plan file (document 01, "Frames of the plan file"): its refusal, or verdict, search and run.
+--     answerOf text         the answer for a text
+-- The verdict and the run use the X in the plan, not the set found; all three answers are given whatever the verdict is. Assumes nothing.
+use Prim.Native.Nat.{ℕ}
+use mathlib.Core.List.{List}
+use Rattle.rules.specs.declared.Checked.{Checked}
+use Rattle.rules.specs.declared.Checked.the-variants as checked
+use Rattle.rules.specs.declared.Reading.{Reading}
+use Rattle.rules.specs.declared.Answer.{Answer}
+use Rattle.rules.specs.declared.Answer.the-variants.{Refused, Answered}
+use Rattle.rules.specs.Refusal.{verdictAnswer, searchAnswer, runAnswer}
+use Rattle.rules.specs.Text.{readingOf}
+
+unfoldable pub answered : Checked → Reading → Answer
+answered checked.Lawful r = Answered (verdictAnswer (r .plan)) (searchAnswer (r .plan)) (runAnswer (r .plan) (r .releases))
+answered (checked.Refused f at) r = Refused f at
+
+unfoldable pub answerOf : List ℕ → Answer
+answerOf text = answered (readingOf text .checked) (readingOf text)
