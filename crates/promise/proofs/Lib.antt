@@ -1,0 +1,3 @@
+-- The user's demands, over the answers.
+pub mod ReadLawful
+pub mod NeverMisses

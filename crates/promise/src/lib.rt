@@ -1,0 +1,1 @@
+// No code: the user's demands over the answers that the code gives. See proofs/.
