@@ -1,0 +1,150 @@
+// A plain C peer of the verdict and the search (document 01), and a clock for both.
+#include <stdint.h>
+#include <stdio.h>
+#include <stdlib.h>
+#include <string.h>
+#include <time.h>
+
+typedef struct { uint32_t t, c, d, x; } String;
+typedef struct { uint32_t n, a, run; String s[10]; } Plan;
+
+uint64_t entry_verdict(size_t n, const uint32_t *numbers, size_t count);
+uint64_t entry_search(size_t n, const uint32_t *numbers, size_t count);
+
+static uint32_t gcd(uint32_t a, uint32_t b) { while (b) { uint32_t r = a % b; a = b; b = r; } return a; }
+
+static uint32_t multiple(const Plan *p) {
+    uint64_t h = 1;
+    for (uint32_t i = 0; i < p->n; i++) { h = h / gcd(h, p->s[i].t) * p->s[i].t; if (h > 100000) return 100001; }
+    return h;
+}
+
+static int lawful(const Plan *p) {
+    if (p->n < 1 || p->n > 10 || p->a > 1000 || p->run < 1 || p->run > 1000000) return 0;
+    for (uint32_t i = 0; i < p->n; i++) {
+        const String *s = &p->s[i];
+        if (s->t < 1 || s->t > 1000 || s->d < 1 || s->d > s->t || s->c < 1 || s->c > s->d || s->x > 1) return 0;
+    }
+    return multiple(p) <= 100000;
+}
+
+static uint32_t hold(const Plan *p, const String *s) { return s->c + p->a * s->x; }
+static uint32_t jobs(const String *s, uint32_t w) { return w < s->d ? 0 : (w - s->d) / s->t + 1; }
+
+static uint32_t demand(const Plan *p, uint32_t l, uint32_t b) {
+    uint32_t sum = b;
+    for (uint32_t i = 0; i < p->n; i++) {
+        const String *s = &p->s[i];
+        sum += s->x ? jobs(s, l - b) * hold(p, s) : jobs(s, l) * s->c;
+    }
+    return sum;
+}
+
+static uint32_t limit(const Plan *p, uint32_t first, uint32_t last, uint32_t l) {
+    if (l < first || l >= last) return 0;
+    uint32_t most = 0;
+    for (uint32_t i = 0; i < p->n; i++) if (l < p->s[i].d && hold(p, &p->s[i]) > most) most = hold(p, &p->s[i]);
+    return l < most ? l : most;
+}
+
+static uint64_t judged(const Plan *p, uint32_t h) {
+    uint32_t load = 0, first = p->s[0].d, last = 0, pairs = 0;
+    for (uint32_t i = 0; i < p->n; i++) {
+        const String *s = &p->s[i];
+        load += hold(p, s) * (h / s->t);
+        if (s->d < first) first = s->d;
+        if (s->d > last) last = s->d;
+    }
+    if (h < load) return 1;
+    for (uint32_t l = 1; l < last + h; l++) {
+        uint32_t top = limit(p, first, last, l);
+        for (uint32_t b = 0; b <= top; b++) {
+            pairs++;
+            if (l < demand(p, l, b)) return (uint64_t)pairs * 4 + 2;
+        }
+    }
+    return (uint64_t)pairs * 4 + 3;
+}
+
+static uint64_t peer_verdict(const Plan *p) { return lawful(p) ? judged(p, multiple(p)) : 0; }
+
+static uint64_t peer_search(const Plan *p) {
+    if (!lawful(p)) return 0;
+    uint32_t h = multiple(p);
+    for (uint32_t k = 0; k <= p->n; k++)
+        for (uint32_t m = 0; m < 1u << p->n; m++) {
+            if (__builtin_popcount(m) != (int)k) continue;
+            Plan q = *p;
+            for (uint32_t i = 0; i < q.n; i++) q.s[i].x = m >> i & 1;
+            if (judged(&q, h) % 4 == 3) return (uint64_t)m * 2 + 2;
+        }
+    return 1;
+}
+
+static void numbers_of(const Plan *p, uint32_t *v) {
+    v[0] = p->n; v[1] = p->a; v[2] = p->run;
+    memcpy(v + 3, p->s, sizeof p->s);
+}
+
+static double now(void) { struct timespec t; clock_gettime(CLOCK_MONOTONIC, &t); return t.tv_sec + t.tv_nsec * 1e-9; }
+
+static void clocked(const char *name, const Plan *p, int searching) {
+    uint32_t v[43];
+    numbers_of(p, v);
+    double best_peer = 1e9, best_ours = 1e9;
+    uint64_t peer = 0, ours = 0;
+    for (int round = 0; round < 5; round++) {
+        double a = now();
+        peer = searching ? peer_search(p) : peer_verdict(p);
+        double b = now();
+        ours = searching ? entry_search(p->n, v, 43) : entry_verdict(p->n, v, 43);
+        double c = now();
+        if (b - a < best_peer) best_peer = b - a;
+        if (c - b < best_ours) best_ours = c - b;
+    }
+    printf("%-34s peer %9.3f ms  ours %9.3f ms  ratio %5.2f  %s (%llu)\n", name, best_peer * 1e3, best_ours * 1e3, best_ours / best_peer,
+        peer == ours ? "same" : "DIFFERENT", (unsigned long long)ours);
+}
+
+static void random_plans(int count) {
+    int bad = 0, kinds[4] = {0};
+    srand(7);
+    for (int k = 0; k < count; k++) {
+        Plan p = {0};
+        uint32_t v[43];
+        p.n = 1 + rand() % 4; p.a = rand() % 4; p.run = 20;
+        for (uint32_t i = 0; i < 10; i++) {
+            String *s = &p.s[i];
+            s->t = 1 + rand() % 24; s->d = 1 + rand() % s->t; s->c = 1 + rand() % (1 + s->d / 3); s->x = rand() % 2;
+        }
+        numbers_of(&p, v);
+        uint64_t a = peer_verdict(&p), b = entry_verdict(p.n, v, 43);
+        bad += a != b || peer_search(&p) != entry_search(p.n, v, 43);
+        kinds[a % 4]++;
+    }
+    printf("%d random plans: %d differ (refused %d, overload %d, fail %d, pass %d)\n", count, bad, kinds[0], kinds[1], kinds[2], kinds[3]);
+}
+
+int main(void) {
+    random_plans(20000);
+    // a blocker of 900 days, nine short strings that may take the bank
+    Plan blocked = {10, 0, 1000, {{1000, 900, 1000, 0}, {768, 1, 10, 1}, {960, 1, 20, 1}, {640, 1, 30, 1}, {500, 1, 40, 1}, {800, 1, 50, 1},
+        {750, 1, 60, 1}, {600, 1, 70, 1}, {480, 1, 80, 1}, {400, 1, 90, 1}}};
+    clocked("verdict, 590,000 pairs", &blocked, 0);
+    // nobody may take it: every string asks by the interval alone
+    Plan kept = {10, 0, 1000, {{1000, 90, 1000, 0}, {768, 60, 768, 0}, {960, 90, 960, 0}, {640, 60, 640, 0}, {500, 40, 500, 0}, {800, 70, 800, 0},
+        {750, 60, 750, 0}, {600, 50, 600, 0}, {480, 40, 480, 0}, {400, 30, 400, 0}}};
+    clocked("verdict, no taker", &kept, 0);
+    clocked("search, ends at set 0", &kept, 1);
+    clocked("search, ends at set 1022", &blocked, 1);
+    Plan late = {10, 0, 1000, {{1000, 900, 1000, 0}, {768, 1, 768, 0}, {1000, 1, 899, 0}, {1000, 1, 898, 0}, {1000, 1, 897, 0}, {1000, 1, 896, 0},
+        {960, 1, 895, 0}, {960, 1, 894, 0}, {960, 1, 893, 0}, {960, 1, 892, 0}}};
+    clocked("search, late sets fail late", &late, 1);
+    Plan none = {10, 5, 1000, {{1000, 400, 1000, 0}, {768, 40, 391, 0}, {1000, 40, 392, 0}, {1000, 40, 393, 0}, {1000, 40, 394, 0}, {1000, 40, 395, 0},
+        {960, 40, 396, 0}, {960, 40, 397, 0}, {960, 40, 398, 0}, {960, 40, 399, 0}}};
+    clocked("search, none of 1,024", &none, 1);
+    Plan worked = {10, 5, 1000, {{1000, 400, 1000, 0}, {768, 60, 391, 0}, {1000, 60, 392, 0}, {1000, 60, 393, 0}, {1000, 60, 394, 0}, {1000, 60, 395, 0},
+        {960, 60, 396, 0}, {960, 60, 397, 0}, {960, 60, 398, 0}, {960, 60, 399, 0}}};
+    clocked("search, none by work alone", &worked, 1);
+    return 0;
+}

@@ -1,0 +1,161 @@
+-- What the code holds as the days pass, and why a day keeps it.
+--     Standing p rs t slots next tally      at the start of day t: the slots and the tally are the definition's, no job was late,
+--                                           and the releases before next are those of the days before t
+--     Joining p rs t from slots next        in step 2 of day t: with the releases from next on still to join, the slots become those
+--                                           that step 2 makes; where none has joined since from, they are those of the morning
+--     Joined p rs t from slots next         after step 2
+-- Assumes nothing.
+use Prim.Native.Nat.{ℕ, _+_, _-_, _≤_, _<_}
+use mathlib.Core.Path.{_≡_, sym, ap, _∙_}
+use mathlib.Core.List.{List, map}
+use native.Mathlib.Omega.{arith}
+use native.Mathlib.Numerals.{add-one}
+use native.Mathlib.Decide.{ℕ-discrete}
+use native.Mathlib.Nat.{le-refl}
+use lib.ListN.{length, getD, take, drop, set, length-drop}
+use lib.Seq.{take-set-lt, getD-drop}
+use Rattle.days.specs.Days.{days}
+use Rattle.rules.specs.declared.Plan.{Plan}
+use Rattle.rules.specs.declared.Release.{Release}
+use Rattle.rules.specs.declared.Slot.{Slot}
+use Rattle.rules.specs.Plan.{stringsOf}
+use Rattle.rules.specs.Release.{noRelease}
+use Rattle.rules.specs.Run.{emptySlot, lateAt, newSlot, joinFrom, joined, taken, given, useOf, spent, morning, stateAt, useOn, lateOn}
+use Rattle.run.specs.declared.day.Evening.{Evening}
+use Rattle.run.specs.declared.tally.Tally.{Tally}
+use Rattle.run.specs.Tally.{addedTo, tallyOf}
+use Rattle.run.specs.Day.{EndedOn}
+use Rattle.run.proofs.Joining.{dayAt, joinFrom-none, joinFrom-drop, joinFrom-here}
+use Rattle.run.proofs.State.{stateAt-old, taken-quiet}
+use Rattle.run.proofs.Counting.{tallyOf-start, tallyOf-more}
+
+pub record Standing (p : Plan) (rs : List Release) (t : ℕ) (slots : List Slot) (next : ℕ) (tally : Tally) : Type 0 where
+  pub state : take (p .n) slots ≡ stateAt p rs t
+  pub clean : (i : ℕ) → i < t → lateOn p rs i ≡ 0
+  pub count : tally ≡ tallyOf p rs t
+  pub within : next ≤ length rs
+  pub passed : (i : ℕ) → i < next → dayAt rs i < t
+  pub coming : (i : ℕ) → next ≤ i → i < length rs → t ≤ dayAt rs i
+
+pub record Joining (p : Plan) (rs : List Release) (t from : ℕ) (slots : List Slot) (next : ℕ) : Type 0 where
+  pub pending : joinFrom p t (next + 1) (drop next rs) (take (p .n) slots) ≡ joined p rs t (stateAt p rs t)
+  pub since : from ≤ next
+  pub within : next ≤ length rs
+  pub passed : (i : ℕ) → i < next → dayAt rs i ≤ t
+  pub coming : (i : ℕ) → next ≤ i → i < length rs → t ≤ dayAt rs i
+  pub quiet : next ≤ from → take (p .n) slots ≡ stateAt p rs t
+
+pub record Joined (p : Plan) (rs : List Release) (t from : ℕ) (slots : List Slot) (next : ℕ) : Type 0 where
+  pub state : take (p .n) slots ≡ joined p rs t (stateAt p rs t)
+  pub within : next ≤ length rs
+  pub passed : (i : ℕ) → i < next → dayAt rs i ≤ t
+  pub coming : (i : ℕ) → next ≤ i → i < length rs → t < dayAt rs i
+  pub quiet : next ≤ from → take (p .n) slots ≡ stateAt p rs t
+
+module _ (p : Plan) (rs : List Release) where
+  -- day 0
+  pub standing-start : (slots : List Slot) (tally : Tally) → take (p .n) slots ≡ map emptySlot (stringsOf p)
+      → tally ≡ record { work = days 0; moving = days 0; idle = days 0 } → Standing p rs 0 slots 0 tally
+  unfolding stateAt
+  standing-start slots tally first none =
+      record {
+        state = first;
+        clean = λ i h. absurd (omega arith);
+        count = none ∙ sym (tallyOf-start p rs);
+        within = omega arith;
+        passed = λ i h. absurd (omega arith);
+        coming = λ i h k. omega arith;
+      }
+
+  -- step 1
+  pub standing-late : (t : ℕ) (slots : List Slot) (next : ℕ) (tally : Tally) → Standing p rs t slots next tally
+      → lateAt t (take (p .n) slots) ≡ lateOn p rs t
+  unfolding lateOn
+  standing-late t slots next tally s = ap (lateAt t) (s .state)
+
+  -- step 2 starts
+  pub joining-start : (t : ℕ) (slots : List Slot) (next : ℕ) (tally : Tally) → Standing p rs t slots next tally
+      → Joining p rs t next slots next
+  unfolding joined
+  joining-start t slots next tally s =
+      record {
+        pending =
+            rw (s .state) (sym (joinFrom-drop p t next 1 rs (stateAt p rs t) (λ i h l e. omega (arith, s .passed i h))));
+        since = le-refl next;
+        within = s .within;
+        passed = λ i h. omega (arith, s .passed i h);
+        coming = s .coming;
+        quiet = λ h. s .state;
+      }
+
+  -- the release at next is of today
+  pub joining-more : (t from : ℕ) (slots : List Slot) (next : ℕ) (r : Release) → r ≡ getD rs next noRelease → 1 ≤ r .place → r .place ≤ p .n
+      → next < length rs → r .day .0 ≡ t → Joining p rs t from slots next
+      → Joining p rs t from (set slots (r .place - 1) (newSlot p r (next + 1))) (next + 1)
+  joining-more t from slots next r read low high room today j =
+      record {
+        pending =
+            let here = joinFrom-here p t next rs (take (p .n) slots) room (ap (λ q. q .day .0) (sym read) ∙ today) in
+            let mine = rw (← read) at here in
+            rw (take-set-lt (p .n) slots (r .place - 1) (newSlot p r (next + 1)) (omega arith)) (sym mine ∙ j .pending);
+        since = omega (arith, j .since);
+        within = omega arith;
+        passed =
+            λ i h.
+            elim (ℕ-discrete i next) [ yes same ↦ rw same (omega (arith, ap (λ q. q .day .0) read)) | no before ↦ j .passed i (omega arith) ];
+        coming = λ i h l. j .coming i (omega arith) l;
+        quiet = λ h. absurd (omega (arith, j .since));
+      }
+
+  -- no release is left
+  pub joined-last : (t from : ℕ) (slots : List Slot) (next : ℕ) → length rs ≤ next → Joining p rs t from slots next
+      → Joined p rs t from slots next
+  joined-last t from slots next end j =
+      record {
+        state = sym (joinFrom-none p t (next + 1) (drop next rs) (take (p .n) slots) (λ i h e. omega (arith, simp length-drop at h))) ∙ j .pending;
+        within = j .within;
+        passed = j .passed;
+        coming = λ i h l. absurd (omega arith);
+        quiet = j .quiet;
+      }
+
+  -- the release at next is of a later day, and so are those after it
+  pub joined-before : (t from : ℕ) (slots : List Slot) (next : ℕ) → ((i k : ℕ) → i ≤ k → k < length rs → dayAt rs i ≤ dayAt rs k)
+      → next < length rs → (dayAt rs next ≡ t → ⊥) → Joining p rs t from slots next → Joined p rs t from slots next
+  joined-before t from slots next sorted room other j =
+      let later : t < dayAt rs next = omega (arith, j .coming next (le-refl next) room) in
+      record {
+        state =
+            sym (joinFrom-none p t (next + 1) (drop next rs) (take (p .n) slots)
+            (λ i h e.
+            let far : next + i < length rs = omega (arith, simp length-drop at h) in
+            let same : dayAt rs (next + i) ≡ t = ap (λ q. q .day .0) (sym (getD-drop next rs i noRelease)) ∙ e in
+            omega (arith, sorted next (next + i) (omega arith) far)))
+            ∙ j .pending;
+        within = j .within;
+        passed = j .passed;
+        coming = λ i h l. omega (arith, sorted next i h l);
+        quiet = j .quiet;
+      }
+
+  -- where no release joined, step 3 changes nothing
+  pub joined-quiet : (t from : ℕ) (slots : List Slot) (next : ℕ) → Joined p rs t from slots next → next ≤ from
+      → taken p t (take (p .n) slots) ≡ take (p .n) slots
+  joined-quiet t from slots next j h = rw (j .quiet h) (taken-quiet p t (stateAt p rs t) (stateAt-old p rs t))
+
+  -- the day ends
+  pub standing-next : (t from : ℕ) (slots : List Slot) (next : ℕ) (tally : Tally) (e : Evening) → ((i : ℕ) → i < t → lateOn p rs i ≡ 0)
+      → lateOn p rs t ≡ 0 → tally ≡ tallyOf p rs t → Joined p rs t from slots next → EndedOn p t slots e
+      → Standing p rs (t + 1) (e .slots) next (addedTo tally (e .used))
+  unfolding stateAt morning useOn
+  standing-next t from slots next tally e clean now count j ended =
+      record {
+        state = rw add-one (ended .after ∙ ap (λ ss. spent (given (taken p t ss))) (j .state));
+        clean = λ i h. elim (ℕ-discrete i t) [ yes same ↦ rw same now | no before ↦ clean i (omega arith) ];
+        count =
+            let used : e .used ≡ useOn p rs t = ended .used ∙ ap (λ ss. useOf (given (taken p t ss))) (j .state) in
+            rw (add-one, count, used) (tallyOf-more p rs t);
+        within = j .within;
+        passed = λ i h. omega (arith, j .passed i h);
+        coming = λ i h l. omega (arith, j .coming i h l);
+      }

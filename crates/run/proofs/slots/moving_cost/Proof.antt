@@ -1,0 +1,13 @@
+-- `run::slots::moving_cost` meets its contract: every string of a plan pays the same.
+-- Assumes nothing.
+use mathlib.Core.Path.{refl}
+use Rattle.rules.specs.Demand.{movingCost}
+use Rattle.run.proofs.slots.moving_cost.Statement.{statement}
+use Rattle.run.proofs.slots.moving_cost.Tie as tie
+
+returns : tie.Need-returns
+unfolding movingCost
+returns c = refl
+
+pub moving-cost-spec : {M : Type 1} → statement M
+moving-cost-spec = tie.close (tie.spec returns)

@@ -1,0 +1,6 @@
+-- What the code of the run promises beside the definitions of `rules`.
+pub mod Job
+pub mod Question
+pub mod Day
+pub mod Tally
+pub mod Join

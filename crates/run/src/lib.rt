@@ -1,0 +1,93 @@
+// The run, day by day: what the bank does under a plan and a list of releases, and how the run ends.
+mod job; // job.rt: what happens to a job alone
+mod question; // question.rt: what is asked of the slots
+mod slots; // slots.rt: slots by place
+mod release; // release.rt: step 2
+mod day; // day.rt: the other steps of a day
+mod tally; // tally.rt: the days by kind
+
+use day::late_place;
+use day::rest_of_day;
+use days::Day;
+use days::Length;
+use release::empty_slots;
+use release::join;
+use rules::Checked;
+use rules::Outcome;
+use rules::Plan;
+use rules::Releases;
+use tally::Tally;
+use tally::clean;
+use tally::counted;
+ghost use mathlib.Core.Path.{_≡_};
+ghost use Rattle.rules.specs.Release.{releasesOf};
+ghost use Rattle.rules.specs.Run.{runOf};
+ghost use Rattle.rules.specs.Refusal.{runAnswer};
+ghost use Rattle.laws.proofs.Releases.{LawfulRun};
+
+// How the run ends under a plan and a list of releases; a plan or a list that is not lawful is refused.
+pub fn run(p: Plan, rs: Releases) -> Outcome
+    ensures exact { λ r. ⌜ r ≡ runAnswer p rs ⌝ }
+{
+    let checked = bounds::run_check(p, rs);
+    match checked {
+        Checked::Lawful => run_days(p, rs),
+        Checked::Refused { fault, at } => Outcome::Refused { fault, at },
+    }
+}
+
+// The run under a lawful plan and lawful releases. `next` is the index of the first release that has not joined; the
+// list is sorted by day, so no other can join before it.
+fn run_days(p: Plan, rs: Releases) -> Outcome
+    requires { ⌜ LawfulRun p rs ⌝ }
+    ensures exact { λ r. ⌜ r ≡ runOf p (releasesOf rs) ⌝ }
+{
+    let n = p.n;
+    let end = p.run.0;
+    let strings = p.strings;
+    let count = rs.count;
+    let list = rs.list;
+    let mut slots = empty_slots(strings);
+    let mut tally = Tally {
+        work: Length(0),
+        moving: Length(0),
+        idle: Length(0),
+    };
+    let mut next: usize = 0;
+    let mut t: u32 = 0;
+    while t < end {
+        let today = Day(t);
+        let late = late_place(slots, n, today);
+        if late != 0 {
+            return Outcome::Miss {
+                day: today,
+                place: late,
+            };
+        }
+        let first = next;
+        while next < count {
+            let r = list[next];
+            if r.day.0 != t {
+                break;
+            }
+            let joined = join(slots, p, r, next + 1);
+            slots = joined;
+            next += 1;
+        }
+        let evening = rest_of_day(slots, p, today, first < next);
+        let after = evening.slots;
+        let used = evening.used;
+        slots = after;
+        tally = counted(tally, used);
+        t += 1;
+    }
+    let last = Day(end);
+    let late = late_place(slots, n, last);
+    if late != 0 {
+        return Outcome::Miss {
+            day: last,
+            place: late,
+        };
+    }
+    clean(tally)
+}

@@ -1,0 +1,59 @@
+-- The answers of the entries: the check decides, and a lawful plan gets the answer of the rules.
+-- Assumes nothing.
+use Prim.Native.Nat.{ℕ, _^_}
+use mathlib.Core.Path.{_≡_, _∙_}
+use lib.Dec.{leb}
+use lib.ListN.{length}
+use Rattle.rules.specs.declared.Plan.{Plan}
+use Rattle.rules.specs.declared.Fault.{Fault}
+use Rattle.rules.specs.declared.Fault.the-variants.{OutOfBounds}
+use Rattle.rules.specs.declared.Checked.the-variants.{Lawful, Refused}
+use Rattle.rules.specs.declared.Verdict.the-variants as verdict
+use Rattle.rules.specs.declared.Assign.the-variants as assign
+use Rattle.rules.specs.Plan.{stringsOf}
+use Rattle.rules.specs.Verdict.{verdictOf}
+use Rattle.rules.specs.Search.{withSet, searchOf}
+use Rattle.rules.specs.Refusal.{then, refuseIf, countCheck, numbersCheck, stringsCheck, multipleCheck, planCheck, setCheck}
+use Rattle.rules.specs.Refusal.{verdictAnswer, setAnswer, searchAnswer}
+use Rattle.verdict.specs.Asked.{Ready}
+use Rattle.laws.proofs.Lawful.{planCheck-lawful, then-first, then-second, then-lawful}
+
+-- a plan that the check finds lawful is ready
+pub ready-plan : (p : Plan) → planCheck p ≡ Lawful → length (p .strings) ≡ 10 → Ready p
+ready-plan p h ten = record { lawful = planCheck-lawful p h; ten = ten }
+
+pub verdict-lawful : (p : Plan) → planCheck p ≡ Lawful → verdictAnswer p ≡ verdictOf p
+unfolding verdictAnswer
+verdict-lawful p h = rw h
+
+pub verdict-refused : (p : Plan) (f : Fault) (at : ℕ) → planCheck p ≡ Refused f at → verdictAnswer p ≡ verdict.Refused f at
+unfolding verdictAnswer
+verdict-refused p f at h = rw h
+
+pub set-lawful : (p : Plan) (m : ℕ) → setCheck p m ≡ Lawful → setAnswer p m ≡ verdictOf (withSet p m)
+unfolding setAnswer
+set-lawful p m h = rw h
+
+pub set-refused : (p : Plan) (m : ℕ) (f : Fault) (at : ℕ) → setCheck p m ≡ Refused f at → setAnswer p m ≡ verdict.Refused f at
+unfolding setAnswer
+set-refused p m f at h = rw h
+
+pub search-lawful : (p : Plan) → planCheck p ≡ Lawful → searchAnswer p ≡ searchOf p
+unfolding searchAnswer
+search-lawful p h = rw h
+
+pub search-refused : (p : Plan) (f : Fault) (at : ℕ) → planCheck p ≡ Refused f at → searchAnswer p ≡ assign.Refused f at
+unfolding searchAnswer
+search-refused p f at h = rw h
+
+-- a plan that is lawful with a set is lawful
+pub set-plan : (p : Plan) (m : ℕ) → setCheck p m ≡ Lawful → planCheck p ≡ Lawful
+unfolding setCheck planCheck
+set-plan p m h =
+    let strings = then (stringsCheck 1 (stringsOf p)) (multipleCheck p) in
+    let few = refuseIf (leb (2 ^ p .n) m) OutOfBounds 0 in
+    let count = then-first (countCheck p) (then (numbersCheck p) (then few strings)) h in
+    let rest = then-second (countCheck p) (then (numbersCheck p) (then few strings)) h in
+    let numbers = then-first (numbersCheck p) (then few strings) rest in
+    let last = then-second few strings (then-second (numbersCheck p) (then few strings) rest) in
+    then-lawful (countCheck p) (then (numbersCheck p) strings) count ∙ then-lawful (numbersCheck p) strings numbers ∙ last

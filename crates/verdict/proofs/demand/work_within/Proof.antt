@@ -1,0 +1,118 @@
+-- `verdict::demand::work_within` meets its contract: what is added up so far, with what
+-- the strings that are left ask, is the whole, for each permission.
+-- Assumes nothing.
+use Prim.Native.Nat.{_+_, _-_, _*_, _≤_}
+use mathlib.Core.Path.{_≡_}
+use native.Mathlib.Omega.{arith}
+use lib.ListN.{drop, getD}
+use Rattle.rules.specs.Count.{sumOf}
+use Rattle.rules.specs.Plan.{stringsOf, noString}
+use Rattle.laws.proofs.Lawful.{LawfulString}
+use Rattle.verdict.specs.Asked.{askedOf, askedBy}
+use Rattle.verdict.proofs.Asked.{askedOf-le}
+use Rattle.verdict.proofs.ByPlace.{lawful-at, sum-at, sum-end}
+use Rattle.verdict.proofs.demand.work_within.Statement.{statement}
+use Rattle.verdict.proofs.demand.work_within.Tie as tie
+
+abbrev Inv-loop : tie.InvT-loop
+Inv-loop p w n strings keepers₀ takers₀ i₀ keepers takers i =
+    (i ≤ n)
+    × (keepers ≤ 202000000 * i)
+    × (takers ≤ 202000000 * i)
+    × (keepers + sumOf (askedOf p 0 w) (drop i (stringsOf p)) ≡ askedBy p 0 w)
+    × (takers + sumOf (askedOf p 1 w) (drop i (stringsOf p)) ≡ askedBy p 1 w)
+
+abbrev μ-loop : tie.MeasureT-loop
+μ-loop p w n strings keepers₀ takers₀ i₀ keepers takers i = n - i
+
+loop-holds : tie.Need-loop-holds Inv-loop μ-loop
+unfolding askedBy
+loop-holds c = (omega arith, omega arith, omega arith, omega arith, omega arith)
+
+mul-s : tie.Need-mul-s Inv-loop μ-loop
+mul-s c = omega (arith, c .before .before .before .pre .0 .lawful .nMax)
+
+array-copy-out-s : tie.Need-array-copy-out-s Inv-loop μ-loop
+array-copy-out-s c = omega (arith, c .before .before .before .pre .0 .lawful .nMax)
+
+-- the string of this turn is lawful
+lawful :
+    (c : tie.After-s Inv-loop μ-loop)
+    → LawfulString (getD (c .before .before .before .before .args .p .strings) (c .before .before .loop .i) noString)
+lawful c =
+    let start = c .before .before .before .before in
+    lawful-at (start .args .p) (start .pre .0) (c .before .before .loop .i) (c .before .loop-test .taken)
+
+share-requires : tie.Need-share-requires Inv-loop μ-loop
+share-requires c κs =
+    let start = c .before .before .before .before in
+    (start .pre .0, (lawful c, start .pre .1))
+
+-- what it asks is small
+kept-small : (c : tie.After-share Inv-loop μ-loop) → c .share .result ≤ 202000000
+kept-small c =
+    let start = c .before .before .before .before .before in
+    let most = askedOf-le (start .args .p) 0 (start .args .w) _ (start .pre .0 .lawful .aMax) (lawful (c .before)) (start .pre .1) in
+    omega (arith, c .share .ensures, most)
+
+add-keepers : tie.Need-add-keepers Inv-loop μ-loop
+add-keepers c = omega (arith, kept-small c, c .before .before .before .before .before .pre .0 .lawful .nMax)
+
+share-requires-2 : tie.Need-share-requires-2 Inv-loop μ-loop
+share-requires-2 c κs =
+    let start = c .before .before .before .before .before in
+    (start .pre .0, (lawful (c .before), start .pre .1))
+
+took-small : (c : tie.After-share2 Inv-loop μ-loop) → c .share2 .result ≤ 202000000
+took-small c =
+    let start = c .before .before .before .before .before .before in
+    let most = askedOf-le (start .args .p) 1 (start .args .w) _ (start .pre .0 .lawful .aMax) (lawful (c .before .before)) (start .pre .1) in
+    omega (arith, c .share2 .ensures, most)
+
+add-takers : tie.Need-add-takers Inv-loop μ-loop
+add-takers c = omega (arith, took-small c, c .before .before .before .before .before .before .pre .0 .lawful .nMax)
+
+add-i : tie.Need-add-i Inv-loop μ-loop
+add-i c = omega arith
+
+loop-less : tie.Need-loop-less Inv-loop μ-loop
+loop-less c = omega arith
+
+loop-again : tie.Need-loop-again Inv-loop μ-loop
+loop-again c =
+    let at = c .before .before .before .before in
+    let start = at .before .before in
+    let inside = c .before .before .before .loop-test .taken in
+    let kept = sum-at (start .args .p) (start .pre .0) (askedOf (start .args .p) 0 (start .args .w)) (at .loop .i) inside in
+    let took = sum-at (start .args .p) (start .pre .0) (askedOf (start .args .p) 1 (start .args .w)) (at .loop .i) inside in (
+      omega arith,
+      omega (arith, kept-small (c .before)),
+      omega (arith, took-small c),
+      omega (arith, c .before .share .ensures, kept),
+      omega (arith, c .share2 .ensures, took),
+    )
+
+returns : tie.Need-returns Inv-loop μ-loop
+returns c =
+    let start = c .before .before .before in
+    let kept = sum-end (start .args .p) (start .pre .0) (askedOf (start .args .p) 0 (start .args .w)) (c .before .loop .i) (c .loop-test .left) in
+    let took = sum-end (start .args .p) (start .pre .0) (askedOf (start .args .p) 1 (start .args .w)) (c .before .loop .i) (c .loop-test .left) in
+    (omega (arith, kept), omega (arith, took))
+
+pub work-within-spec : {M : Type 1} → statement M
+work-within-spec =
+    tie.close
+    (tie.spec
+    Inv-loop
+    μ-loop
+    loop-holds
+    mul-s
+    array-copy-out-s
+    share-requires
+    add-keepers
+    share-requires-2
+    add-takers
+    add-i
+    loop-less
+    loop-again
+    returns)

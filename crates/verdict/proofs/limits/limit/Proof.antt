@@ -1,0 +1,35 @@
+-- `verdict::limits::limit` meets its contract: before the smallest D and from the largest on nothing blocks.
+-- Assumes nothing.
+use mathlib.Core.Path.{sym}
+use native.Mathlib.Omega.{arith}
+use borrow.Author.Needs.{needs}
+use Rattle.horizon.proofs.Period.{blockLimit-late}
+use Rattle.verdict.proofs.Blocking.{blockLimit-early, blockLimit-between}
+use Rattle.verdict.proofs.limits.limit.Statement.{statement}
+use Rattle.verdict.proofs.limits.limit.Tie as tie
+
+returns : tie.Need-returns
+returns c =
+    let start = c .before in
+    sym (blockLimit-early (start .args .p) (start .args .l) (omega (arith, start .pre .1 .0)))
+
+returns-2 : tie.Need-returns-2
+returns-2 c =
+    let start = c .before .before in
+    sym (blockLimit-late (start .args .p) (start .args .l) (omega (arith, start .pre .1 .1)))
+
+longest-blocker-requires : tie.Need-longest-blocker-requires
+longest-blocker-requires c κs = search needs
+
+smaller-requires : tie.Need-smaller-requires
+smaller-requires c κs = search needs
+
+returns-3 : tie.Need-returns-3
+returns-3 c =
+    let start = c .before .before .before .before in
+    let between = blockLimit-between (start .args .p) (start .args .l) (omega (arith, start .pre .1 .0)) (omega (arith, start .pre .1 .1)) in
+    omega (arith, c .smaller .ensures, c .before .longest-blocker .ensures, between)
+
+pub limit-spec : {M : Type 1} → statement M
+limit-spec =
+    tie.close (tie.spec returns returns-2 longest-blocker-requires smaller-requires returns-3)

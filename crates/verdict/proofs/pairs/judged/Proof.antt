@@ -1,0 +1,35 @@
+-- `verdict::pairs::judged` meets its contract: overload decides first, then the pairs.
+-- Assumes nothing.
+use mathlib.Core.Path.{sym, _∙_}
+use native.Mathlib.Omega.{arith}
+use borrow.Author.Needs.{needs}
+use borrow.Author.Tests.{lt-ltb, le-ltb}
+use Rattle.rules.specs.Plan.{multipleOf}
+use Rattle.rules.specs.Demand.{load, overloaded}
+use Rattle.horizon.proofs.Pairs.{verdictOf-overload, verdictOf-scan}
+use Rattle.verdict.proofs.pairs.judged.Statement.{statement}
+use Rattle.verdict.proofs.pairs.judged.Tie as tie
+
+load-over-requires : tie.Need-load-over-requires
+load-over-requires c κs = search needs
+
+returns : tie.Need-returns
+unfolding overloaded
+returns c =
+    let start = c .before .before in
+    let p = start .args .p in
+    sym (verdictOf-overload p (lt-ltb (multipleOf p) (load p) (omega (arith, start .pre .1, c .before .load-over .ensures))))
+
+scan-requires : tie.Need-scan-requires
+scan-requires c κs = search needs
+
+returns-2 : tie.Need-returns-2
+unfolding overloaded
+returns-2 c =
+    let start = c .before .before .before in
+    let p = start .args .p in
+    let light = le-ltb (multipleOf p) (load p) (omega (arith, start .pre .1, c .before .before .load-over .ensures)) in
+    c .scan .ensures ∙ sym (verdictOf-scan p light)
+
+pub judged-spec : {M : Type 1} → statement M
+judged-spec = tie.close (tie.spec load-over-requires returns scan-requires returns-2)

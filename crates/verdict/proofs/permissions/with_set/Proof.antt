@@ -1,0 +1,92 @@
+-- `verdict::permissions::with_set` meets its contract: the strings done, with those left as what is left
+-- of the number permits them, are the whole.
+-- Assumes nothing.
+use Prim.Native.Nat.{_-_, _≤_}
+use mathlib.Core.Path.{_≡_, refl, sym, ap, _∙_}
+use mathlib.Core.List.{_++_}
+use native.Mathlib.Omega.{arith}
+use borrow.Author.Needs.{needs}
+use lib.ListN.{length, take, drop, length-set}
+use Rattle.rules.specs.Search.{permit, withSet}
+use Rattle.verdict.proofs.Permit.{left-next, done-next, done-all}
+use Rattle.verdict.proofs.permissions.with_set.Statement.{statement}
+use Rattle.verdict.proofs.permissions.with_set.Tie as tie
+
+abbrev Inv-loop : tie.InvT-loop
+Inv-loop set n a run strings₀ rest₀ i₀ strings rest i =
+    (i ≤ 10)
+    × (length strings ≡ 10)
+    × (drop i strings ≡ drop i strings₀)
+    × (take i strings ++ permit rest (drop i strings₀) ≡ permit set strings₀)
+
+abbrev μ-loop : tie.MeasureT-loop
+μ-loop set n a run strings₀ rest₀ i₀ strings rest i = 10 - i
+
+loop-holds : tie.Need-loop-holds Inv-loop μ-loop
+loop-holds c = (omega arith, c .before .before .before .pre .ten, refl, refl)
+
+mul-s : tie.Need-mul-s Inv-loop μ-loop
+mul-s c = omega arith
+
+array-copy-out-s : tie.Need-array-copy-out-s Inv-loop μ-loop
+array-copy-out-s c = omega arith
+
+permitted-requires : tie.Need-permitted-requires Inv-loop μ-loop
+permitted-requires c κs = search needs
+
+mul-strings : tie.Need-mul-strings Inv-loop μ-loop
+mul-strings c = omega arith
+
+array-set-from-strings : tie.Need-array-set-from-strings Inv-loop μ-loop
+array-set-from-strings c = omega arith
+
+add-i : tie.Need-add-i Inv-loop μ-loop
+add-i c = omega arith
+
+loop-less : tie.Need-loop-less Inv-loop μ-loop
+loop-less c = omega arith
+
+loop-again : tie.Need-loop-again Inv-loop μ-loop
+loop-again c =
+    let at = c .before .before .before in
+    let start = at .before .before .before .before in
+    let all = start .args .p .strings in
+    let now = at .loop .strings in
+    let i = at .loop .i in
+    let inv = at .loop .inv in
+    let ten = start .pre .ten in (
+      omega arith,
+      length-set now i (c .permitted .result) ∙ inv .1,
+      left-next all now i (c .permitted .result) (inv .2),
+      done-next all now (at .loop .rest) i (c .permitted .result) (omega (arith, inv .1)) (omega (arith, ten)) (inv .2) (c .permitted .ensures)
+          ∙ inv .3,
+    )
+
+returns : tie.Need-returns Inv-loop μ-loop
+unfolding withSet
+returns c =
+    let at = c .before in
+    let start = at .before .before .before .before in
+    let p = start .args .p in
+    let inv = at .loop .inv in
+    let ten = start .pre .ten in
+    let done : at .loop .strings ≡ permit (start .args .set) (p .strings) =
+    sym (done-all (p .strings) (at .loop .strings) (at .loop .rest) (at .loop .i) (omega (arith, inv .1)) (omega (arith, ten))) ∙ inv .3 in
+    ap (λ ss. record { n = p .n; a = p .a; run = p .run; strings = ss }) done
+
+pub with-set-spec : {M : Type 1} → statement M
+with-set-spec =
+    tie.close
+    (tie.spec
+    Inv-loop
+    μ-loop
+    loop-holds
+    mul-s
+    array-copy-out-s
+    permitted-requires
+    mul-strings
+    array-set-from-strings
+    add-i
+    loop-less
+    loop-again
+    returns)

@@ -1,0 +1,55 @@
+-- `verdict::search` meets its contract: the check decides, then the rules.
+-- Assumes nothing.
+use mathlib.Core.Path.{_≡_, sym, _∙_}
+use borrow.Author.Needs.{needs}
+use lib.ListN.{length-map}
+use Rattle.rules.specs.declared.Checked.the-variants.{Lawful}
+use Rattle.rules.specs.Refusal.{planCheck}
+use Rattle.verdict.proofs.Answers.{ready-plan, search-lawful, search-refused}
+use Rattle.verdict.proofs.search.Statement.{statement}
+use Rattle.verdict.proofs.search.Tie as tie
+
+plan-check-requires : tie.Need-plan-check-requires
+plan-check-requires c κs = search needs
+
+enum-told : tie.Need-enum-told
+enum-told c = search needs
+
+multiple-requires : tie.Need-multiple-requires
+multiple-requires c κs = search needs
+
+-- what the check said
+lawful : (c : tie.After-enum-told) → planCheck (c .before .before .before .args .p) ≡ Lawful
+lawful c = sym (c .before .before .plan-check .ensures) ∙ c .enum-told .given .1
+
+first-set-requires : tie.Need-first-set-requires
+first-set-requires c κs =
+    let told = c .before in
+    let start = told .before .before .before in
+    (ready-plan (start .args .p) (lawful told) (simp length-map at (start .good .0 .1 .1 .1 .1 .1 .0 .1 .0 .1)), c .multiple .ensures)
+
+enum-known-checked : tie.Need-enum-known-checked
+enum-known-checked c = search needs
+
+returns : tie.Need-returns
+returns c =
+    let told = c .before .before in
+    c .first-set .ensures ∙ sym (search-lawful (told .before .before .before .args .p) (lawful told))
+
+returns-2 : tie.Need-returns-2
+returns-2 c =
+    let known = c .before in
+    let check = known .before .before in
+    sym (search-refused (check .before .args .p) _ _ (sym (check .plan-check .ensures) ∙ known .checked .given .1))
+
+pub search-spec : {M : Type 1} → statement M
+search-spec =
+    tie.close
+    (tie.spec
+    plan-check-requires
+    enum-told
+    multiple-requires
+    first-set-requires
+    enum-known-checked
+    returns
+    returns-2)

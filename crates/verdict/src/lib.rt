@@ -1,0 +1,51 @@
+// The verdict on a plan and the search for permissions. No caller is trusted to have checked anything: each entry checks first.
+mod demand;
+mod limits;
+mod pairs;
+mod permissions;
+
+use bounds::multiple;
+use bounds::plan_check;
+use bounds::set_check;
+use pairs::judged;
+use permissions::first_set;
+use permissions::with_set;
+use rules::Assign;
+use rules::Checked;
+use rules::Plan;
+use rules::Verdict;
+ghost use mathlib.Core.Path.{_≡_};
+ghost use Rattle.rules.specs.Refusal.{verdictAnswer, setAnswer, searchAnswer};
+
+// The verdict on a plan with the permissions it carries.
+pub fn verdict(p: Plan) -> Verdict
+    ensures exact { λ r. ⌜ r ≡ verdictAnswer p ⌝ }
+{
+    let checked = plan_check(p);
+    match checked {
+        Checked::Lawful => judged(p, multiple(p)),
+        Checked::Refused { fault, at } => Verdict::Refused { fault, at },
+    }
+}
+
+// The verdict on a plan with the permission set given.
+pub fn verdict_with(p: Plan, set: u32) -> Verdict
+    ensures exact { λ r. ⌜ r ≡ setAnswer p set ⌝ }
+{
+    let checked = set_check(p, set);
+    match checked {
+        Checked::Lawful => judged(with_set(p, set), multiple(p)),
+        Checked::Refused { fault, at } => Verdict::Refused { fault, at },
+    }
+}
+
+// The passing set with the fewest ones, among equals the smallest number.
+pub fn search(p: Plan) -> Assign
+    ensures exact { λ r. ⌜ r ≡ searchAnswer p ⌝ }
+{
+    let checked = plan_check(p);
+    match checked {
+        Checked::Lawful => first_set(p, multiple(p)),
+        Checked::Refused { fault, at } => Assign::Refused { fault, at },
+    }
+}
