@@ -18,7 +18,7 @@ use Rattle.rules.specs.Search.{permit, withSet, setPasses}
 use Rattle.laws.proofs.Lists.{All, all-map, sumOf-le, sumOf-eq, by-bool}
 use Rattle.laws.proofs.Lawful.{LawfulPlan}
 use Rattle.horizon.proofs.Order.{all-of}
-use Rattle.horizon.proofs.Period.{holdOf-work, need-taker, need-keeper}
+use Rattle.laws.proofs.Demand.{holdOf-work, need-taker, need-keeper}
 use Rattle.horizon.proofs.Range.{overload-at-period}
 use Rattle.horizon.proofs.Verdict.{pass-passes}
 use Rattle.horizon.proofs.Sets.{permitted, permit-sumOf, withSet-strings, withSet-lawful}

@@ -17,6 +17,7 @@ use Rattle.rules.specs.Demand.{movingCost, holdOf, jobs, blockerHold, blockLimi
 use Rattle.laws.proofs.Lists.{All, all-map, sumOf-le, sumOf-eq, sumOf-add, largest-le, by-bool}
 use Rattle.laws.proofs.Jobs.{jobs-short, jobs-from, jobs-zero, jobs-window, jobs-period}
 use Rattle.laws.proofs.Lawful.{LawfulString, LawfulPlan}
+use Rattle.laws.proofs.Demand.{need-unblocked}
 use Rattle.horizon.proofs.Order.{all-both, sumOf-zero}
 
 -- ---- One string over H days
@@ -65,34 +66,6 @@ jobs-in-period s h ok pos whole = go (h / s .t .0) (period-parts s h whole) most
         omega (arith, jobs-window s k h (ok .tPos) (omega (arith, add-mul k 1 (s .t .0))))
 
 -- ---- What a string asks for where nothing blocks
-
--- a job that may not take the bank holds it for C days
-pub holdOf-kept : (p : Plan) (s : BatteryString) → s .x ≡ 0 → holdOf p s ≡ s .c .0
-unfolding holdOf
-holdOf-kept p s e = rw e (omega (arith, mul-zero (movingCost p s)))
-
--- moving comes on top of the work
-pub holdOf-work : (p : Plan) (s : BatteryString) → s .c .0 ≤ holdOf p s
-unfolding holdOf
-holdOf-work p s = omega arith
-
-pub need-taker : (p : Plan) (l b : ℕ) (s : BatteryString) → s .x ≡ 1 → need p l b s ≡ jobs s (l - b) * holdOf p s
-unfolding need
-need-taker p l b s e = rw (eq-eqb (s .x) 1 e)
-
-pub need-keeper : (p : Plan) (l b : ℕ) (s : BatteryString) → (s .x ≡ 1 → ⊥) → need p l b s ≡ jobs s l * s .c .0
-unfolding need
-need-keeper p l b s e = rw (ne-eqb (s .x) 1 e)
-
-pub need-unblocked : (p : Plan) (l : ℕ) (s : BatteryString) → s .x ≤ 1 → need p l 0 s ≡ jobs s l * holdOf p s
-need-unblocked p l s h =
-    let all-days : l - 0 ≡ l = omega arith in
-    elim (ℕ-discrete (s .x) 1) [
-      | yes e ↦ need-taker p l 0 s e ∙ ap (λ w. jobs s w * holdOf p s) all-days
-      | no e ↦
-          let kept : s .x ≡ 0 = omega arith in
-          need-keeper p l 0 s e ∙ ap (λ c. jobs s l * c) (sym (holdOf-kept p s kept))
-    ]
 
 -- ---- The plan over H days
 
@@ -157,28 +130,3 @@ module _ (p : Plan) (ok : LawfulPlan p) where
       (each-whole (λ s. s .d .0 ≤ multipleOf p) (λ s lawful whole.
       let short = lawful .dMax in
       omega (arith, t-le-period s (multipleOf p) (ok .hPos) whole)))
-
--- ---- The blocking limit
-
--- from the largest D on nothing blocks
-pub blockLimit-late : (p : Plan) (l : ℕ) → dMax p ≤ l → blockLimit p l ≡ 0
-unfolding blockLimit
-blockLimit-late p l h =
-    let late = le-ltb l (dMax p) h in
-    by-bool (leb (dMin p) l) (λ t. rw (t, late)) (λ e. rw e)
-
--- it is never above the interval
-pub blockLimit-interval : (p : Plan) (l : ℕ) → blockLimit p l ≤ l
-unfolding blockLimit
-blockLimit-interval p l = by-bool (leb (dMin p) l && ltb l (dMax p)) (λ t. rw t (omega arith)) (λ e. rw e (omega arith))
-
--- nor above a bound on every E
-pub blockLimit-hold : (p : Plan) (l m : ℕ) → All (λ s. holdOf p s ≤ m) (stringsOf p) → blockLimit p l ≤ m
-unfolding blockLimit
-blockLimit-hold p l m h =
-    let most : largest (blockerHold p l) (stringsOf p) ≤ m =
-    largest-le (blockerHold p l) m (stringsOf p) (all-map (λ s. holdOf p s ≤ m) (λ s. blockerHold p l s ≤ m) one (stringsOf p) h) in
-    by-bool (leb (dMin p) l && ltb l (dMax p)) (λ t. rw t (omega arith)) (λ e. rw e (omega arith))
-  where
-    one : (s : BatteryString) → holdOf p s ≤ m → blockerHold p l s ≤ m
-    one s k = unfold blockerHold in by-bool (ltb l (s .d .0)) (λ t. rw t k) (λ e. rw e (omega arith))

@@ -12,7 +12,8 @@ use Rattle.rules.specs.declared.Plan.{Plan}
 use Rattle.rules.specs.Plan.{multipleOf, dMax}
 use Rattle.rules.specs.Demand.{blockLimit, demand, Passes, load, overloaded}
 use Rattle.laws.proofs.Lawful.{LawfulPlan}
-use Rattle.horizon.proofs.Period.{demand-none, demand-period, demand-later, blockLimit-late}
+use Rattle.horizon.proofs.Period.{demand-none, demand-period, demand-later}
+use Rattle.laws.proofs.Demand.{blockLimit-late}
 
 pub overloaded-over : (p : Plan) → overloaded p ≡ true → multipleOf p < load p
 unfolding overloaded

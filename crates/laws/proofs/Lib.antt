@@ -2,6 +2,9 @@
 pub mod Lists
 pub mod Least
 pub mod Jobs
+pub mod Demand
 pub mod Lawful
 pub mod Powers
 pub mod Releases
+pub mod ReleaseList
+pub mod Answers

@@ -27,7 +27,7 @@ use Rattle.rules.specs.Run.{onBank, waits, left}
 use Rattle.laws.proofs.Lists.{true-not-false}
 use Rattle.sound.proofs.Chosen.{at, Choice}
 use Rattle.sound.proofs.Places.{holder-choice}
-use Rattle.sound.proofs.Releases.{str, Released, released-apart}
+use Rattle.laws.proofs.ReleaseList.{str, Released, released-apart}
 use Rattle.sound.proofs.Sums.{sumTo, sumTo-none, sumTo-part}
 use Rattle.sound.proofs.Orderly.{Live, Orderly, on-held, live-if-on}
 

@@ -20,10 +20,10 @@ use Rattle.laws.proofs.Lawful.{LawfulPlan, LawfulString}
 use Rattle.sound.specs.Served.{payerIn}
 use Rattle.sound.proofs.Chosen.{at}
 use Rattle.sound.proofs.Places.{late-none}
-use Rattle.sound.proofs.Releases.{str, Released, release-lawful, release-string, released-apart}
+use Rattle.laws.proofs.ReleaseList.{str, Released, release-lawful, release-string, released-apart}
 use Rattle.sound.proofs.Joining.{Joined, NoneCame, joined-at, joined-length}
 use Rattle.sound.proofs.Taking.{Taker, taken-taking}
-use Rattle.sound.proofs.Holding.{holdOf-work, holdOf-taker}
+use Rattle.laws.proofs.Demand.{holdOf-work, holdOf-taker}
 use Rattle.sound.proofs.Orderly.{Live, Sits, Orderly, live-if-waits, taken-orderly}
 
 pub lawful-str : (p : Plan) → LawfulPlan p → (j : ℕ) → j < length (stringsOf p) → LawfulString (str p j)

@@ -24,7 +24,7 @@ use Rattle.laws.proofs.Lists.{by-bool, true-not-false, and-left, and-right}
 use Rattle.laws.proofs.Lawful.{LawfulPlan}
 use Rattle.sound.proofs.Chosen.{at}
 use Rattle.sound.proofs.Places.{putJob}
-use Rattle.sound.proofs.Releases.{str, Released, release-string}
+use Rattle.laws.proofs.ReleaseList.{str, Released, release-string}
 use Rattle.sound.proofs.Sums.{sumTo, sumTo-le, sumTo-add}
 use Rattle.sound.proofs.Orderly.{Sits, Orderly, stopped-left, stopped-off, empty-not-waits, live-if-left}
 use Rattle.sound.proofs.Arriving.{morning-orderly}

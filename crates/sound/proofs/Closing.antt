@@ -19,8 +19,8 @@ use Rattle.laws.proofs.Lists.{all-at, largest-ge, smallest-le}
 use Rattle.laws.proofs.Lawful.{LawfulPlan, LawfulString}
 use Rattle.laws.proofs.Jobs.{jobs-window}
 use Rattle.sound.proofs.Sums.{sumTo, sumTo-some, sumTo-sumOf}
-use Rattle.sound.proofs.Releases.{str}
-use Rattle.sound.proofs.Holding.{holdOf-other}
+use Rattle.laws.proofs.ReleaseList.{str}
+use Rattle.laws.proofs.Demand.{holdOf-other}
 use Rattle.sound.proofs.Arriving.{lawful-str}
 use Rattle.sound.proofs.Account.{backlog, Span, Blocker, Account}
 

@@ -21,7 +21,7 @@ use Rattle.rules.specs.Run.{onBank, waits, left, given, spent, useOf, joined, t
 use Rattle.laws.proofs.Lists.{by-bool, true-not-false}
 use Rattle.laws.proofs.Lawful.{LawfulPlan}
 use Rattle.sound.proofs.Chosen.{at, Nobody}
-use Rattle.sound.proofs.Releases.{str}
+use Rattle.laws.proofs.ReleaseList.{str}
 use Rattle.sound.proofs.Sums.{sumTo, sumTo-grown, sumTo-some, sumTo-none}
 use Rattle.sound.proofs.Using.{Using, idleDay, keptDay, givenDay, Used, spent-using, neither-empty, left-empty}
 use Rattle.sound.proofs.Orderly.{Live, Orderly, live-if-on, live-if-waits, used-within, using-orderly}

@@ -3,11 +3,9 @@ pub mod Sums
 pub mod History
 pub mod Chosen
 pub mod Places
-pub mod Releases
 pub mod Joining
 pub mod Taking
 pub mod Using
-pub mod Holding
 pub mod Orderly
 pub mod Arriving
 pub mod Morning

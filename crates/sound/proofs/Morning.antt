@@ -25,7 +25,7 @@ use Rattle.laws.proofs.Lawful.{LawfulPlan}
 use Rattle.sound.specs.Served.{payerIn}
 use Rattle.sound.proofs.Chosen.{at}
 use Rattle.sound.proofs.Places.{putJob}
-use Rattle.sound.proofs.Releases.{str, release-string}
+use Rattle.laws.proofs.ReleaseList.{str, release-string}
 use Rattle.sound.proofs.Joining.{NoneCame, joined-length}
 use Rattle.sound.proofs.Taking.{Taking, bankFree, bankKept, bankTaken, Taker, taken-taking, chargedSlot, taker-mayTake}
 use Rattle.sound.proofs.Orderly.{Orderly, live-if-waits, took-off}

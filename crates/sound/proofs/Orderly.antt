@@ -23,7 +23,7 @@ use Rattle.rules.specs.Run.{onBank, waits, left, stopped, charged, seated, spen
 use Rattle.laws.proofs.Lists.{by-bool, true-not-false}
 use Rattle.sound.proofs.Chosen.{at}
 use Rattle.sound.proofs.Places.{putJob}
-use Rattle.sound.proofs.Releases.{str, Released}
+use Rattle.laws.proofs.ReleaseList.{str, Released}
 use Rattle.sound.proofs.Taking.{Taking, bankFree, bankKept, bankTaken, Took, Taker}
 use Rattle.sound.proofs.Using.{Using, idleDay, keptDay, givenDay, Used, spent-left, spent-cases, GoneOrOn}
 

@@ -20,7 +20,7 @@ use Rattle.rules.specs.Run.{seated, spentJob, usedFor, newSlot}
 use Rattle.sound.specs.Served.{worksFor, movesFor}
 use Rattle.sound.proofs.Chosen.{at}
 use Rattle.sound.proofs.Places.{putJob}
-use Rattle.sound.proofs.Releases.{str, released-once}
+use Rattle.laws.proofs.ReleaseList.{str, released-once}
 use Rattle.sound.proofs.Using.{Using, idleDay, keptDay, givenDay, Used}
 use Rattle.sound.proofs.Orderly.{Live, Orderly, live-if-on, live-if-waits, used-within}
 use Rattle.sound.proofs.Morning.{Morning, new, same, fee}

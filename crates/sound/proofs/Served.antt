@@ -18,7 +18,7 @@ use Rattle.rules.specs.Run.{left, given, spent, useOf, joined, taken, morning, 
 use Rattle.laws.proofs.Lawful.{LawfulPlan}
 use Rattle.sound.specs.Served.{worksFor, movesFor, payerIn, payerOn, paid}
 use Rattle.sound.proofs.Chosen.{at}
-use Rattle.sound.proofs.Releases.{str, release-lawful}
+use Rattle.laws.proofs.ReleaseList.{str, release-lawful}
 use Rattle.sound.proofs.Using.{spent-using}
 use Rattle.sound.proofs.Orderly.{live-if-left}
 use Rattle.sound.proofs.Arriving.{lawful-str, morning-orderly}

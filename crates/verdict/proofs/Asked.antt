@@ -17,7 +17,7 @@ use Rattle.laws.proofs.Lists.{All, all-map, sumOf-eq, sumOf-add}
 use Rattle.laws.proofs.Jobs.{jobs-short, jobs-from, jobs-zero}
 use Rattle.laws.proofs.Lawful.{LawfulString, LawfulPlan}
 use Rattle.horizon.proofs.Order.{sumOf-zero}
-use Rattle.horizon.proofs.Period.{holdOf-kept, need-taker, need-keeper}
+use Rattle.laws.proofs.Demand.{holdOf-other, need-taker, need-keeper}
 use Rattle.verdict.specs.Asked.{askedOf, askedBy}
 
 -- ---- Bounds
@@ -75,7 +75,7 @@ need-parts p l b s h =
           omega (arith, need-taker p l b s e, askedOf-yes p 1 (l - b) s e, askedOf-no p 0 l s other)
       | no e ↦
           let kept : s .x ≡ 0 = omega arith in
-          let work : jobs s l * holdOf p s ≡ jobs s l * s .c .0 = ap (λ c. jobs s l * c) (holdOf-kept p s kept) in
+          let work : jobs s l * holdOf p s ≡ jobs s l * s .c .0 = ap (λ c. jobs s l * c) (holdOf-other p s kept) in
           omega (arith, need-keeper p l b s e, askedOf-yes p 0 l s kept, askedOf-no p 1 (l - b) s e)
     ]
 

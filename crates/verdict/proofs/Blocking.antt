@@ -13,7 +13,7 @@ use Rattle.rules.specs.Plan.{stringsOf, dMin, dMax}
 use Rattle.rules.specs.Demand.{holdOf, blockerHold, blockLimit}
 use Rattle.laws.proofs.Lists.{all-map, largest-le}
 use Rattle.laws.proofs.Lawful.{LawfulString, LawfulPlan}
-use Rattle.horizon.proofs.Period.{blockLimit-late, blockLimit-interval}
+use Rattle.laws.proofs.Demand.{blockLimit-late, blockLimit-interval}
 use Rattle.verdict.proofs.Asked.{holdOf-le}
 
 pub blockerHold-yes : (p : Plan) (l : ℕ) (s : BatteryString) → l < s .d .0 → blockerHold p l s ≡ holdOf p s

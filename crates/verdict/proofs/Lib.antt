@@ -1,8 +1,7 @@
--- Laws first, in the order in which they build on each other; UserWords says what the promises mean.
+-- Laws for the loops, in the order in which they build on each other.
 pub mod Asked
 pub mod ByPlace
 pub mod Blocking
 pub mod Rows
 pub mod Permit
-pub mod Answers
-pub mod UserWords
+pub mod Readiness

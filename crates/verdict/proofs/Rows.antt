@@ -13,7 +13,7 @@ use lib.Seq.{getD-set-same, getD-set-other}
 use Rattle.rules.specs.declared.Plan.{Plan}
 use Rattle.rules.specs.Demand.{blockLimit, demand}
 use Rattle.laws.proofs.Lawful.{LawfulPlan}
-use Rattle.horizon.proofs.Period.{blockLimit-interval}
+use Rattle.laws.proofs.Demand.{blockLimit-interval}
 use Rattle.verdict.specs.Asked.{askedBy}
 use Rattle.verdict.proofs.Asked.{askedBy-none, demand-parts}
 use Rattle.verdict.proofs.Blocking.{blockLimit-short}

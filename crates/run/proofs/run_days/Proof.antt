@@ -16,7 +16,8 @@ use Rattle.rules.specs.declared.Outcome.the-variants.{Miss}
 use Rattle.rules.specs.Release.{noRelease, releasesOf}
 use Rattle.rules.specs.Run.{emptySlot, lateAt, lateOn}
 use Rattle.run.proofs.Places.{take-map}
-use Rattle.run.proofs.Releases.{Listed, listed-at, listed-sorted, listed-joins}
+use Rattle.laws.proofs.ReleaseList.{LawfulRelease, release-lawful, listed-sorted}
+use Rattle.run.proofs.Releases.{listed-joins}
 use Rattle.run.proofs.State.{joined-room}
 use Rattle.run.proofs.Counting.{tallyOf-under}
 use Rattle.run.proofs.Ending.{runOf-miss, runOf-clean}
@@ -60,8 +61,8 @@ read-is : (c : tie.Start Inv-loop2 μ-loop2 Inv-loop μ-loop) (i : ℕ) → i < 
 read-is c i h = getD-take (c .args .rs .count) (c .args .rs .list) i noRelease h
 
 listed : (c : tie.Start Inv-loop2 μ-loop2 Inv-loop μ-loop) (i : ℕ) → i < c .args .rs .count
-    → Listed (c .args .p) (getD (c .args .rs .list) i noRelease)
-listed c i h = rw (read-is c i h) at (listed-at (c .args .p) (releasesOf (c .args .rs)) (c .pre .none-bad) i (omega (arith, whole c)))
+    → LawfulRelease (c .args .p) (getD (c .args .rs .list) i noRelease)
+listed c i h = rw (read-is c i h) at (release-lawful (c .args .p) (releasesOf (c .args .rs)) (c .pre .none-bad) i (omega (arith, whole c)))
 
 empty-slots-requires : tie.Need-empty-slots-requires Inv-loop2 μ-loop2 Inv-loop μ-loop
 empty-slots-requires c κs = tt
@@ -125,7 +126,7 @@ loop2-again c =
     let place = listed s (i .loop2 .next) (omega arith) in
     rw (c .join .ensures)
     (joining-more (planOf o) (listOf o) (o .loop .t) (o .loop .next) (i .loop2 .slots) (i .loop2 .next) (getD (g .rs .list) (i .loop2 .next) noRelease)
-    (sym (read-is s (i .loop2 .next) (omega arith))) (place .low) (place .high) (omega (arith, whole s)) (c .before .if2 .left) (i .loop2 .inv))
+    (sym (read-is s (i .loop2 .next) (omega arith))) (place .placePos) (place .placeMax) (omega (arith, whole s)) (c .before .if2 .left) (i .loop2 .inv))
 
 -- the day in whose step 2 the code is
 abbrev morning : tie.Left-loop2 Inv-loop2 μ-loop2 Inv-loop μ-loop → tie.At-loop Inv-loop2 μ-loop2 Inv-loop μ-loop

@@ -5,7 +5,8 @@ use borrow.Author.Needs.{needs}
 use lib.ListN.{length-map}
 use Rattle.rules.specs.declared.Checked.the-variants.{Lawful}
 use Rattle.rules.specs.Refusal.{planCheck}
-use Rattle.verdict.proofs.Answers.{ready-plan, search-lawful, search-refused}
+use Rattle.laws.proofs.Answers.{search-lawful, search-refused}
+use Rattle.verdict.proofs.Readiness.{ready-plan}
 use Rattle.verdict.proofs.search.Statement.{statement}
 use Rattle.verdict.proofs.search.Tie as tie
 

@@ -5,7 +5,8 @@ use borrow.Author.Needs.{needs}
 use lib.ListN.{length-map}
 use Rattle.rules.specs.declared.Checked.the-variants.{Lawful}
 use Rattle.rules.specs.Refusal.{planCheck}
-use Rattle.verdict.proofs.Answers.{ready-plan, verdict-lawful, verdict-refused}
+use Rattle.laws.proofs.Answers.{verdict-lawful, verdict-refused}
+use Rattle.verdict.proofs.Readiness.{ready-plan}
 use Rattle.verdict.proofs.verdict.Statement.{statement}
 use Rattle.verdict.proofs.verdict.Tie as tie
 

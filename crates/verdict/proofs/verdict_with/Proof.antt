@@ -10,7 +10,8 @@ use Rattle.rules.specs.Refusal.{setCheck}
 use Rattle.horizon.proofs.Sets.{withSet-multiple}
 use Rattle.verdict.specs.Asked.{Ready}
 use Rattle.verdict.proofs.Permit.{ready-with}
-use Rattle.verdict.proofs.Answers.{ready-plan, set-lawful, set-refused, set-plan}
+use Rattle.laws.proofs.Answers.{set-lawful, set-refused, set-plan}
+use Rattle.verdict.proofs.Readiness.{ready-plan}
 use Rattle.verdict.proofs.verdict_with.Statement.{statement}
 use Rattle.verdict.proofs.verdict_with.Tie as tie
 

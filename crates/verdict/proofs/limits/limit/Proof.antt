@@ -3,7 +3,7 @@
 use mathlib.Core.Path.{sym}
 use native.Mathlib.Omega.{arith}
 use borrow.Author.Needs.{needs}
-use Rattle.horizon.proofs.Period.{blockLimit-late}
+use Rattle.laws.proofs.Demand.{blockLimit-late}
 use Rattle.verdict.proofs.Blocking.{blockLimit-early, blockLimit-between}
 use Rattle.verdict.proofs.limits.limit.Statement.{statement}
 use Rattle.verdict.proofs.limits.limit.Tie as tie

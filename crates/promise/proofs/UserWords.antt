@@ -3,7 +3,6 @@
 --     it is Overload exactly where the plan is overloaded, and a Fail names the first break, the demand there and the pairs compared
 --     the search gives a set exactly if the plan passes with it, with no set of fewer ones, and with no smaller one of as many ones
 --     it gives none exactly if the plan passes with none of the 2^n sets
--- Two results that meet a promise are the same.
 --     BestSet p m           m is such a set
 -- Assumes nothing.
 use Prim.Native.Nat.{ℕ, _^_, _≤_, _<_}
@@ -29,18 +28,7 @@ use Rattle.laws.proofs.Lawful.{planCheck-lawful}
 use Rattle.horizon.proofs.Sets.{withSet-lawful}
 use Rattle.horizon.proofs.Verdict.{pass-exactly, pass-count, overload-exactly, FirstBreak, fail-names}
 use Rattle.sets.proofs.Search.{setPasses-exactly, Best, search-best, best-search, search-none, none-search}
-use Rattle.verdict.proofs.Answers.{verdict-lawful, set-lawful, set-plan, search-lawful}
-
--- ---- One result
-
-pub verdict-one : (p : Plan) (r s : Verdict) → r ≡ verdictAnswer p → s ≡ verdictAnswer p → r ≡ s
-verdict-one p r s h k = h ∙ sym k
-
-pub verdict-with-one : (p : Plan) (m : ℕ) (r s : Verdict) → r ≡ setAnswer p m → s ≡ setAnswer p m → r ≡ s
-verdict-with-one p m r s h k = h ∙ sym k
-
-pub search-one : (p : Plan) (r s : Assign) → r ≡ searchAnswer p → s ≡ searchAnswer p → r ≡ s
-search-one p r s h k = h ∙ sym k
+use Rattle.laws.proofs.Answers.{verdict-lawful, set-lawful, set-plan, search-lawful}
 
 -- ---- The verdict
 

@@ -3,24 +3,22 @@
 use Prim.Native.Nat.{ℕ, _^_}
 use mathlib.Core.Path.{_≡_, _∙_}
 use lib.Dec.{leb}
-use lib.ListN.{length}
 use Rattle.rules.specs.declared.Plan.{Plan}
 use Rattle.rules.specs.declared.Fault.{Fault}
 use Rattle.rules.specs.declared.Fault.the-variants.{OutOfBounds}
 use Rattle.rules.specs.declared.Checked.the-variants.{Lawful, Refused}
 use Rattle.rules.specs.declared.Verdict.the-variants as verdict
 use Rattle.rules.specs.declared.Assign.the-variants as assign
+use Rattle.rules.specs.declared.Releases.{Releases}
+use Rattle.rules.specs.declared.Outcome.the-variants as outcome
+use Rattle.rules.specs.Release.{releasesOf}
+use Rattle.rules.specs.Run.{runOf}
 use Rattle.rules.specs.Plan.{stringsOf}
 use Rattle.rules.specs.Verdict.{verdictOf}
 use Rattle.rules.specs.Search.{withSet, searchOf}
 use Rattle.rules.specs.Refusal.{then, refuseIf, countCheck, numbersCheck, stringsCheck, multipleCheck, planCheck, setCheck}
-use Rattle.rules.specs.Refusal.{verdictAnswer, setAnswer, searchAnswer}
-use Rattle.verdict.specs.Asked.{Ready}
-use Rattle.laws.proofs.Lawful.{planCheck-lawful, then-first, then-second, then-lawful}
-
--- a plan that the check finds lawful is ready
-pub ready-plan : (p : Plan) → planCheck p ≡ Lawful → length (p .strings) ≡ 10 → Ready p
-ready-plan p h ten = record { lawful = planCheck-lawful p h; ten = ten }
+use Rattle.rules.specs.Refusal.{runCheck, verdictAnswer, setAnswer, searchAnswer, runAnswer}
+use Rattle.laws.proofs.Lawful.{then-first, then-second, then-lawful}
 
 pub verdict-lawful : (p : Plan) → planCheck p ≡ Lawful → verdictAnswer p ≡ verdictOf p
 unfolding verdictAnswer
@@ -57,3 +55,11 @@ set-plan p m h =
     let numbers = then-first (numbersCheck p) (then few strings) rest in
     let last = then-second few strings (then-second (numbersCheck p) (then few strings) rest) in
     then-lawful (countCheck p) (then (numbersCheck p) strings) count ∙ then-lawful (numbersCheck p) strings numbers ∙ last
+
+pub run-lawful : (p : Plan) (rs : Releases) → runCheck p rs ≡ Lawful → runAnswer p rs ≡ runOf p (releasesOf rs)
+unfolding runAnswer
+run-lawful p rs h = rw h
+
+pub run-refused : (p : Plan) (rs : Releases) (f : Fault) (at : ℕ) → runCheck p rs ≡ Refused f at → runAnswer p rs ≡ outcome.Refused f at
+unfolding runAnswer
+run-refused p rs f at h = rw h

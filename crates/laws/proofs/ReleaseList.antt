@@ -8,7 +8,7 @@ use mathlib.Core.Bool.{true, false, not, _&&_}
 use mathlib.Core.List.{List, [], _∷_}
 use native.Mathlib.Omega.{arith}
 use native.Mathlib.Decide.{decLe, ℕ-discrete}
-use native.Mathlib.Nat.{not-suc-le-zero, le-of-suc-le-suc}
+use native.Mathlib.Nat.{le-refl, not-suc-le-zero, le-of-suc-le-suc}
 use borrow.Author.Tests.{ltb-true, ltb-false, eqb-false, not-true}
 use lib.Dec.{ltb, eqb}
 use lib.ListN.{length, getD, List·getD-eq-default}
@@ -32,6 +32,7 @@ stringAt-suc p j =
 
 pub record LawfulRelease (p : Plan) (r : Release) : Type 0 where
   pub placePos : 1 ≤ r .place
+  pub placeMax : r .place ≤ p .n
   pub needPos : 1 ≤ r .need .0
   pub needMax : r .need .0 ≤ stringAt p (r .place) .c .0
   pub early : r .day .0 < p .run .0
@@ -101,6 +102,7 @@ releaseLawful-is p seen r c h =
     let needHigh : r .need .0 ≤ stringAt p (r .place) .c .0 = inBounds-high 1 (r .need .0) (stringAt p (r .place) .c .0) (and-right P N pn) in (
       record {
         placePos = place;
+        placeMax = inBounds-high 1 (r .place) (p .n) (and-left P N pn);
         needPos = needLow;
         needMax = needHigh;
         early = ltb-true _ _ (and-right (P && N) D pnd);
@@ -165,6 +167,14 @@ module _ (p : Plan) (rs : List Release) (lawful : firstUnlawful p rs ≡ 0) wher
 
   pub release-lawful : (m : ℕ) → m < length rs → LawfulRelease p (getD rs m noRelease)
   release-lawful = spaced-lawful p [] rs list-spaced
+
+  -- days never fall
+  pub listed-sorted : (i m : ℕ) → i ≤ m → m < length rs → getD rs i noRelease .day .0 ≤ getD rs m noRelease .day .0
+  listed-sorted i m k h =
+      elim (ℕ-discrete i m) [
+        | yes same ↦ rw same (le-refl (getD rs m noRelease .day .0))
+        | no other ↦ spaced-keeps p [] rs list-spaced i m (omega arith) h .0
+      ]
 
   -- two releases of one place, the earlier listed first, are T days apart
   listed-apart : (j i m : ℕ) → i < m → m < length rs → getD rs i noRelease .place ≡ suc j → getD rs m noRelease .place ≡ suc j

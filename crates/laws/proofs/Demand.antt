@@ -1,0 +1,77 @@
+-- Laws of E, of what a string asks, and of the blocking limit. Everything above cites these and not the definitions.
+-- Assumes nothing.
+use Prim.Native.Nat.{ℕ, _+_, _-_, _*_, _≤_, _<_}
+use mathlib.Core.Path.{_≡_, sym, ap, _∙_}
+use mathlib.Core.Bool.{_&&_}
+use native.Mathlib.Omega.{arith}
+use native.Mathlib.Decide.{ℕ-discrete}
+use native.Mathlib.Nat.{mul-one, mul-zero}
+use borrow.Author.Tests.{le-ltb, eq-eqb, ne-eqb}
+use lib.Dec.{leb, ltb}
+use Rattle.rules.specs.declared.BatteryString.{BatteryString}
+use Rattle.rules.specs.declared.Plan.{Plan}
+use Rattle.rules.specs.Count.{largest}
+use Rattle.rules.specs.Plan.{stringsOf, dMin, dMax}
+use Rattle.rules.specs.Demand.{movingCost, holdOf, jobs, blockerHold, blockLimit, need}
+use Rattle.laws.proofs.Lists.{All, all-map, largest-le, by-bool}
+
+-- ---- E, the longest that a job holds the bank
+
+pub holdOf-work : (p : Plan) (s : BatteryString) → s .c .0 ≤ holdOf p s
+unfolding holdOf
+holdOf-work p s = omega arith
+
+-- a string that may take the bank
+pub holdOf-taker : (p : Plan) (s : BatteryString) → s .x ≡ 1 → holdOf p s ≡ s .c .0 + movingCost p s
+unfolding holdOf
+holdOf-taker p s h = rw h (omega (arith, mul-one (movingCost p s)))
+
+-- and one that may not
+pub holdOf-other : (p : Plan) (s : BatteryString) → s .x ≡ 0 → holdOf p s ≡ s .c .0
+unfolding holdOf
+holdOf-other p s h = rw h (omega (arith, mul-zero (movingCost p s)))
+
+-- ---- What a string asks
+
+pub need-taker : (p : Plan) (l b : ℕ) (s : BatteryString) → s .x ≡ 1 → need p l b s ≡ jobs s (l - b) * holdOf p s
+unfolding need
+need-taker p l b s e = rw (eq-eqb (s .x) 1 e)
+
+pub need-keeper : (p : Plan) (l b : ℕ) (s : BatteryString) → (s .x ≡ 1 → ⊥) → need p l b s ≡ jobs s l * s .c .0
+unfolding need
+need-keeper p l b s e = rw (ne-eqb (s .x) 1 e)
+
+pub need-unblocked : (p : Plan) (l : ℕ) (s : BatteryString) → s .x ≤ 1 → need p l 0 s ≡ jobs s l * holdOf p s
+need-unblocked p l s h =
+    let all-days : l - 0 ≡ l = omega arith in
+    elim (ℕ-discrete (s .x) 1) [
+      | yes e ↦ need-taker p l 0 s e ∙ ap (λ w. jobs s w * holdOf p s) all-days
+      | no e ↦
+          let kept : s .x ≡ 0 = omega arith in
+          need-keeper p l 0 s e ∙ ap (λ c. jobs s l * c) (sym (holdOf-other p s kept))
+    ]
+
+-- ---- The blocking limit
+
+-- from the largest D on nothing blocks
+pub blockLimit-late : (p : Plan) (l : ℕ) → dMax p ≤ l → blockLimit p l ≡ 0
+unfolding blockLimit
+blockLimit-late p l h =
+    let late = le-ltb l (dMax p) h in
+    by-bool (leb (dMin p) l) (λ t. rw (t, late)) (λ e. rw e)
+
+-- it is never above the interval
+pub blockLimit-interval : (p : Plan) (l : ℕ) → blockLimit p l ≤ l
+unfolding blockLimit
+blockLimit-interval p l = by-bool (leb (dMin p) l && ltb l (dMax p)) (λ t. rw t (omega arith)) (λ e. rw e (omega arith))
+
+-- nor above a bound on every E
+pub blockLimit-hold : (p : Plan) (l m : ℕ) → All (λ s. holdOf p s ≤ m) (stringsOf p) → blockLimit p l ≤ m
+unfolding blockLimit
+blockLimit-hold p l m h =
+    let most : largest (blockerHold p l) (stringsOf p) ≤ m =
+    largest-le (blockerHold p l) m (stringsOf p) (all-map (λ s. holdOf p s ≤ m) (λ s. blockerHold p l s ≤ m) one (stringsOf p) h) in
+    by-bool (leb (dMin p) l && ltb l (dMax p)) (λ t. rw t (omega arith)) (λ e. rw e (omega arith))
+  where
+    one : (s : BatteryString) → holdOf p s ≤ m → blockerHold p l s ≤ m
+    one s k = unfold blockerHold in by-bool (ltb l (s .d .0)) (λ t. rw t k) (λ e. rw e (omega arith))

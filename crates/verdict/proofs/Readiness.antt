@@ -1,0 +1,13 @@
+-- When the loops of this crate may start.
+-- Assumes nothing.
+use mathlib.Core.Path.{_≡_}
+use lib.ListN.{length}
+use Rattle.rules.specs.declared.Plan.{Plan}
+use Rattle.rules.specs.declared.Checked.the-variants.{Lawful}
+use Rattle.rules.specs.Refusal.{planCheck}
+use Rattle.laws.proofs.Lawful.{planCheck-lawful}
+use Rattle.verdict.specs.Asked.{Ready}
+
+-- a plan that the check finds lawful is ready
+pub ready-plan : (p : Plan) → planCheck p ≡ Lawful → length (p .strings) ≡ 10 → Ready p
+ready-plan p h ten = record { lawful = planCheck-lawful p h; ten = ten }
