@@ -47,6 +47,15 @@ static uint32_t limit(const Plan *p, uint32_t first, uint32_t last, uint32_t l) 
     return l < most ? l : most;
 }
 
+// with hoist, what the strings with X 0 ask is added up once an interval, and only the others once a pair
+static int hoist;
+
+static uint32_t asked(const Plan *p, uint32_t x, uint32_t w) {
+    uint32_t sum = 0;
+    for (uint32_t i = 0; i < p->n; i++) if (p->s[i].x == x) sum += jobs(&p->s[i], w) * hold(p, &p->s[i]);
+    return sum;
+}
+
 static uint64_t judged(const Plan *p, uint32_t h) {
     uint32_t load = 0, first = p->s[0].d, last = 0, pairs = 0;
     for (uint32_t i = 0; i < p->n; i++) {
@@ -58,6 +67,14 @@ static uint64_t judged(const Plan *p, uint32_t h) {
     if (h < load) return 1;
     for (uint32_t l = 1; l < last + h; l++) {
         uint32_t top = limit(p, first, last, l);
+        if (hoist) {
+            uint32_t kept = asked(p, 0, l);
+            for (uint32_t b = 0; b <= top; b++) {
+                pairs++;
+                if (l < b + kept + asked(p, 1, l - b)) return (uint64_t)pairs * 4 + 2;
+            }
+            continue;
+        }
         for (uint32_t b = 0; b <= top; b++) {
             pairs++;
             if (l < demand(p, l, b)) return (uint64_t)pairs * 4 + 2;
@@ -86,24 +103,23 @@ static void numbers_of(const Plan *p, uint32_t *v) {
     memcpy(v + 3, p->s, sizeof p->s);
 }
 
-static double now(void) { struct timespec t; clock_gettime(CLOCK_MONOTONIC, &t); return t.tv_sec + t.tv_nsec * 1e-9; }
+static double now(void) { struct timespec t; clock_gettime(CLOCK_PROCESS_CPUTIME_ID, &t); return t.tv_sec + t.tv_nsec * 1e-9; }
 
 static void clocked(const char *name, const Plan *p, int searching) {
     uint32_t v[43];
     numbers_of(p, v);
-    double best_peer = 1e9, best_ours = 1e9;
-    uint64_t peer = 0, ours = 0;
-    for (int round = 0; round < 5; round++) {
-        double a = now();
-        peer = searching ? peer_search(p) : peer_verdict(p);
-        double b = now();
-        ours = searching ? entry_search(p->n, v, 43) : entry_verdict(p->n, v, 43);
-        double c = now();
-        if (b - a < best_peer) best_peer = b - a;
-        if (c - b < best_ours) best_ours = c - b;
-    }
-    printf("%-34s peer %9.3f ms  ours %9.3f ms  ratio %5.2f  %s (%llu)\n", name, best_peer * 1e3, best_ours * 1e3, best_ours / best_peer,
-        peer == ours ? "same" : "DIFFERENT", (unsigned long long)ours);
+    double best[3] = {1e9, 1e9, 1e9};
+    uint64_t said[3] = {0};
+    for (int round = 0; round < 15; round++)
+        for (int who = 0; who < 3; who++) {
+            hoist = who == 1;
+            double start = now();
+            said[who] = who < 2 ? (searching ? peer_search(p) : peer_verdict(p)) : searching ? entry_search(p->n, v, 43) : entry_verdict(p->n, v, 43);
+            double spent = now() - start;
+            if (spent < best[who]) best[who] = spent;
+        }
+    printf("%-30s ours %8.3f ms  plain peer %9.3f (ratio %4.2f)  hoisting peer %9.3f (ratio %4.2f)  %s\n", name, best[2] * 1e3, best[0] * 1e3,
+        best[2] / best[0], best[1] * 1e3, best[2] / best[1], said[0] == said[2] && said[1] == said[2] ? "same" : "DIFFERENT");
 }
 
 static void random_plans(int count) {
