@@ -1,0 +1,74 @@
+-- Pages that grow: a page holds exactly one text, and what is appended stands behind it.
+-- Assumes nothing.
+use Prim.Native.Nat.{ℕ, suc, _+_, _-_, _≤_, _<_}
+use mathlib.Core.Path.{_≡_, refl, sym, ap, _∙_}
+use mathlib.Core.List.{List, [], _∷_, _++_, append-assoc}
+use native.Mathlib.Omega.{arith}
+use native.Mathlib.Numerals.{add-one}
+use lib.ListN.{length, getD, take, set, replicate, length-append}
+use lib.Seq.{set-at, take-suc, take-append-seam, length-take-le}
+use Rattle.rules.specs.Text.{filled}
+use Rattle.lines.specs.declared.Page.{Page}
+use Rattle.lines.specs.Pages.{pageOf, textOf, Written}
+
+pub textOf-pageOf : (text : List ℕ) → textOf (pageOf text) ≡ text
+unfolding textOf pageOf
+textOf-pageOf text = take-append-seam text (replicate (256 - length text) 0)
+
+pub written : (page : Page) (text : List ℕ) → page ≡ pageOf text → Written page
+unfolding Written
+written page text e = e ∙ ap pageOf (sym (textOf-pageOf text) ∙ ap textOf (sym e))
+
+pub own : (page : Page) → Written page → page ≡ pageOf (textOf page)
+unfolding Written
+own page w = w
+
+pub len-is : (page : Page) (text : List ℕ) → page ≡ pageOf text → page .len ≡ length text
+unfolding pageOf
+len-is page text e = ap (λ (p : Page). p .len) e
+
+pub bytes-are : (page : Page) (text : List ℕ) → page ≡ pageOf text → page .bytes ≡ filled 256 0 text
+unfolding pageOf
+bytes-are page text e = ap (λ (p : Page). p .bytes) e
+
+pub within : (page : Page) (text : List ℕ) → page ≡ pageOf text → page .len ≤ length (page .bytes)
+within page text e =
+    let behind = length-append text (replicate (256 - length text) 0) in
+    omega (arith, len-is page text e, ap length (bytes-are page text e))
+
+-- what a page holds, once more is appended
+pub grown : (page next : Page) (text more : List ℕ) → page ≡ pageOf text → next ≡ pageOf (textOf page ++ more) → next ≡ pageOf (text ++ more)
+grown page next text more e f = f ∙ ap (λ t. pageOf (t ++ more)) (ap textOf e ∙ textOf-pageOf text)
+
+-- the same behind a part of a line: a word alone, and a word and its number
+pub behind : (page next : Page) (text part word : List ℕ) → page ≡ pageOf (text ++ part) → next ≡ pageOf (textOf page ++ word) → next ≡ pageOf (text ++ (part ++ word))
+behind page next text part word e f = grown page next (text ++ part) word e f ∙ ap pageOf (append-assoc text part word)
+
+pub behind-both : (page next : Page) (text part word number : List ℕ) → page ≡ pageOf (text ++ part) → next ≡ pageOf (textOf page ++ (word ++ number)) → next ≡ pageOf (text ++ (part ++ word ++ number))
+behind-both page next text part word number e f =
+    behind page next text part (word ++ number) e f ∙ ap (λ line. pageOf (text ++ line)) (sym (append-assoc part word number))
+
+pub len-more : (page next : Page) (text word : List ℕ) → page ≡ pageOf text → next ≡ pageOf (textOf page ++ word) → next .len ≡ page .len + length word
+len-more page next text word e f =
+    let before = len-is page text e in
+    let after = len-is next (text ++ word) (grown page next text word e f) in
+    omega (arith, length-append text word)
+
+-- ---- A store behind the text
+
+pub filled-set : (k z v : ℕ) (xs : List ℕ) → length xs < k → set (filled k z xs) (length xs) v ≡ filled k z (xs ++ (v ∷ []))
+filled-set k z v xs h =
+    let room : k - length xs ≡ suc (k - suc (length xs)) = omega arith in
+    let longer : k - length (xs ++ (v ∷ [])) ≡ k - suc (length xs) = omega (arith, length-append xs (v ∷ [])) in
+    rw (room, longer) (set-at xs z (replicate (k - suc (length xs)) z) v (length xs) refl ∙ sym (append-assoc xs (v ∷ []) (replicate (k - suc (length xs)) z)))
+
+pub stored : (front text bytes : List ℕ) (i : ℕ) → i < length text → length front + length text ≤ 256
+    → bytes ≡ filled 256 0 (front ++ take i text)
+    → set bytes (length front + i) (getD text i 0) ≡ filled 256 0 (front ++ take (i + 1) text)
+stored front text bytes i h room e =
+    let many : length (front ++ take i text) ≡ length front + i = length-append front (take i text) ∙ ap (λ n. length front + n) (length-take-le i text (omega arith)) in
+    let next : front ++ take (i + 1) text ≡ (front ++ take i text) ++ (getD text i 0 ∷ []) =
+    rw (add-one i, take-suc text i 0 h) (sym (append-assoc front (take i text) (getD text i 0 ∷ []))) in
+    rw (e, next)
+    (ap (λ k. set (filled 256 0 (front ++ take i text)) k (getD text i 0)) (sym many)
+    ∙ filled-set 256 0 (getD text i 0) (front ++ take i text) (omega arith))

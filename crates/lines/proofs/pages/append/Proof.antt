@@ -1,0 +1,94 @@
+-- `lines::pages::append` meets its contract: the page holds its text and what is copied so far.
+-- Assumes nothing.
+use Prim.Native.Nat.{ℕ, _+_, _-_, _≤_, _<_}
+use mathlib.Core.Path.{_≡_, sym, ap, _∙_}
+use mathlib.Core.List.{List, [], _++_, append-nil}
+use native.Mathlib.Omega.{arith}
+use lib.ListN.{length, getD, take, set, length-append}
+use lib.Seq.{take-length}
+use Rattle.rules.specs.Text.{filled}
+use Rattle.lines.specs.declared.Page.{Page}
+use Rattle.lines.specs.Pages.{pageOf, textOf, Written}
+use Rattle.lines.proofs.Growing.{stored, bytes-are, len-is}
+use Rattle.lines.proofs.pages.append.Statement.{statement}
+use Rattle.lines.proofs.pages.append.Tie as tie
+
+begun : (page : Page) → Written page → page .bytes ≡ filled 256 0 (take (page .len) (page .bytes) ++ [])
+unfolding Written textOf
+begun page w = bytes-are page (textOf page) w ∙ ap (filled 256 0) (sym (append-nil (take (page .len) (page .bytes))))
+
+copied : (page : Page) (text bytes : List ℕ) (i : ℕ) → Written page → page .len + length text ≤ 256 → i < length text → bytes ≡ filled 256 0 (take (page .len) (page .bytes) ++ take i text) → set bytes (page .len + i) (getD text i 0) ≡ filled 256 0 (take (page .len) (page .bytes) ++ take (i + 1) text)
+unfolding Written textOf
+copied page text bytes i w room h e =
+    let len = len-is page (textOf page) w in
+    ap (λ k. set bytes (k + i) (getD text i 0)) len ∙ stored (textOf page) text bytes i h (omega arith) e
+
+done : (page : Page) (text bytes : List ℕ) (i : ℕ) → Written page → i ≡ length text → bytes ≡ filled 256 0 (take (page .len) (page .bytes) ++ take i text) → record { len = page .len + length text; bytes = bytes } ≡ pageOf (textOf page ++ text)
+unfolding Written textOf pageOf
+done page text bytes i w all e =
+    let len : page .len + length text ≡ length (textOf page ++ text) = omega (arith, len-is page (textOf page) w, length-append (textOf page) text) in
+    rw (e, all, take-length text) (ap (λ n. record { len = n; bytes = filled 256 0 (textOf page ++ text) }) len)
+
+abbrev Inv-loop : tie.InvT-loop
+Inv-loop text at bytes₀ i₀ bytes i = (i ≤ length text) × (bytes ≡ filled 256 0 (take at bytes₀ ++ take i text))
+
+abbrev μ-loop : tie.MeasureT-loop
+μ-loop text at bytes₀ i₀ bytes i = length text - i
+
+-- src/pages.rt:29:5
+loop-holds : tie.Need-loop-holds Inv-loop μ-loop
+loop-holds c = (omega arith, begun (c .before .args .page) (c .before .pre .0))
+
+-- src/pages.rt:30:25
+shared-slice-read-bytes : tie.Need-shared-slice-read-bytes Inv-loop μ-loop
+shared-slice-read-bytes c = omega arith
+
+-- src/pages.rt:30:15
+add-bytes : tie.Need-add-bytes Inv-loop μ-loop
+add-bytes c = omega arith
+
+-- src/pages.rt:30:9
+array-write-bytes : tie.Need-array-write-bytes Inv-loop μ-loop
+array-write-bytes c = omega arith
+
+-- src/pages.rt:31:9
+add-i : tie.Need-add-i Inv-loop μ-loop
+add-i c = omega arith
+
+-- src/pages.rt:29:5
+loop-less : tie.Need-loop-less Inv-loop μ-loop
+loop-less c = omega arith
+
+-- src/pages.rt:29:5
+loop-again : tie.Need-loop-again Inv-loop μ-loop
+loop-again c =
+    let at = c .before .before in
+    let start = at .before .before in
+    (omega arith, copied (start .args .page) (start .args .text .now) (at .loop .bytes) (at .loop .i) (start .pre .0) (start .pre .1) (omega arith) (at .loop .inv .1))
+
+-- src/pages.rt:34:14
+add-t13 : tie.Need-add-t13 Inv-loop μ-loop
+add-t13 c = omega arith
+
+-- src/pages.rt:21:1
+returns : tie.Need-returns Inv-loop μ-loop
+returns c =
+    let at = c .before in
+    let start = at .before .before in
+    done (start .args .page) (start .args .text .now) (at .loop .bytes) (at .loop .i) (start .pre .0) (omega arith) (at .loop .inv .1)
+
+pub append-spec : {M : Type 1} → statement M
+append-spec =
+    tie.close
+    (tie.spec
+    Inv-loop
+    μ-loop
+    loop-holds
+    shared-slice-read-bytes
+    add-bytes
+    array-write-bytes
+    add-i
+    loop-less
+    loop-again
+    add-t13
+    returns)

@@ -1,0 +1,41 @@
+// The lines that are written for an answer (document 01, "Frames of the plan file"), on a page of text.
+mod pages;
+mod parts;
+
+use pages::blank;
+use parts::assign_line;
+pub use parts::fault_number;
+use parts::outcome_line;
+use parts::refused_line;
+use parts::verdict_line;
+use rules::Answer;
+ghost use mathlib.Core.Path.{_≡_};
+ghost use Prim.Native.Nat.{_≤_};
+ghost use lib.ListN.{length};
+ghost use Rattle.rules.specs.Lines.{linesFor};
+ghost use Rattle.lines.specs.Pages.{pageOf};
+
+// Text and what is left of the page: the first `len` bytes are the text; zeros stand behind it.
+pub struct Page {
+    pub len: usize,
+    pub bytes: [u8; 256],
+}
+
+// All that is written for an answer. Its longest text is shorter than a page.
+pub fn written(a: Answer) -> Page
+    ensures exact { λ r. ⌜ r ≡ pageOf (linesFor a) ⌝ }
+    ensures within { λ r. ⌜ r .len ≤ length (r .bytes) ⌝ }
+{
+    match a {
+        Answer::Refused { fault, at } => refused_line(blank(), fault, at),
+        Answer::Answered {
+            verdict,
+            assign,
+            outcome,
+        } => {
+            let first = verdict_line(blank(), verdict);
+            let second = assign_line(first, assign);
+            outcome_line(second, outcome)
+        }
+    }
+}

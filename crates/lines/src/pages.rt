@@ -1,0 +1,76 @@
+// A page of text that grows at its end.
+use super::Page;
+ghost use mathlib.Core.Path.{_≡_};
+ghost use mathlib.Core.List.{List, [], _++_};
+ghost use Prim.Native.Nat.{ℕ, _+_, _≤_};
+ghost use lib.ListN.{length};
+ghost use Rattle.rules.specs.Lines.{decimal};
+ghost use Rattle.lines.specs.Pages.{pageOf, textOf, Written};
+
+// A page with no text.
+pub(crate) fn blank() -> Page
+    ensures exact { λ r. ⌜ r ≡ pageOf [] ⌝ }
+{
+    Page {
+        len: 0,
+        bytes: [0; 256],
+    }
+}
+
+// A text after the text of the page.
+pub(crate) fn append(page: Page, text: &[u8]) -> Page
+    requires { ⌜ Written page ⌝ }
+    requires { ⌜ page .len + length (now text) ≤ 256 ⌝ }
+    ensures exact { λ r. ⌜ r ≡ pageOf (textOf page ++ now (text .entry)) ⌝ }
+{
+    let at = page.len;
+    let mut bytes = page.bytes;
+    let mut i: usize = 0;
+    while i < text.len() {
+        bytes[at + i] = text[i];
+        i += 1;
+    }
+    Page {
+        len: at + text.len(),
+        bytes,
+    }
+}
+
+// The digits of a number, the last one first found: filled from the end, then written as one text.
+pub(crate) fn append_number(page: Page, n: u64) -> Page
+    requires { ⌜ Written page ⌝ }
+    requires { ⌜ page .len + 20 ≤ 256 ⌝ }
+    ensures exact { λ r. ⌜ r ≡ pageOf (textOf page ++ decimal n) ⌝ }
+{
+    let mut digits = [0u8; 20];
+    let mut at: usize = 20;
+    let mut rest = n;
+    while 10 <= rest {
+        at -= 1;
+        digits[at] = 48 + (rest % 10) as u8;
+        rest /= 10;
+    }
+    at -= 1;
+    digits[at] = 48 + rest as u8;
+    append(page, &digits[at..])
+}
+
+// A word and a count of days, of pairs or of a set.
+pub(crate) fn append_count(page: Page, word: &[u8], n: u32) -> Page
+    requires { ⌜ Written page ⌝ }
+    requires { ⌜ page .len + length (now word) + 20 ≤ 256 ⌝ }
+    ensures exact { λ r. ⌜ r ≡ pageOf (textOf page ++ (now (word .entry) ++ decimal n)) ⌝ }
+    ensures short { λ r. ⌜ r .len ≤ page .len + length (now (word .entry)) + 10 ⌝ }
+{
+    append_number(append(page, word), n as u64)
+}
+
+// A word and a line or a place.
+pub(crate) fn append_place(page: Page, word: &[u8], n: usize) -> Page
+    requires { ⌜ Written page ⌝ }
+    requires { ⌜ page .len + length (now word) + 20 ≤ 256 ⌝ }
+    ensures exact { λ r. ⌜ r ≡ pageOf (textOf page ++ (now (word .entry) ++ decimal n)) ⌝ }
+    ensures short { λ r. ⌜ r .len ≤ page .len + length (now (word .entry)) + 20 ⌝ }
+{
+    append_number(append(page, word), n as u64)
+}
