@@ -7,6 +7,7 @@ ghost use Rattle.rules.specs.Answer.{answerOf};
 // The verdict and the run use the X in the plan, not the set found. The text is lent and keeps its bytes.
 pub fn answer(text: &[u8]) -> Answer
     ensures exact { λ r. ⌜ r ≡ answerOf (now (text .entry)) ⌝ }
+    ensures kept { λ r. ⌜ now (text .exit) ≡ now (text .entry) ⌝ }
 {
     let reading = reading::read(text);
     let checked = reading.checked;

@@ -109,6 +109,7 @@ fn read_body(text: &[u8]) -> Reading
 // What a text says: the plan and its releases, or the first fault with its line. The text is lent and keeps its bytes.
 pub fn read(text: &[u8]) -> Reading
     ensures exact { λ r. ⌜ r ≡ readingOf (now (text .entry)) ⌝ }
+    ensures kept { λ r. ⌜ now (text .exit) ≡ now (text .entry) ⌝ }
 {
     if 65536 < text.len() {
         return refusal(Fault::TextTooLong, 0);

@@ -1,7 +1,7 @@
 -- `answers::answer` meets its contract: what reading finds decides between the refusal and the three answers.
 -- Assumes nothing.
 use Prim.Native.Nat.{ℕ}
-use mathlib.Core.Path.{_≡_, sym, ap, _∙_}
+use mathlib.Core.Path.{_≡_, refl, sym, ap, _∙_}
 use mathlib.Core.List.{List}
 use borrow.Author.Needs.{needs}
 use Rattle.rules.specs.declared.Fault.{Fault}
@@ -53,13 +53,13 @@ returns : tie.Need-returns
 returns c =
     let told = c .before .before .before in
     let found = told .before .before .before .before in
-    lawful (found .before .before .args .text .now) (found .read .result) _ _ _ (found .read .ensures) (told .enum-told .given .1) (c .before .before .verdict .ensures) (c .before .search .ensures) (c .run .ensures)
+    (lawful (found .before .before .args .text .now) (found .read .result) _ _ _ (found .read .ensures .0) (told .enum-told .given .1) (c .before .before .verdict .ensures) (c .before .search .ensures) (c .run .ensures), refl)
 
 returns-2 : tie.Need-returns-2
 returns-2 c =
     let told = c .before in
     let found = told .before .before .before .before in
-    refused (found .before .before .args .text .now) (found .read .result) _ _ (found .read .ensures) (told .checked .given .1)
+    (refused (found .before .before .args .text .now) (found .read .result) _ _ (found .read .ensures .0) (told .checked .given .1), refl)
 
 pub answer-spec : {M : Type 1} → statement M
 answer-spec =

@@ -34,7 +34,7 @@ refusal-requires c κs = search needs
 returns : tie.Need-returns
 returns c =
     let text = c .before .before .before .args .text .now in
-    c .refusal .ensures ∙ sym (read-long text (c .before .if1 .taken))
+    (c .refusal .ensures ∙ sym (read-long text (c .before .if1 .taken)), refl)
 
 refusal-requires-2 : tie.Need-refusal-requires-2
 refusal-requires-2 c κs = search needs
@@ -43,7 +43,7 @@ returns-2 : tie.Need-returns-2
 returns-2 c =
     let fits = c .before .before in
     let text = fits .before .before .args .text .now in
-    c .refusal2 .ensures ∙ sym (read-empty text (fits .if1 .left) (c .before .if2 .taken))
+    (c .refusal2 .ensures ∙ sym (read-empty text (fits .if1 .left) (c .before .if2 .taken)), refl)
 
 header-check-requires : tie.Need-header-check-requires
 header-check-requires c κs = search needs
@@ -65,7 +65,7 @@ returns-3 c =
     let told = c .before in
     let fits = told .before .before .before .before in
     let text = fits .before .before .args .text .now in
-    c .read-body .ensures ∙ sym (read-body text (fits .if1 .left) (lawful told) (header told))
+    (c .read-body .ensures ∙ sym (read-body text (fits .if1 .left) (lawful told) (header told)), refl)
 
 returns-4 : tie.Need-returns-4
 returns-4 c =
@@ -74,8 +74,8 @@ returns-4 c =
     let some = checked .before in
     let fits = some .before in
     let text = fits .before .before .args .text .now in
-    c .refusal3 .ensures
-    ∙ sym (read-refused text (fits .if1 .left) (omega arith) _ _ (sym (checked .header-check .ensures) ∙ known .header .given .1))
+    (c .refusal3 .ensures
+    ∙ sym (read-refused text (fits .if1 .left) (omega arith) _ _ (sym (checked .header-check .ensures) ∙ known .header .given .1)), refl)
 
 pub read-spec : {M : Type 1} → statement M
 read-spec =
