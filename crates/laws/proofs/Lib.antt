@@ -5,6 +5,7 @@ pub mod Jobs
 pub mod Demand
 pub mod Lawful
 pub mod Powers
+pub mod Filling
 pub mod Releases
 pub mod ReleaseList
 pub mod Answers

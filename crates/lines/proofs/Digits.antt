@@ -79,12 +79,14 @@ module _ (digits : List ℕ) (at : ℕ) (first : 1 ≤ at) (within : at ≤ leng
       let next : suc (at - 1) ≡ at = omega arith in
       rw (set-split digits (at - 1) d (omega arith), next) (drop-at (take (at - 1) digits) (d ∷ drop at digits) (at - 1) (length-take-le (at - 1) digits (omega arith)))
 
-  pub digits-more : (n rest : ℕ) → 10 ≤ rest → decimal n ≡ decimal rest ++ drop at digits → decimal n ≡ decimal (rest / 10) ++ drop (at - 1) (set digits (at - 1) (0x30 + rest % 10))
+  pub digits-more : (n rest : ℕ) → 10 ≤ rest → decimal n ≡ decimal rest ++ drop at digits
+      → decimal n ≡ decimal (rest / 10) ++ drop (at - 1) (set digits (at - 1) (0x30 + rest % 10))
   digits-more n rest many e =
       e
       ∙ ap (λ ds. ds ++ drop at digits) (decimal-last rest many)
       ∙ append-assoc (decimal (rest / 10)) ((0x30 + rest % 10) ∷ []) (drop at digits)
       ∙ ap (λ ds. decimal (rest / 10) ++ ds) (sym (stored-digit (0x30 + rest % 10)))
 
-  pub digits-all : (n rest : ℕ) → rest < 10 → decimal n ≡ decimal rest ++ drop at digits → decimal n ≡ drop (at - 1) (set digits (at - 1) (0x30 + rest))
+  pub digits-all : (n rest : ℕ) → rest < 10 → decimal n ≡ decimal rest ++ drop at digits
+      → decimal n ≡ drop (at - 1) (set digits (at - 1) (0x30 + rest))
   digits-all n rest few e = e ∙ ap (λ ds. ds ++ drop at digits) (decimal-digit rest few) ∙ sym (stored-digit (0x30 + rest))

@@ -10,6 +10,7 @@ use lib.Seq.{set-at, take-suc, take-append-seam, length-take-le}
 use Rattle.rules.specs.Text.{filled}
 use Rattle.lines.specs.declared.Page.{Page}
 use Rattle.lines.specs.Pages.{pageOf, textOf, Written}
+use Rattle.laws.proofs.Filling.{filled-set}
 
 pub textOf-pageOf : (text : List ℕ) → textOf (pageOf text) ≡ text
 unfolding textOf pageOf
@@ -41,26 +42,24 @@ pub grown : (page next : Page) (text more : List ℕ) → page ≡ pageOf text �
 grown page next text more e f = f ∙ ap (λ t. pageOf (t ++ more)) (ap textOf e ∙ textOf-pageOf text)
 
 -- the same behind a part of a line: a word alone, and a word and its number
-pub behind : (page next : Page) (text part word : List ℕ) → page ≡ pageOf (text ++ part) → next ≡ pageOf (textOf page ++ word) → next ≡ pageOf (text ++ (part ++ word))
+pub behind : (page next : Page) (text part word : List ℕ) → page ≡ pageOf (text ++ part) → next ≡ pageOf (textOf page ++ word)
+    → next ≡ pageOf (text ++ (part ++ word))
 behind page next text part word e f = grown page next (text ++ part) word e f ∙ ap pageOf (append-assoc text part word)
 
-pub behind-both : (page next : Page) (text part word number : List ℕ) → page ≡ pageOf (text ++ part) → next ≡ pageOf (textOf page ++ (word ++ number)) → next ≡ pageOf (text ++ (part ++ word ++ number))
+pub behind-both : (page next : Page) (text part word number : List ℕ) → page ≡ pageOf (text ++ part)
+    → next ≡ pageOf (textOf page ++ (word ++ number))
+    → next ≡ pageOf (text ++ (part ++ word ++ number))
 behind-both page next text part word number e f =
     behind page next text part (word ++ number) e f ∙ ap (λ line. pageOf (text ++ line)) (sym (append-assoc part word number))
 
-pub len-more : (page next : Page) (text word : List ℕ) → page ≡ pageOf text → next ≡ pageOf (textOf page ++ word) → next .len ≡ page .len + length word
+pub len-more : (page next : Page) (text word : List ℕ) → page ≡ pageOf text → next ≡ pageOf (textOf page ++ word)
+    → next .len ≡ page .len + length word
 len-more page next text word e f =
     let before = len-is page text e in
     let after = len-is next (text ++ word) (grown page next text word e f) in
     omega (arith, length-append text word)
 
 -- ---- A store behind the text
-
-pub filled-set : (k z v : ℕ) (xs : List ℕ) → length xs < k → set (filled k z xs) (length xs) v ≡ filled k z (xs ++ (v ∷ []))
-filled-set k z v xs h =
-    let room : k - length xs ≡ suc (k - suc (length xs)) = omega arith in
-    let longer : k - length (xs ++ (v ∷ [])) ≡ k - suc (length xs) = omega (arith, length-append xs (v ∷ [])) in
-    rw (room, longer) (set-at xs z (replicate (k - suc (length xs)) z) v (length xs) refl ∙ sym (append-assoc xs (v ∷ []) (replicate (k - suc (length xs)) z)))
 
 pub stored : (front text bytes : List ℕ) (i : ℕ) → i < length text → length front + length text ≤ 256
     → bytes ≡ filled 256 0 (front ++ take i text)

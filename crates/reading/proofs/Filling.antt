@@ -1,23 +1,15 @@
--- Arrays filled from the front: what is stored so far, and the filler behind it.
+-- The strings and the releases that lines write, one more at the end.
 -- Assumes nothing.
 use Prim.Native.Nat.{ℕ, zero, suc, _+_, _-_, _*_, _≤_, _<_}
 use mathlib.Core.Path.{_≡_, refl, sym, ap, _∙_}
-use mathlib.Core.List.{List, [], _∷_, _++_, append-assoc}
+use mathlib.Core.List.{List, [], _∷_, _++_}
 use native.Mathlib.Omega.{arith}
 use native.Mathlib.Numerals.{add-one}
-use lib.ListN.{length, set, replicate, length-append}
-use lib.Seq.{set-at}
+use lib.ListN.{length}
 use Rattle.rules.specs.declared.BatteryString.{BatteryString}
 use Rattle.rules.specs.declared.Release.{Release}
-use Rattle.rules.specs.Text.{filled, stringOf, releaseOf}
+use Rattle.rules.specs.Text.{stringOf, releaseOf}
 use Rattle.reading.specs.Place.{lineAt, stringsBy, releasesBy}
-
-module _ {ℓ} {A : Type ℓ} where
-  pub filled-set : (k : ℕ) (z v : A) (xs : List A) → length xs < k → set (filled k z xs) (length xs) v ≡ filled k z (xs ++ (v ∷ []))
-  filled-set k z v xs h =
-      let room : k - length xs ≡ suc (k - suc (length xs)) = omega arith in
-      let longer : k - length (xs ++ (v ∷ [])) ≡ k - suc (length xs) = omega (arith, length-append xs (v ∷ [])) in
-      rw (room, longer) (set-at xs z (replicate (k - suc (length xs)) z) v (length xs) refl ∙ sym (append-assoc xs (v ∷ []) (replicate (k - suc (length xs)) z)))
 
 module _ (text : List ℕ) where
   pub stringsBy-length : (at n : ℕ) → length (stringsBy text at n) ≡ n

@@ -73,9 +73,11 @@ returns-4 c =
     let checked = known .before .before in
     let some = checked .before in
     let fits = some .before in
-    let text = fits .before .before .args .text .now in
-    (c .refusal3 .ensures
-    ∙ sym (read-refused text (fits .if1 .left) (omega arith) _ _ (sym (checked .header-check .ensures) ∙ known .header .given .1)), refl)
+    let text = fits .before .before .args .text .now in (
+      c .refusal3 .ensures
+          ∙ sym (read-refused text (fits .if1 .left) (omega arith) _ _ (sym (checked .header-check .ensures) ∙ known .header .given .1)),
+      refl,
+    )
 
 pub read-spec : {M : Type 1} → statement M
 read-spec =

@@ -13,33 +13,42 @@ use Rattle.lines.proofs.Growing.{stored, bytes-are, len-is}
 use Rattle.lines.proofs.pages.append.Statement.{statement}
 use Rattle.lines.proofs.pages.append.Tie as tie
 
-begun : (page : Page) → Written page → page .bytes ≡ filled 256 0 (take (page .len) (page .bytes) ++ [])
-unfolding Written textOf
-begun page w = bytes-are page (textOf page) w ∙ ap (filled 256 0) (sym (append-nil (take (page .len) (page .bytes))))
+-- a page's bytes once i bytes of the text stand behind its own
+abbrev copy : ℕ → List ℕ → List ℕ → ℕ → List ℕ
+copy at own text i = filled 256 0 (take at own ++ take i text)
 
-copied : (page : Page) (text bytes : List ℕ) (i : ℕ) → Written page → page .len + length text ≤ 256 → i < length text → bytes ≡ filled 256 0 (take (page .len) (page .bytes) ++ take i text) → set bytes (page .len + i) (getD text i 0) ≡ filled 256 0 (take (page .len) (page .bytes) ++ take (i + 1) text)
-unfolding Written textOf
-copied page text bytes i w room h e =
-    let len = len-is page (textOf page) w in
-    ap (λ k. set bytes (k + i) (getD text i 0)) len ∙ stored (textOf page) text bytes i h (omega arith) e
+module _ (page : Page) (text bytes : List ℕ) (i : ℕ) (w : Written page) where
+  begun : page .bytes ≡ copy (page .len) (page .bytes) text 0
+  unfolding Written textOf
+  begun = bytes-are page (textOf page) w ∙ ap (filled 256 0) (sym (append-nil (take (page .len) (page .bytes))))
 
-done : (page : Page) (text bytes : List ℕ) (i : ℕ) → Written page → i ≡ length text → bytes ≡ filled 256 0 (take (page .len) (page .bytes) ++ take i text) → record { len = page .len + length text; bytes = bytes } ≡ pageOf (textOf page ++ text)
-unfolding Written textOf pageOf
-done page text bytes i w all e =
-    let len : page .len + length text ≡ length (textOf page ++ text) = omega (arith, len-is page (textOf page) w, length-append (textOf page) text) in
-    rw (e, all, take-length text) (ap (λ n. record { len = n; bytes = filled 256 0 (textOf page ++ text) }) len)
+  copied : page .len + length text ≤ 256 → i < length text → bytes ≡ copy (page .len) (page .bytes) text i
+      → set bytes (page .len + i) (getD text i 0) ≡ copy (page .len) (page .bytes) text (i + 1)
+  unfolding Written textOf
+  copied room h e =
+      let len = len-is page (textOf page) w in
+      ap (λ k. set bytes (k + i) (getD text i 0)) len ∙ stored (textOf page) text bytes i h (omega arith) e
+
+  done : i ≡ length text → bytes ≡ copy (page .len) (page .bytes) text i
+      → record { len = page .len + length text; bytes = bytes } ≡ pageOf (textOf page ++ text)
+  unfolding Written textOf pageOf
+  done all e =
+      let len : page .len + length text ≡ length (textOf page ++ text) =
+      omega (arith, len-is page (textOf page) w, length-append (textOf page) text) in
+      rw (e, all, take-length text) (ap (λ n. record { len = n; bytes = filled 256 0 (textOf page ++ text) }) len)
 
 abbrev Inv-loop : tie.InvT-loop
-Inv-loop text at bytes₀ i₀ bytes i = (i ≤ length text) × (bytes ≡ filled 256 0 (take at bytes₀ ++ take i text))
+Inv-loop text at bytes₀ i₀ bytes i = (i ≤ length text) × (bytes ≡ copy at bytes₀ text i)
 
 abbrev μ-loop : tie.MeasureT-loop
 μ-loop text at bytes₀ i₀ bytes i = length text - i
 
 -- src/pages.rt:29:5
 loop-holds : tie.Need-loop-holds Inv-loop μ-loop
-loop-holds c = (omega arith, begun (c .before .args .page) (c .before .pre .0))
+loop-holds c =
+    let start = c .before in
+    (omega arith, begun (start .args .page) (start .args .text .now) [] 0 (start .pre .0))
 
--- src/pages.rt:30:25
 shared-slice-read-bytes : tie.Need-shared-slice-read-bytes Inv-loop μ-loop
 shared-slice-read-bytes c = omega arith
 
@@ -64,9 +73,9 @@ loop-again : tie.Need-loop-again Inv-loop μ-loop
 loop-again c =
     let at = c .before .before in
     let start = at .before .before in
-    (omega arith, copied (start .args .page) (start .args .text .now) (at .loop .bytes) (at .loop .i) (start .pre .0) (start .pre .1) (omega arith) (at .loop .inv .1))
+    let g = start .args in
+    (omega arith, copied (g .page) (g .text .now) (at .loop .bytes) (at .loop .i) (start .pre .0) (start .pre .1) (omega arith) (at .loop .inv .1))
 
--- src/pages.rt:34:14
 add-t13 : tie.Need-add-t13 Inv-loop μ-loop
 add-t13 c = omega arith
 

@@ -10,7 +10,8 @@ use Rattle.rules.specs.declared.Release.{Release}
 use Rattle.rules.specs.Release.{noRelease}
 use Rattle.rules.specs.Text.{filled, releaseOf}
 use Rattle.reading.specs.Place.{lineAt, releasesBy, releaseListBy}
-use Rattle.reading.proofs.Filling.{filled-set, releasesBy-length, releasesBy-next}
+use Rattle.laws.proofs.Filling.{filled-set}
+use Rattle.reading.proofs.Filling.{releasesBy-length, releasesBy-next}
 use Rattle.reading.proofs.releases.releases_in.Statement.{statement}
 use Rattle.reading.proofs.releases.releases_in.Tie as tie
 

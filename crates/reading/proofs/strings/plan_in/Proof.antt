@@ -12,7 +12,8 @@ use Rattle.rules.specs.Text.{filled, stringOf}
 use Rattle.reading.specs.Place.{lineAt, pairIn, quadIn, stringsBy, planBy}
 use Rattle.days.specs.Days.{days}
 use Rattle.reading.proofs.Numbers.{digit-from}
-use Rattle.reading.proofs.Filling.{filled-set, stringsBy-length, stringsBy-next}
+use Rattle.laws.proofs.Filling.{filled-set}
+use Rattle.reading.proofs.Filling.{stringsBy-length, stringsBy-next}
 use Rattle.reading.proofs.strings.plan_in.Statement.{statement}
 use Rattle.reading.proofs.strings.plan_in.Tie as tie
 

@@ -1,0 +1,79 @@
+//! Several faults at once, so that the order of the refusal table decides.
+
+use super::cuts::{cut, grow};
+use super::sheet::{Kind, Sheet};
+use super::{lines, releases};
+use crate::chance::Chance;
+use crate::writing::{
+    put, Field, C, COUNT, D, DAY, DAYS, KIND, MOVING, NEED, PLACE, T, VERSION, X,
+};
+
+/// Two to four faults; often on one line, where 2, 3, 4 and 5, or 2, 3 and 8, compete.
+pub fn several(chance: &mut Chance) -> Vec<u8> {
+    let mut sheet = Sheet::draw(chance);
+    if chance.one_in(6) {
+        part_periods(&mut sheet);
+    }
+    let line = sheet.any_line(chance);
+    for _ in 0..chance.between(2, 4) {
+        let at = if chance.one_in(3) {
+            sheet.any_line(chance)
+        } else {
+            line
+        };
+        spoil_line(chance, &mut sheet, at);
+    }
+    if chance.one_in(5) {
+        releases::add_any(chance, &mut sheet);
+    }
+    if chance.one_in(5) {
+        lines::add_any(chance, &mut sheet);
+    }
+    sheet.text()
+}
+
+/// Gives the first two strings periods whose H is over its bound.
+fn part_periods(sheet: &mut Sheet) {
+    if sheet.plan.strings.len() >= 2 {
+        put(&mut sheet.lines[1], T, 997);
+        put(&mut sheet.lines[2], T, 991);
+    }
+}
+
+fn spoil_line(chance: &mut Chance, sheet: &mut Sheet, at: usize) {
+    let kind = sheet.kind(at);
+    let line = &mut sheet.lines[at];
+    match chance.below(10) {
+        0 => cut(line, chance.index(18)),
+        1 => {
+            let more = chance.between(1, 3) as usize;
+            grow(chance, line, more);
+        }
+        2 => {
+            let digit = chance.index(line.len());
+            line[digit] = chance.byte();
+        }
+        _ => {
+            let field = chance.pick(fields(kind));
+            put(line, field, wrong_value(chance));
+        }
+    }
+}
+
+fn fields(kind: Kind) -> &'static [Field] {
+    match kind {
+        Kind::Header => &[KIND, VERSION, COUNT, MOVING, DAYS],
+        Kind::String => &[KIND, X, T, C, D],
+        Kind::Release => &[KIND, PLACE, DAY, NEED],
+    }
+}
+
+/// A value that is wrong in most fields. The field takes the low bytes of it.
+fn wrong_value(chance: &mut Chance) -> u64 {
+    match chance.below(4) {
+        0 => 0,
+        1 => 1_001,
+        2 => chance.below(1 << 32),
+        _ => 0xffff_ffff,
+    }
+}

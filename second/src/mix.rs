@@ -1,0 +1,191 @@
+//! Which kind of file comes when, and the making of it.
+
+use crate::chance::Chance;
+use crate::faults::{bytes, cuts, lines, long, noise, release_count, several, values};
+use crate::plans::{border, claim, cycles, extreme, far, load, releases, shaped, strings, takings};
+use crate::rules::plan::Plan;
+use crate::{faults, writing};
+
+/// A kind of file. The turn counts the files of this kind, from 0.
+pub struct Kind {
+    pub name: &'static str,
+    /// Files of this kind in each 1,000.
+    share: u64,
+    make: fn(&mut Chance, u64) -> Vec<u8>,
+}
+
+/// Files in one round of all kinds.
+const ROUND: u64 = 1_000;
+
+/// A step without a common divisor with the round, so that a few files already mix the kinds.
+const STRIDE: u64 = 617;
+
+pub const KINDS: [Kind; 32] = [
+    kind("lawful", 148, lawful),
+    kind("permissions matter", 50, permissions_matter),
+    kind("choice of permissions", 20, choices),
+    kind("equal deadlines", 40, equal_deadlines),
+    kind("payer waits", 12, payer_waits),
+    kind("takers tie", 12, takers_tie),
+    kind("border", 90, at_the_border),
+    kind("load about H", 40, load_about_cycle),
+    kind("numbers at bounds", 10, upper_bounds),
+    kind("largest load", 2, largest_load),
+    kind("claim", 100, pressed),
+    kind("ten strings", 8, ten_strings),
+    kind("long run", 4, long_run),
+    kind("late fail", 4, late_fail),
+    kind("many pairs", 4, many_pairs),
+    kind("heavy search", 1, heavy),
+    kind("H near its bound", 10, cycle_near_bound),
+    kind("one byte", 272, bytes::one_byte),
+    kind("text cut", 20, cuts::text_cut),
+    kind("line cut", 10, cuts::line_cut),
+    kind("line grown", 5, cuts::line_grown),
+    kind("line fault", 25, lines::line_fault),
+    kind("n", 6, values::count),
+    kind("kind or version", 21, values::kind_or_version),
+    kind("A or N at bound", 6, values::header_bounds),
+    kind("X, T, C or D at bound", 14, values::string_bounds),
+    kind("release at bound", 22, faults::releases::one_release),
+    kind("1,000 releases", 9, release_count::many_releases),
+    kind("long text", 3, long::long_text),
+    kind("noise", 8, noise::noise),
+    kind("several faults", 22, several_faults),
+    kind("full list", 2, full_list),
+];
+
+const fn kind(name: &'static str, share: u64, make: fn(&mut Chance, u64) -> Vec<u8>) -> Kind {
+    Kind { name, share, make }
+}
+
+pub struct Made {
+    /// Place of the kind in the table.
+    pub kind: usize,
+    pub text: Vec<u8>,
+}
+
+/// The file of this number under this seed.
+pub fn make(seed: u64, file: u64) -> Made {
+    let (kind, turn) = kind_and_turn(file);
+    let mut chance = Chance::new(seed, file);
+    let text = (KINDS[kind].make)(&mut chance, turn);
+    Made { kind, text }
+}
+
+fn kind_and_turn(file: u64) -> (usize, u64) {
+    let mut place = file * STRIDE % ROUND;
+    let mut at = 0;
+    while place >= KINDS[at].share {
+        place -= KINDS[at].share;
+        at += 1;
+    }
+    (at, file / ROUND * KINDS[at].share + place)
+}
+
+/// Gives a plan a run and releases, and writes it.
+fn filled(chance: &mut Chance, mut plan: Plan) -> Vec<u8> {
+    let most = chance.between(0, 30) as usize;
+    releases::fill(chance, &mut plan, most);
+    writing::text(&plan)
+}
+
+fn lawful(chance: &mut Chance, _: u64) -> Vec<u8> {
+    let limit = strings::cost_limit(chance, 2_000_000);
+    let plan = strings::mixed(chance, 8, limit);
+    filled(chance, plan)
+}
+
+fn permissions_matter(chance: &mut Chance, _: u64) -> Vec<u8> {
+    let plan = shaped::contrast(chance);
+    filled(chance, plan)
+}
+
+fn choices(chance: &mut Chance, _: u64) -> Vec<u8> {
+    let plan = shaped::choices(chance);
+    filled(chance, plan)
+}
+
+fn equal_deadlines(chance: &mut Chance, _: u64) -> Vec<u8> {
+    let plan = shaped::equal_deadlines(chance);
+    filled(chance, plan)
+}
+
+fn payer_waits(chance: &mut Chance, _: u64) -> Vec<u8> {
+    writing::text(&takings::payer_waits(chance))
+}
+
+fn takers_tie(chance: &mut Chance, _: u64) -> Vec<u8> {
+    writing::text(&takings::takers_tie(chance))
+}
+
+/// The last plan that passes and the first that does not, in turn.
+fn at_the_border(chance: &mut Chance, turn: u64) -> Vec<u8> {
+    let border = border::border(chance);
+    let plan = if turn.is_multiple_of(2) {
+        border.inside
+    } else {
+        border.outside
+    };
+    filled(chance, plan)
+}
+
+fn load_about_cycle(chance: &mut Chance, turn: u64) -> Vec<u8> {
+    let plan = load::full(chance, turn);
+    filled(chance, plan)
+}
+
+fn upper_bounds(chance: &mut Chance, _: u64) -> Vec<u8> {
+    let plan = extreme::upper_bounds(chance);
+    filled(chance, plan)
+}
+
+fn largest_load(chance: &mut Chance, _: u64) -> Vec<u8> {
+    let plan = extreme::largest_load(chance);
+    filled(chance, plan)
+}
+
+fn pressed(chance: &mut Chance, _: u64) -> Vec<u8> {
+    writing::text(&claim::pressed(chance))
+}
+
+fn ten_strings(chance: &mut Chance, _: u64) -> Vec<u8> {
+    let plan = shaped::ten_strings(chance);
+    filled(chance, plan)
+}
+
+fn long_run(chance: &mut Chance, _: u64) -> Vec<u8> {
+    writing::text(&far::long_run(chance))
+}
+
+fn late_fail(chance: &mut Chance, _: u64) -> Vec<u8> {
+    let plan = far::late_fail(chance);
+    filled(chance, plan)
+}
+
+fn many_pairs(chance: &mut Chance, _: u64) -> Vec<u8> {
+    let plan = far::many_pairs(chance);
+    filled(chance, plan)
+}
+
+fn heavy(chance: &mut Chance, _: u64) -> Vec<u8> {
+    let plan = extreme::heavy(chance);
+    filled(chance, plan)
+}
+
+fn cycle_near_bound(chance: &mut Chance, _: u64) -> Vec<u8> {
+    let plan = cycles::near_bound(chance);
+    filled(chance, plan)
+}
+
+fn several_faults(chance: &mut Chance, _: u64) -> Vec<u8> {
+    several::several(chance)
+}
+
+/// As many releases as a list may have, over strings of any kind.
+fn full_list(chance: &mut Chance, _: u64) -> Vec<u8> {
+    let mut plan = strings::mixed(chance, 6, 100_000);
+    plan.days = chance.between(2_000, 40_000);
+    plan.releases = releases::list(chance, &plan, 1_000);
+    writing::text(&plan)
+}

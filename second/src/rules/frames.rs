@@ -1,0 +1,138 @@
+//! Reading a plan file: its lines and frames, and the refusal table.
+
+use super::plan::{BatteryString, Plan, Release};
+
+const MOST_BYTES: usize = 65_536;
+const MOST_RELEASES: usize = 1_000;
+
+#[derive(Clone, Copy, Debug, PartialEq)]
+pub struct Refusal {
+    pub number: usize,
+    /// Counted from 1; 0 stands for the whole text.
+    pub line: usize,
+}
+
+/// The plan in a text, or the first fault in the order of the table.
+pub fn read(text: &[u8]) -> Result<Plan, Refusal> {
+    if text.len() > MOST_BYTES {
+        return Err(Refusal { number: 1, line: 0 });
+    }
+    // Each piece keeps its 0a, so that the last one can be seen to lack it.
+    let lines: Vec<&[u8]> = text.split_inclusive(|byte| *byte == b'\n').collect();
+    let (count, mut plan) = read_header(&lines)?;
+    for line in 2..=count + 1 {
+        plan.strings.push(read_string(&lines, line)?);
+    }
+    require(plan.cycle().is_some(), 6, count + 1)?;
+    for line in count + 2..=lines.len() {
+        let release = read_release(&lines, line, &plan)?;
+        plan.releases.push(release);
+    }
+    Ok(plan)
+}
+
+fn require(holds: bool, number: usize, line: usize) -> Result<(), Refusal> {
+    if holds {
+        Ok(())
+    } else {
+        Err(Refusal { number, line })
+    }
+}
+
+fn read_header(lines: &[&[u8]]) -> Result<(usize, Plan), Refusal> {
+    let frame = frame_of(lines, 1, 0x01, 9)?;
+    require(frame[1] == 0x01, 3, 1)?;
+    let count = usize::from(frame[2]);
+    require((1..=10).contains(&count), 4, 1)?;
+    let plan = Plan {
+        moving: number(&frame[3..5]),
+        days: number(&frame[5..9]),
+        strings: Vec::new(),
+        releases: Vec::new(),
+    };
+    let bounded = plan.moving <= 1_000 && (1..=1_000_000).contains(&plan.days);
+    require(bounded, 5, 1)?;
+    Ok((count, plan))
+}
+
+fn read_string(lines: &[&[u8]], line: usize) -> Result<BatteryString, Refusal> {
+    let frame = frame_of(lines, line, 0x02, 8)?;
+    let string = BatteryString {
+        x: number(&frame[1..2]),
+        t: number(&frame[2..4]),
+        c: number(&frame[4..6]),
+        d: number(&frame[6..8]),
+    };
+    let bounded = string.x <= 1
+        && (1..=1_000).contains(&string.t)
+        && (1..=string.t).contains(&string.d)
+        && (1..=string.d).contains(&string.c);
+    require(bounded, 5, line)?;
+    Ok(string)
+}
+
+fn read_release(lines: &[&[u8]], line: usize, plan: &Plan) -> Result<Release, Refusal> {
+    let frame = frame_of(lines, line, 0x03, 8)?;
+    let release = Release {
+        place: number(&frame[1..2]),
+        day: number(&frame[2..6]),
+        need: number(&frame[6..8]),
+    };
+    require(plan.releases.len() < MOST_RELEASES, 7, line)?;
+    require(is_lawful(plan, &release), 8, line)?;
+    Ok(release)
+}
+
+/// Whether a release may follow those that the plan already lists.
+fn is_lawful(plan: &Plan, release: &Release) -> bool {
+    let count = plan.strings.len() as u64;
+    if !(1..=count).contains(&release.place) {
+        return false;
+    }
+    let string = &plan.strings[release.place as usize - 1];
+    let ahead = plan.releases.last();
+    let same = plan
+        .releases
+        .iter()
+        .rev()
+        .find(|earlier| earlier.place == release.place);
+    (1..=string.c).contains(&release.need)
+        && release.day < plan.days
+        && ahead.is_none_or(|ahead| ahead.day <= release.day)
+        && same.is_none_or(|same| same.day + string.t <= release.day)
+}
+
+/// The bytes of one line's frame. A missing line is 3, a bad line 2, an unexpected frame 3.
+fn frame_of(lines: &[&[u8]], line: usize, kind: u8, length: usize) -> Result<Vec<u8>, Refusal> {
+    let text = lines.get(line - 1).ok_or(Refusal { number: 3, line })?;
+    let frame = bytes_of(text).ok_or(Refusal { number: 2, line })?;
+    require(frame.len() == length && frame[0] == kind, 3, line)?;
+    Ok(frame)
+}
+
+/// The bytes that a line spells, if it is ended, not empty, even and of hexadecimal digits only.
+fn bytes_of(line: &[u8]) -> Option<Vec<u8>> {
+    let digits = line.strip_suffix(b"\n")?;
+    if digits.is_empty() || digits.len() % 2 == 1 {
+        return None;
+    }
+    digits
+        .chunks(2)
+        .map(|pair| Some(digit(pair[0])? * 16 + digit(pair[1])?))
+        .collect()
+}
+
+fn digit(character: u8) -> Option<u8> {
+    match character {
+        b'0'..=b'9' => Some(character - b'0'),
+        b'a'..=b'f' => Some(character - b'a' + 10),
+        _ => None,
+    }
+}
+
+/// A number written high byte first.
+fn number(bytes: &[u8]) -> u64 {
+    bytes
+        .iter()
+        .fold(0, |value, byte| value * 256 + u64::from(*byte))
+}

@@ -1,0 +1,88 @@
+//! A plan: one bank, its strings and a list of releases.
+//!
+//! All numbers are 64 bits wide, so that no sum or product within the bounds can overflow.
+
+/// When: a day number.
+pub type Day = u64;
+
+/// How long: a count of days.
+pub type Length = u64;
+
+/// The most that H may be.
+pub const LONGEST_CYCLE: Length = 100_000;
+
+/// One string. The letters are those of document 01.
+#[derive(Clone, Debug)]
+pub struct BatteryString {
+    /// 1: its jobs may take the bank, 0: they may not.
+    pub x: u64,
+    /// Least days between two releases.
+    pub t: Length,
+    /// Most working days of a job.
+    pub c: Length,
+    /// Days from release to deadline.
+    pub d: Length,
+}
+
+#[derive(Clone, Debug)]
+pub struct Release {
+    /// Counted from 1. In a plan not yet read it may name no string.
+    pub place: u64,
+    pub day: Day,
+    pub need: Length,
+}
+
+#[derive(Clone, Debug)]
+pub struct Plan {
+    /// A, the moving days that a taker pays.
+    pub moving: Length,
+    /// N, the days of the run.
+    pub days: Length,
+    pub strings: Vec<BatteryString>,
+    pub releases: Vec<Release>,
+}
+
+impl Plan {
+    /// E: the most days for which a job of this string can hold the bank.
+    pub fn hold(&self, string: &BatteryString) -> Length {
+        string.c + self.moving * string.x
+    }
+
+    /// H, or nothing if it is over its bound.
+    pub fn cycle(&self) -> Option<Length> {
+        let mut cycle = 1;
+        for string in &self.strings {
+            cycle = cycle / common_divisor(cycle, string.t) * string.t;
+            // A common multiple only grows; stopping here keeps it from overflowing.
+            if cycle > LONGEST_CYCLE {
+                return None;
+            }
+        }
+        Some(cycle)
+    }
+
+    pub fn smallest_d(&self) -> Length {
+        self.strings.iter().map(|s| s.d).min().unwrap_or(0)
+    }
+
+    pub fn largest_d(&self) -> Length {
+        self.strings.iter().map(|s| s.d).max().unwrap_or(0)
+    }
+
+    /// The same plan with the permissions of a set: place 1 is worth 1, place 2 is worth 2, ...
+    pub fn with_set(&self, set: u32) -> Plan {
+        let mut plan = self.clone();
+        for (at, string) in plan.strings.iter_mut().enumerate() {
+            string.x = u64::from(set >> at & 1);
+        }
+        plan
+    }
+}
+
+fn common_divisor(a: u64, b: u64) -> u64 {
+    if b == 0 {
+        a
+    } else {
+        common_divisor(b, a % b)
+    }
+}

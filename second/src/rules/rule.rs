@@ -1,0 +1,108 @@
+//! The demand rule and the verdict.
+
+use super::plan::{BatteryString, Length, Plan};
+use std::fmt;
+
+#[derive(Clone, Debug, PartialEq)]
+pub enum Verdict {
+    Overload,
+    Fail {
+        interval: Length,
+        blocking: Length,
+        demand: Length,
+        pairs: u64,
+    },
+    Pass {
+        pairs: u64,
+    },
+}
+
+/// The verdict on a plan within its bounds, with the X that it carries.
+pub fn verdict(plan: &Plan, cycle: Length) -> Verdict {
+    if load(plan, cycle) > cycle {
+        return Verdict::Overload;
+    }
+    let mut pairs = 0;
+    for interval in 1..plan.largest_d() + cycle {
+        for blocking in 0..=blocking_limit(plan, interval) {
+            pairs += 1;
+            let demand = demand(plan, interval, blocking);
+            if demand > interval {
+                return Verdict::Fail {
+                    interval,
+                    blocking,
+                    demand,
+                    pairs,
+                };
+            }
+        }
+    }
+    Verdict::Pass { pairs }
+}
+
+/// Whether the plan passes: an overloaded plan breaks the rule at some interval.
+pub fn passes(plan: &Plan, cycle: Length) -> bool {
+    matches!(verdict(plan, cycle), Verdict::Pass { .. })
+}
+
+/// The days of the bank that all strings together may ask for in one cycle.
+fn load(plan: &Plan, cycle: Length) -> Length {
+    plan.strings
+        .iter()
+        .map(|string| plan.hold(string) * (cycle / string.t))
+        .sum()
+}
+
+/// B at an interval: how long a job due after it can stand in the way.
+fn blocking_limit(plan: &Plan, interval: Length) -> Length {
+    if interval < plan.smallest_d() {
+        return 0;
+    }
+    let longest = plan
+        .strings
+        .iter()
+        .filter(|string| string.d > interval)
+        .map(|string| plan.hold(string))
+        .max();
+    // Nothing is due later exactly from the largest D on.
+    longest.map_or(0, |hold| hold.min(interval))
+}
+
+fn demand(plan: &Plan, interval: Length, blocking: Length) -> Length {
+    let mut demand = blocking;
+    for string in &plan.strings {
+        demand += if string.x == 1 {
+            jobs(string, interval - blocking) * plan.hold(string)
+        } else {
+            jobs(string, interval) * string.c
+        };
+    }
+    demand
+}
+
+/// The jobs of a string that can be released and due in a window of so many days.
+fn jobs(string: &BatteryString, window: Length) -> u64 {
+    if window < string.d {
+        0
+    } else {
+        (window - string.d) / string.t + 1
+    }
+}
+
+impl fmt::Display for Verdict {
+    fn fmt(&self, out: &mut fmt::Formatter) -> fmt::Result {
+        match self {
+            Verdict::Overload => write!(out, "verdict overload"),
+            Verdict::Fail {
+                interval,
+                blocking,
+                demand,
+                pairs,
+            } => write!(
+                out,
+                "verdict fail interval {interval} blocking {blocking} demand {demand} pairs {pairs}"
+            ),
+            Verdict::Pass { pairs } => write!(out, "verdict pass pairs {pairs}"),
+        }
+    }
+}

@@ -1,0 +1,151 @@
+//! The day-by-day run.
+
+use super::plan::{Day, Length, Plan, Release};
+use std::fmt;
+
+#[derive(Clone, Debug, PartialEq)]
+pub enum Outcome {
+    Clean {
+        work: Length,
+        moving: Length,
+        idle: Length,
+    },
+    Miss {
+        day: Day,
+        place: u64,
+    },
+}
+
+/// A job that has work or moving left; a job with nothing left is gone.
+struct Job {
+    place: u64,
+    taker: bool,
+    release: Day,
+    deadline: Day,
+    work: Length,
+    moving: Length,
+}
+
+/// What a day of the bank went into.
+enum Use {
+    Work,
+    Moving,
+    Idle,
+}
+
+/// The jobs of a day: at most one on the bank, the others waiting.
+struct Hall {
+    bank: Option<Job>,
+    waiting: Vec<Job>,
+}
+
+/// Runs a lawful list of releases over all N days.
+pub fn run(plan: &Plan) -> Outcome {
+    let mut hall = Hall {
+        bank: None,
+        waiting: Vec::new(),
+    };
+    let mut releases = plan.releases.iter().peekable();
+    let (mut work, mut moving, mut idle) = (0, 0, 0);
+    for day in 0..plan.days {
+        if let Some(place) = hall.late(day) {
+            return Outcome::Miss { day, place };
+        }
+        while let Some(release) = releases.next_if(|release| release.day == day) {
+            hall.waiting.push(job(plan, release));
+        }
+        hall.take_bank(day, plan.moving);
+        hall.give_bank();
+        match hall.use_day() {
+            Use::Work => work += 1,
+            Use::Moving => moving += 1,
+            Use::Idle => idle += 1,
+        }
+    }
+    match hall.late(plan.days) {
+        Some(place) => Outcome::Miss {
+            day: plan.days,
+            place,
+        },
+        None => Outcome::Clean { work, moving, idle },
+    }
+}
+
+fn job(plan: &Plan, release: &Release) -> Job {
+    let string = &plan.strings[release.place as usize - 1];
+    Job {
+        place: release.place,
+        taker: string.x == 1,
+        release: release.day,
+        deadline: release.day + string.d,
+        work: release.need,
+        moving: 0,
+    }
+}
+
+impl Hall {
+    /// Step 1: the smallest place with an unfinished job due today.
+    fn late(&self, today: Day) -> Option<u64> {
+        self.bank
+            .iter()
+            .chain(&self.waiting)
+            .filter(|job| job.deadline == today)
+            .map(|job| job.place)
+            .min()
+    }
+
+    /// Step 3: a taker released today with a strictly earlier deadline stops the job on the bank.
+    fn take_bank(&mut self, today: Day, cost: Length) {
+        let Some(stopped) = &self.bank else { return };
+        let payer = self
+            .waiting
+            .iter_mut()
+            .filter(|job| job.taker && job.release == today && job.deadline < stopped.deadline)
+            .min_by_key(|job| (job.deadline, job.place));
+        if let Some(payer) = payer {
+            payer.moving += cost;
+            self.waiting.extend(self.bank.take());
+        }
+    }
+
+    /// Step 4: a free bank goes to the waiting job with the earliest deadline.
+    fn give_bank(&mut self) {
+        if self.bank.is_some() {
+            return;
+        }
+        let next = (0..self.waiting.len()).min_by_key(|at| {
+            let job = &self.waiting[*at];
+            (job.deadline, job.release, job.place)
+        });
+        self.bank = next.map(|at| self.waiting.swap_remove(at));
+    }
+
+    /// Step 5: the job on the bank uses the day, moving first, and is gone once nothing is left.
+    fn use_day(&mut self) -> Use {
+        let Some(job) = &mut self.bank else {
+            return Use::Idle;
+        };
+        let used = if job.moving > 0 {
+            job.moving -= 1;
+            Use::Moving
+        } else {
+            job.work -= 1;
+            Use::Work
+        };
+        if job.moving == 0 && job.work == 0 {
+            self.bank = None;
+        }
+        used
+    }
+}
+
+impl fmt::Display for Outcome {
+    fn fmt(&self, out: &mut fmt::Formatter) -> fmt::Result {
+        match self {
+            Outcome::Clean { work, moving, idle } => {
+                write!(out, "run clean work {work} move {moving} idle {idle}")
+            }
+            Outcome::Miss { day, place } => write!(out, "run miss day {day} place {place}"),
+        }
+    }
+}

@@ -1,0 +1,121 @@
+//! The plans whose answers document 01 gives.
+
+use crate::rules::answer::Answer;
+use crate::rules::frames::{read, Refusal};
+use crate::rules::plan::{BatteryString, Plan, Release};
+use crate::rules::rule::{verdict, Verdict};
+use crate::rules::run::{run, Outcome};
+use crate::rules::search::search;
+use crate::writing;
+
+/// The names of the cases that do not come out as the document says.
+pub fn wrong_cases() -> Vec<&'static str> {
+    let cases = [verdicts(), searches(), runs(), readings()].concat();
+    cases
+        .into_iter()
+        .filter(|(_, holds)| !holds)
+        .map(|(name, _)| name)
+        .collect()
+}
+
+type Cases = Vec<(&'static str, bool)>;
+
+/// Strings as (T, C, D), without permissions.
+fn plan(strings: &[(u64, u64, u64)], moving: u64) -> Plan {
+    let strings = strings
+        .iter()
+        .map(|&(t, c, d)| BatteryString { x: 0, t, c, d })
+        .collect();
+    Plan {
+        moving,
+        days: 20,
+        strings,
+        releases: Vec::new(),
+    }
+}
+
+fn two_strings() -> Plan {
+    plan(&[(10, 3, 5), (10, 5, 10)], 1)
+}
+
+fn three_strings() -> Plan {
+    plan(&[(100, 3, 6), (100, 1, 12), (100, 2, 50)], 5)
+}
+
+fn verdict_with(plan: &Plan, set: u32) -> Option<Verdict> {
+    Some(verdict(&plan.with_set(set), plan.cycle()?))
+}
+
+fn verdicts() -> Cases {
+    let pass = |pairs| Some(Verdict::Pass { pairs });
+    let fail = |interval, blocking, demand, pairs| {
+        Some(Verdict::Fail {
+            interval,
+            blocking,
+            demand,
+            pairs,
+        })
+    };
+    let single = plan(&[(2, 2, 2)], 1);
+    let daily = plan(&[(1, 1, 1)], 0);
+    vec![
+        ("P1", verdict_with(&two_strings(), 1) == pass(44)),
+        ("P2", verdict_with(&two_strings(), 3) == pass(48)),
+        ("P3", verdict_with(&two_strings(), 0) == fail(5, 3, 6, 8)),
+        ("P5", verdict_with(&three_strings(), 2) == fail(6, 4, 7, 10)),
+        (
+            "P9 set 1",
+            verdict_with(&single, 1) == Some(Verdict::Overload),
+        ),
+        ("P9 set 0", verdict_with(&single, 0) == pass(3)),
+        ("P10", verdict_with(&daily, 0) == pass(1)),
+    ]
+}
+
+fn searches() -> Cases {
+    let found = |plan: &Plan| plan.cycle().and_then(|cycle| search(plan, cycle));
+    let example_2 = plan(&[(7, 1, 2), (6, 1, 4), (7, 2, 6)], 1);
+    let example_3 = plan(&[(10, 1, 3), (3, 1, 3), (5, 2, 5)], 1);
+    vec![
+        ("P4", found(&example_2) == Some(3)),
+        ("P7", found(&three_strings()) == Some(0)),
+        ("P8", found(&example_3) == Some(1)),
+    ]
+}
+
+fn runs() -> Cases {
+    let mut plan = three_strings().with_set(2);
+    plan.releases = [(0, 3, 2), (1, 2, 1), (2, 1, 3)]
+        .map(|(day, place, need)| Release { place, day, need })
+        .to_vec();
+    vec![("P6", run(&plan) == Outcome::Miss { day: 8, place: 1 })]
+}
+
+fn readings() -> Cases {
+    const SAMPLE: &[u8] = b"010102000100000014\n0201000a00030005\n0200000a0005000a\n\
+        0302000000000005\n0301000000010003\n";
+    const ANSWER: &str = "verdict pass pairs 44\nassign 1\nrun clean work 8 move 1 idle 11\n";
+    let periods = |periods: &[u64]| {
+        let strings: Vec<_> = periods.iter().map(|t| (*t, 1, *t)).collect();
+        let text = writing::text(&plan(&strings, 0));
+        read(&text).map(|plan| plan.cycle())
+    };
+    vec![
+        ("the sample", Answer::of_text(SAMPLE).to_string() == ANSWER),
+        ("T 1000", periods(&[1_000]) == Ok(Some(1_000))),
+        ("T 1001", periods(&[1_001]) == refused(5, 2)),
+        ("periods 997 and 991", periods(&[997, 991]) == refused(6, 3)),
+        (
+            "periods 7, 30, 90 and 365",
+            periods(&[7, 30, 90, 365]) == Ok(Some(45_990)),
+        ),
+        (
+            "an empty file",
+            read(b"").err() == Some(Refusal { number: 3, line: 1 }),
+        ),
+    ]
+}
+
+fn refused<T>(number: usize, line: usize) -> Result<T, Refusal> {
+    Err(Refusal { number, line })
+}
