@@ -120,18 +120,9 @@ fn try_long() {
     try_text(b"65536 bytes", &text[..65536]);
 }
 
-fn main() {
+// Forms and headers.
+fn try_headers() {
     try_text(b"empty", b"");
-    try_text(b"T 1000", b"010101000000000014\n020003e8000103e8\n");
-    try_text(b"T 1001", b"010101000000000014\n020003e9000103e8\n");
-    try_text(
-        b"periods 997 and 991",
-        b"010102000000000014\n020003e5000103e5\n020003df000103df\n",
-    );
-    try_text(
-        b"periods 7, 30, 90, 365",
-        b"010104000000000014\n0200000700010007\n0200001e0001001e\n0200005a0001005a\n0200016d0001016d\n",
-    );
     try_text(
         b"CR LF",
         b"010102000100000014\r\n0201000a00030005\r\n0200000a0005000a\r\n0302000000000005\r\n0301000000010003\r\n",
@@ -145,6 +136,20 @@ fn main() {
     try_text(b"A 1001", b"01010203e900000014\n");
     try_text(b"N 0", b"010102000100000000\n");
     try_text(b"N 1000001", b"0101020001000f4241\n");
+}
+
+// Bounds of strings, H, and the number of strings.
+fn try_strings() {
+    try_text(b"T 1000", b"010101000000000014\n020003e8000103e8\n");
+    try_text(b"T 1001", b"010101000000000014\n020003e9000103e8\n");
+    try_text(
+        b"periods 997 and 991",
+        b"010102000000000014\n020003e5000103e5\n020003df000103df\n",
+    );
+    try_text(
+        b"periods 7, 30, 90, 365",
+        b"010104000000000014\n0200000700010007\n0200001e0001001e\n0200005a0001005a\n0200016d0001016d\n",
+    );
     try_text(
         b"more strings than n",
         b"010102000100000014\n0201000a00030005\n0200000a0005000a\n0200000a0005000a\n",
@@ -157,6 +162,10 @@ fn main() {
         b"a string missing",
         b"010102000100000014\n0201000a00030005\n",
     );
+}
+
+// Release lines.
+fn try_releases() {
     try_text(
         b"an empty line",
         b"010102000100000014\n0201000a00030005\n0200000a0005000a\n\n",
@@ -197,8 +206,10 @@ fn main() {
         b"6 before a malformed release",
         b"010102000000000014\n020003e5000103e5\n020003df000103df\nzz\n",
     );
-    try_long();
-    try_cuts();
+}
+
+// Bytes of the header line.
+fn try_header_bytes() {
     try_bytes(0);
     try_bytes(1);
     try_bytes(3);
@@ -208,6 +219,10 @@ fn main() {
     try_bytes(10);
     try_bytes(17);
     try_bytes(18);
+}
+
+// Bytes of the first two string lines.
+fn try_string_bytes() {
     try_bytes(19);
     try_bytes(20);
     try_bytes(22);
@@ -216,6 +231,10 @@ fn main() {
     try_bytes(30);
     try_bytes(34);
     try_bytes(35);
+}
+
+// Bytes of the release lines.
+fn try_release_bytes() {
     try_bytes(53);
     try_bytes(55);
     try_bytes(57);
@@ -224,4 +243,15 @@ fn main() {
     try_bytes(69);
     try_bytes(70);
     try_bytes(86);
+}
+
+fn main() {
+    try_headers();
+    try_strings();
+    try_releases();
+    try_long();
+    try_cuts();
+    try_header_bytes();
+    try_string_bytes();
+    try_release_bytes();
 }
