@@ -40,28 +40,36 @@ module _ (p : Plan) (ok : LawfulPlan p) where
   start zero f = omega (arith, demand-none p ok)
   start (suc l) f = f (omega arith)
 
-  -- beyond that range nothing blocks, and the rule at l follows from the rule H days earlier
-  beyond :
-      load p ≤ multipleOf p
-      → ((l b : ℕ) → 1 ≤ l → l ≤ dMax p + multipleOf p - 1 → b ≤ blockLimit p l → demand p l b ≤ l)
-      → (most l b : ℕ) → l ≤ most → 1 ≤ l → b ≤ blockLimit p l → demand p l b ≤ l
-  beyond light near zero l b m pos h = absurd (omega arith)
-  beyond light near (suc most) l b m pos h =
-      let hPos = ok .hPos in
-      let earlier : demand p (l - multipleOf p) 0 ≤ l - multipleOf p =
-      start (l - multipleOf p) (λ from-one. beyond light near most (l - multipleOf p) 0 (omega arith) from-one zero-le) in
-      elim (decLe l (dMax p + multipleOf p - 1)) [
-        | yes inside ↦ near l b pos inside h
-        | no outside ↦
-            let unblocked : b ≡ 0 = omega (arith, blockLimit-late p l (omega arith)) in
-            let back : l - multipleOf p + multipleOf p ≡ l = omega arith in
-            let later : demand p l 0 ≤ demand p (l - multipleOf p) 0 + load p = rw back at (demand-later p ok (l - multipleOf p)) in
-            rw unblocked (omega arith)
-      ]
+  -- The range is the same for any blocking limit that is 0 from the largest D on: beyond it nothing blocks, and the rule at l follows from the
+  -- rule H days earlier.
+  module _ (limit : ℕ → ℕ) (none-late : (l : ℕ) → dMax p ≤ l → limit l ≡ 0) where
+    beyond :
+        load p ≤ multipleOf p
+        → ((l b : ℕ) → 1 ≤ l → l ≤ dMax p + multipleOf p - 1 → b ≤ limit l → demand p l b ≤ l)
+        → (most l b : ℕ) → l ≤ most → 1 ≤ l → b ≤ limit l → demand p l b ≤ l
+    beyond light near zero l b m pos h = absurd (omega arith)
+    beyond light near (suc most) l b m pos h =
+        let hPos = ok .hPos in
+        let earlier : demand p (l - multipleOf p) 0 ≤ l - multipleOf p =
+        start (l - multipleOf p) (λ from-one. beyond light near most (l - multipleOf p) 0 (omega arith) from-one zero-le) in
+        elim (decLe l (dMax p + multipleOf p - 1)) [
+          | yes inside ↦ near l b pos inside h
+          | no outside ↦
+              let unblocked : b ≡ 0 = omega (arith, none-late l (omega arith)) in
+              let back : l - multipleOf p + multipleOf p ≡ l = omega arith in
+              let later : demand p l 0 ≤ demand p (l - multipleOf p) 0 + load p = rw back at (demand-later p ok (l - multipleOf p)) in
+              rw unblocked (omega arith)
+        ]
+
+    pub range-suffices-for :
+        overloaded p ≡ false
+        → ((l b : ℕ) → 1 ≤ l → l ≤ dMax p + multipleOf p - 1 → b ≤ limit l → demand p l b ≤ l)
+        → (l b : ℕ) → 1 ≤ l → b ≤ limit l → demand p l b ≤ l
+    range-suffices-for e near l b pos h = beyond (overloaded-not p e) near l l b (le-refl l) pos h
 
   -- a plan that is not overloaded passes if the rule holds for l from 1 to Dmax + H − 1
   pub range-suffices :
       overloaded p ≡ false
       → ((l b : ℕ) → 1 ≤ l → l ≤ dMax p + multipleOf p - 1 → b ≤ blockLimit p l → demand p l b ≤ l)
       → Passes p
-  range-suffices e near l b pos h = beyond (overloaded-not p e) near l l b (le-refl l) pos h
+  range-suffices = range-suffices-for (blockLimit p) (blockLimit-late p)

@@ -4,3 +4,4 @@ pub mod ReadLawful
 pub mod NeverMisses
 pub mod ShutOut
 pub mod OnlyOne
+pub mod EquationSeven
