@@ -92,8 +92,9 @@ run p rs = one (runAnswer p rs)
 pub fault-number : (f : Fault) → One (faultNumber f)
 fault-number f = one (faultNumber f)
 
-pub written : (a : Answer) → One (linesFor a)
-written a = one (linesFor a)
+-- the page that holds the lines is a function of their text
+pub written {ℓ} : {X : Type ℓ} (page : List ℕ → X) (a : Answer) → One (page (linesFor a))
+written page a = one (page (linesFor a))
 
 pub answer : (text : List ℕ) → One (answerOf text)
 answer text = one (answerOf text)
