@@ -28,11 +28,12 @@ use Rattle.rules.specs.Demand.{Passes, movingCost}
 use Rattle.rules.specs.Verdict.{verdictOf, isPass}
 use Rattle.rules.specs.Count.{countOf}
 use Rattle.rules.specs.Release.{releasesOf, noRelease}
-use Rattle.rules.specs.Run.{history, daysOf, isWork, isMove, isIdle, runOf}
-use Rattle.rules.specs.Refusal.{onVerdict, onOutcome, planCheck, runCheck, verdictAnswer, searchAnswer, runAnswer}
+use Rattle.rules.specs.Run.{history, daysOf, isWork, isMove, isIdle}
+use Rattle.rules.specs.Refusal.{onVerdict, planCheck, runCheck, verdictAnswer, searchAnswer, runAnswer}
 use Rattle.rules.specs.Text.{readingOf}
 use Rattle.rules.specs.Answer.{answered, answerOf}
 use Rattle.laws.proofs.Lawful.{LawfulPlan, planCheck-lawful}
+use Rattle.laws.proofs.Answers.{run-refused}
 use Rattle.laws.proofs.Releases.{LawfulRun, runCheck-lawful}
 use Rattle.horizon.proofs.Verdict.{pass-passes, passes-pass}
 use Rattle.sound.specs.Served.{worksFor, movesFor, paid}
@@ -79,12 +80,11 @@ refused-no-miss f at t i h =
     omega arith
 
 pub answers-never-miss : (p : Plan) (rs : Releases) (v : Verdict) (o : Outcome) → v ≡ verdictAnswer p → o ≡ runAnswer p rs → (k : ℕ) → v ≡ verdict.Pass k → (t : Day) (i : ℕ) → o ≡ outcome.Miss t i → ⊥
-unfolding runAnswer
 answers-never-miss p rs v o ev eo k pass t i miss = go (runCheck p rs) refl
   where
     go : (c : Checked) → runCheck p rs ≡ c → ⊥
     go checked.Lawful e = clean-no-miss _ _ _ t i (sym (numbers-never-miss p rs k (sym ev ∙ pass) e) ∙ sym eo ∙ miss)
-    go (checked.Refused f at) e = refused-no-miss f at t i (sym (ap (λ c. onOutcome c (runOf p (releasesOf rs))) e) ∙ sym eo ∙ miss)
+    go (checked.Refused f at) e = refused-no-miss f at t i (sym (run-refused p rs f at e) ∙ sym eo ∙ miss)
 
 -- ---- For a file
 

@@ -1,7 +1,7 @@
 //! Plans in which something happens far out: late days, late breaks of the rule, many pairs.
 
 use super::releases;
-use super::strings::mixed;
+use super::strings::{mixed, without_run};
 use crate::chance::Chance;
 use crate::rules::plan::{BatteryString, Length, Plan, Release};
 
@@ -76,14 +76,4 @@ pub fn many_pairs(chance: &mut Chance) -> Plan {
         d: t,
     };
     without_run(chance, moving, vec![urgent, long])
-}
-
-fn without_run(chance: &mut Chance, moving: Length, mut strings: Vec<BatteryString>) -> Plan {
-    chance.shuffle(&mut strings);
-    Plan {
-        moving,
-        days: 1,
-        strings,
-        releases: Vec::new(),
-    }
 }

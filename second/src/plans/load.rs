@@ -1,5 +1,6 @@
 //! Plans with a load of exactly H, and of a little less or more.
 
+use super::strings::without_run;
 use crate::chance::Chance;
 use crate::rules::plan::{BatteryString, Length, Plan};
 
@@ -19,13 +20,7 @@ pub fn full(chance: &mut Chance, turn: u64) -> Plan {
         _ => {}
     }
     strings.push(last);
-    chance.shuffle(&mut strings);
-    Plan {
-        moving,
-        days: 1,
-        strings,
-        releases: Vec::new(),
-    }
+    without_run(chance, moving, strings)
 }
 
 /// Some strings that leave at least one day of the cycle to ask for.

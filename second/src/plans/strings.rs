@@ -104,3 +104,14 @@ fn string(chance: &mut Chance, t: Length, load: u64, count: u64) -> BatteryStrin
     };
     BatteryString { x: 0, t, c, d }
 }
+
+/// A plan of these strings in any order, for the verdict and the search: nothing is released.
+pub fn without_run(chance: &mut Chance, moving: Length, mut strings: Vec<BatteryString>) -> Plan {
+    chance.shuffle(&mut strings);
+    Plan {
+        moving,
+        days: 1,
+        strings,
+        releases: Vec::new(),
+    }
+}
