@@ -12,9 +12,9 @@ use lib.ListN.{length, take, drop, getD, drop-of-length-le, length-take, List·g
 use lib.Seq.{drop-cons, take-all, length-take-le, getD-take}
 use Rattle.rules.specs.declared.BatteryString.{BatteryString}
 use Rattle.rules.specs.declared.Plan.{Plan}
-use Rattle.rules.specs.declared.Fault.the-variants.{OutOfBounds}
-use Rattle.rules.specs.declared.Checked.the-variants.{Lawful, Refused}
-use Rattle.rules.specs.Count.{every}
+use Rattle.faults.specs.declared.Fault.the-variants.{OutOfBounds}
+use Rattle.faults.specs.declared.Checked.the-variants.{Lawful, Refused}
+use Rattle.lists.specs.Count.{every}
 use Rattle.rules.specs.Plan.{stringLawful, commonMultiple, noString, stringAt}
 use Rattle.rules.specs.Refusal.{stringsCheck}
 

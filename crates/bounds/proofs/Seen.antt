@@ -15,10 +15,11 @@ use lib.Seq.{drop-cons, getD-take, length-take-le}
 use Rattle.rules.specs.declared.BatteryString.{BatteryString}
 use Rattle.rules.specs.declared.Plan.{Plan}
 use Rattle.rules.specs.declared.Release.{Release}
-use Rattle.rules.specs.Plan.{inBounds, stringAt}
+use Rattle.rules.specs.Plan.{stringAt}
+use Rattle.faults.specs.Checks.{inBounds}
+use Rattle.faults.proofs.Checks.{inBounds-low, inBounds-high, inBounds-yes, inBounds-not}
 use Rattle.rules.specs.Release.{tooClose, outOfOrder, releaseLawful, unlawfulFrom, noRelease}
-use Rattle.laws.proofs.Lists.{by-bool, and-left, and-right, true-not-false}
-use Rattle.laws.proofs.Lawful.{inBounds-low, inBounds-high, inBounds-yes, inBounds-not}
+use Rattle.lists.proofs.Lists.{by-bool, and-left, and-right, true-not-false}
 use Rattle.bounds.specs.Seen.{latestOf, lastOf, rememberedOf, admits}
 use Rattle.bounds.proofs.ByPlace.{stringAt-out}
 

@@ -11,7 +11,8 @@ use lib.Dec.{ltb, leb, eqb}
 use lib.ListN.{getD}
 use Rattle.rules.specs.declared.Plan.{Plan}
 use Rattle.rules.specs.declared.Release.{Release}
-use Rattle.rules.specs.Plan.{inBounds, stringAt}
+use Rattle.rules.specs.Plan.{stringAt}
+use Rattle.faults.specs.Checks.{inBounds}
 
 unfoldable pub latestOf : List Release → ℕ
 latestOf [] = 0

@@ -6,8 +6,8 @@ mod strings;
 
 pub use periods::multiple;
 pub use releases::first_unlawful;
-use rules::Checked;
-use rules::Fault;
+use faults::Checked;
+use faults::Fault;
 use rules::Plan;
 use rules::Releases;
 pub use strings::string_lawful;
@@ -15,7 +15,8 @@ use strings::strings_check;
 ghost use mathlib.Core.Path.{_≡_};
 ghost use Prim.Native.Nat.{_≤_};
 ghost use Rattle.rules.specs.Plan.{stringsOf};
-ghost use Rattle.rules.specs.Refusal.{then, countCheck, numbersCheck, stringsCheck, multipleCheck, planCheck, setCheck, runCheck};
+ghost use Rattle.rules.specs.Refusal.{countCheck, numbersCheck, stringsCheck, multipleCheck, planCheck, setCheck, runCheck};
+ghost use Rattle.faults.specs.Checks.{then};
 
 fn refused(fault: Fault, at: usize) -> Checked
     ensures exact { λ r. ⌜ r ≡ Checked.Refused fault at ⌝ }

@@ -11,14 +11,14 @@ use borrow.Author.Tests.{le-ltb, eq-eqb, ne-eqb}
 use lib.Dec.{leb, ltb}
 use Rattle.rules.specs.declared.BatteryString.{BatteryString}
 use Rattle.rules.specs.declared.Plan.{Plan}
-use Rattle.rules.specs.Count.{sumOf, largest}
+use Rattle.lists.specs.Count.{sumOf, largest}
 use Rattle.rules.specs.Plan.{stringsOf, multipleOf, dMin, dMax}
 use Rattle.rules.specs.Demand.{movingCost, holdOf, jobs, blockerHold, blockLimit, need, demand, load}
-use Rattle.laws.proofs.Lists.{All, all-map, sumOf-le, sumOf-eq, sumOf-add, largest-le, by-bool}
+use Rattle.lists.proofs.Lists.{All, all-map, sumOf-le, sumOf-eq, sumOf-add, largest-le, by-bool}
 use Rattle.laws.proofs.Jobs.{jobs-short, jobs-from, jobs-zero, jobs-window, jobs-period}
 use Rattle.laws.proofs.Lawful.{LawfulString, LawfulPlan}
 use Rattle.laws.proofs.Demand.{need-unblocked}
-use Rattle.horizon.proofs.Order.{all-both, sumOf-zero}
+use Rattle.lists.proofs.Order.{all-both, sumOf-zero}
 
 -- ---- One string over H days
 

@@ -11,10 +11,10 @@ use lib.Dec.{eqb}
 use lib.ListN.{take}
 use Rattle.rules.specs.declared.BatteryString.{BatteryString}
 use Rattle.rules.specs.declared.Plan.{Plan}
-use Rattle.rules.specs.Count.{sumOf, largest, smallest, smallestWith, every, leastFrom}
+use Rattle.lists.specs.Count.{sumOf, largest, smallest, smallestWith, every, leastFrom}
 use Rattle.rules.specs.Plan.{stringsOf, commonMultiple, multipleOf, dMin, dMax}
 use Rattle.rules.specs.Search.{permit, withSet}
-use Rattle.laws.proofs.Lists.{All}
+use Rattle.lists.proofs.Lists.{All}
 use Rattle.laws.proofs.Lawful.{LawfulString, LawfulPlan, multipleOf-pos, multipleOf-common, multipleOf-least, commonMultiple-whole}
 
 abbrev pub permitted : BatteryString → ℕ → BatteryString

@@ -18,7 +18,7 @@ use Rattle.rules.specs.declared.Verdict.the-variants.{Overload, Fail, Pass}
 use Rattle.rules.specs.Plan.{multipleOf, dMax}
 use Rattle.rules.specs.Demand.{blockLimit, demand, Passes, overloaded}
 use Rattle.rules.specs.Verdict.{Pair, allPairs, broken, firstBroken, compared, judged, verdictOf, isPass}
-use Rattle.laws.proofs.Lists.{by-bool, true-not-false}
+use Rattle.lists.proofs.Lists.{by-bool, true-not-false}
 use Rattle.laws.proofs.Lawful.{LawfulPlan}
 use Rattle.horizon.proofs.Pairs.{pair, broken-no, broken-over, unbroken-holds, scanFrom, verdictOf-overload, verdictOf-scan}
 use Rattle.horizon.proofs.Range.{overload-at-period, range-suffices}

@@ -4,9 +4,9 @@ use Prim.Native.Nat.{ℕ, _^_}
 use mathlib.Core.Path.{_≡_, _∙_}
 use lib.Dec.{leb}
 use Rattle.rules.specs.declared.Plan.{Plan}
-use Rattle.rules.specs.declared.Fault.{Fault}
-use Rattle.rules.specs.declared.Fault.the-variants.{OutOfBounds}
-use Rattle.rules.specs.declared.Checked.the-variants.{Lawful, Refused}
+use Rattle.faults.specs.declared.Fault.{Fault}
+use Rattle.faults.specs.declared.Fault.the-variants.{OutOfBounds}
+use Rattle.faults.specs.declared.Checked.the-variants.{Lawful, Refused}
 use Rattle.rules.specs.declared.Verdict.the-variants as verdict
 use Rattle.rules.specs.declared.Assign.the-variants as assign
 use Rattle.rules.specs.declared.Releases.{Releases}
@@ -16,9 +16,10 @@ use Rattle.rules.specs.Run.{runOf}
 use Rattle.rules.specs.Plan.{stringsOf}
 use Rattle.rules.specs.Verdict.{verdictOf}
 use Rattle.rules.specs.Search.{withSet, searchOf}
-use Rattle.rules.specs.Refusal.{then, refuseIf, countCheck, numbersCheck, stringsCheck, multipleCheck, planCheck, setCheck}
+use Rattle.rules.specs.Refusal.{countCheck, numbersCheck, stringsCheck, multipleCheck, planCheck, setCheck}
+use Rattle.faults.specs.Checks.{then, refuseIf}
+use Rattle.faults.proofs.Checks.{then-first, then-second, then-lawful}
 use Rattle.rules.specs.Refusal.{runCheck, verdictAnswer, setAnswer, searchAnswer, runAnswer}
-use Rattle.laws.proofs.Lawful.{then-first, then-second, then-lawful}
 
 pub verdict-lawful : (p : Plan) → planCheck p ≡ Lawful → verdictAnswer p ≡ verdictOf p
 unfolding verdictAnswer

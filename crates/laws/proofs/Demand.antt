@@ -10,10 +10,10 @@ use borrow.Author.Tests.{le-ltb, eq-eqb, ne-eqb}
 use lib.Dec.{leb, ltb}
 use Rattle.rules.specs.declared.BatteryString.{BatteryString}
 use Rattle.rules.specs.declared.Plan.{Plan}
-use Rattle.rules.specs.Count.{largest}
+use Rattle.lists.specs.Count.{largest}
 use Rattle.rules.specs.Plan.{stringsOf, dMin, dMax}
 use Rattle.rules.specs.Demand.{movingCost, holdOf, jobs, blockerHold, blockLimit, need}
-use Rattle.laws.proofs.Lists.{All, all-map, largest-le, by-bool}
+use Rattle.lists.proofs.Lists.{All, all-map, largest-le, by-bool}
 
 -- ---- E, the longest that a job holds the bank
 

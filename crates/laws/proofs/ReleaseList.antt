@@ -15,10 +15,11 @@ use lib.ListN.{length, getD, List·getD-eq-default}
 use Rattle.rules.specs.declared.BatteryString.{BatteryString}
 use Rattle.rules.specs.declared.Plan.{Plan}
 use Rattle.rules.specs.declared.Release.{Release}
-use Rattle.rules.specs.Plan.{inBounds, stringsOf, stringAt, noString}
+use Rattle.rules.specs.Plan.{stringsOf, stringAt, noString}
+use Rattle.faults.specs.Checks.{inBounds}
+use Rattle.faults.proofs.Checks.{inBounds-low, inBounds-high}
 use Rattle.rules.specs.Release.{noRelease, tooClose, outOfOrder, releaseLawful, unlawfulFrom, firstUnlawful}
-use Rattle.laws.proofs.Lists.{All, all-map, by-bool, and-left, and-right}
-use Rattle.laws.proofs.Lawful.{inBounds-low, inBounds-high}
+use Rattle.lists.proofs.Lists.{All, all-map, by-bool, and-left, and-right}
 
 abbrev pub str : Plan → ℕ → BatteryString
 str p j = getD (stringsOf p) j noString

@@ -10,12 +10,14 @@ use borrow.Author.Tests.{lt-ltb, le-ltb, ltb-false}
 use Rattle.rules.specs.declared.Plan.{Plan}
 use Rattle.rules.specs.declared.Release.{Release}
 use Rattle.rules.specs.declared.Releases.{Releases}
-use Rattle.rules.specs.declared.Fault.the-variants.{ReleaseTooMany, ReleaseUnlawful}
-use Rattle.rules.specs.declared.Checked.the-variants.{Lawful, Refused}
+use Rattle.faults.specs.declared.Fault.the-variants.{ReleaseTooMany, ReleaseUnlawful}
+use Rattle.faults.specs.declared.Checked.the-variants.{Lawful, Refused}
 use Rattle.rules.specs.Release.{releasesOf, releaseLawful, unlawfulFrom, firstUnlawful}
-use Rattle.rules.specs.Refusal.{then, refuseIf, planCheck, releasesCheck, runCheck}
-use Rattle.laws.proofs.Lists.{by-bool}
-use Rattle.laws.proofs.Lawful.{LawfulPlan, planCheck-lawful, then-first, then-second, refuseIf-not}
+use Rattle.rules.specs.Refusal.{planCheck, releasesCheck, runCheck}
+use Rattle.faults.specs.Checks.{then, refuseIf}
+use Rattle.faults.proofs.Checks.{then-first, then-second, refuseIf-not}
+use Rattle.lists.proofs.Lists.{by-bool}
+use Rattle.laws.proofs.Lawful.{LawfulPlan, planCheck-lawful}
 
 pub releasesCheck-many : (p : Plan) (rs : Releases) → 1000 < rs .count → releasesCheck p rs ≡ Refused ReleaseTooMany 1001
 unfolding releasesCheck

@@ -7,10 +7,10 @@ use native.Mathlib.Omega.{arith}
 use native.Mathlib.Numerals.{add-one}
 use lib.ListN.{length, getD, take, set, replicate, length-append}
 use lib.Seq.{set-at, take-suc, take-append-seam, length-take-le}
-use Rattle.rules.specs.Text.{filled}
+use Rattle.lists.specs.Count.{filled}
 use Rattle.lines.specs.declared.Page.{Page}
 use Rattle.lines.specs.Pages.{pageOf, textOf, Written}
-use Rattle.laws.proofs.Filling.{filled-set}
+use Rattle.lists.proofs.Filling.{filled-set}
 
 pub textOf-pageOf : (text : List ℕ) → textOf (pageOf text) ≡ text
 unfolding textOf pageOf

@@ -12,9 +12,9 @@ use lib.ListN.{length, getD}
 use Rattle.days.specs.Days.{day}
 use Rattle.rules.specs.declared.Plan.{Plan}
 use Rattle.rules.specs.declared.Release.{Release}
-use Rattle.rules.specs.declared.Checked.the-variants.{Lawful}
+use Rattle.faults.specs.declared.Checked.the-variants.{Lawful}
 use Rattle.rules.specs.declared.Outcome.the-variants.{Miss}
-use Rattle.rules.specs.Count.{sumOf, largest, smallest, smallestWith, every, upFrom, leastFrom}
+use Rattle.lists.specs.Count.{sumOf, largest, smallest, smallestWith, every, upFrom, leastFrom}
 use Rattle.rules.specs.Plan.{stringLawful, commonMultiple, multipleOf, dMin, dMax}
 use Rattle.rules.specs.Demand.{movingCost, holdOf, jobs, need, demand, load, overloaded}
 use Rattle.rules.specs.Search.{permit, withSet}
@@ -22,9 +22,9 @@ use Rattle.rules.specs.Release.{tooClose, outOfOrder, releaseLawful, unlawfulFr
 use Rattle.rules.specs.Refusal.{countCheck, numbersCheck, stringsCheck, multipleCheck, planCheck, releasesCheck, runCheck, runAnswer}
 use Rattle.rules.proofs.Worked.{string, plan, release, releases, five, row, table, answered, worked}
 use Rattle.rules.proofs.Worked as page
-use Rattle.laws.proofs.Lists.{All, by-bool, every-all}
+use Rattle.lists.proofs.Lists.{All, by-bool, every-all}
 use Rattle.laws.proofs.Lawful.{planCheck-lawful}
-use Rattle.horizon.proofs.Order.{upFrom-all}
+use Rattle.lists.proofs.Order.{upFrom-all}
 use Rattle.horizon.proofs.Range.{range-suffices-for}
 use Rattle.promise.specs.Equation7.{blockerWork, printedLimit, PassesAsPrinted}
 

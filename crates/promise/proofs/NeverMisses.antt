@@ -9,13 +9,13 @@ use native.Mathlib.Omega.{arith}
 use lib.ListN.{length, getD}
 use Rattle.days.specs.declared.Day.{Day}
 use Rattle.days.specs.declared.Length.{Length}
-use Rattle.rules.specs.declared.Fault.{Fault}
+use Rattle.faults.specs.declared.Fault.{Fault}
 use Rattle.rules.specs.declared.Plan.{Plan}
 use Rattle.rules.specs.declared.Release.{Release}
 use Rattle.rules.specs.declared.Releases.{Releases}
 use Rattle.rules.specs.declared.Reading.{Reading}
-use Rattle.rules.specs.declared.Checked.{Checked}
-use Rattle.rules.specs.declared.Checked.the-variants as checked
+use Rattle.faults.specs.declared.Checked.{Checked}
+use Rattle.faults.specs.declared.Checked.the-variants as checked
 use Rattle.rules.specs.declared.Verdict.{Verdict}
 use Rattle.rules.specs.declared.Verdict.the-variants as verdict
 use Rattle.rules.specs.declared.Assign.{Assign}
@@ -26,7 +26,7 @@ use Rattle.rules.specs.declared.Answer.the-variants as answer
 use Rattle.rules.specs.Plan.{stringAt}
 use Rattle.rules.specs.Demand.{Passes, movingCost}
 use Rattle.rules.specs.Verdict.{verdictOf, isPass}
-use Rattle.rules.specs.Count.{countOf}
+use Rattle.lists.specs.Count.{countOf}
 use Rattle.rules.specs.Release.{releasesOf, noRelease}
 use Rattle.rules.specs.Run.{history, daysOf, isWork, isMove, isIdle}
 use Rattle.rules.specs.Refusal.{onVerdict, planCheck, runCheck, verdictAnswer, searchAnswer, runAnswer}

@@ -14,8 +14,8 @@ use Rattle.days.specs.Days.{laterOf, gapOf}
 use Rattle.rules.specs.declared.BatteryString.{BatteryString}
 use Rattle.rules.specs.declared.Plan.{Plan}
 use Rattle.rules.specs.declared.Releases.{Releases}
-use Rattle.rules.specs.declared.Fault.{Fault}
-use Rattle.rules.specs.declared.Checked.{Checked}
+use Rattle.faults.specs.declared.Fault.{Fault}
+use Rattle.faults.specs.declared.Checked.{Checked}
 use Rattle.rules.specs.declared.Reading.{Reading}
 use Rattle.rules.specs.declared.Verdict.{Verdict}
 use Rattle.rules.specs.declared.Assign.{Assign}
@@ -23,7 +23,8 @@ use Rattle.rules.specs.declared.Outcome.{Outcome}
 use Rattle.rules.specs.declared.Answer.{Answer}
 use Rattle.rules.specs.Plan.{stringLawful, multipleOf}
 use Rattle.rules.specs.Release.{releasesOf, firstUnlawful}
-use Rattle.rules.specs.Refusal.{faultNumber, planCheck, setCheck, runCheck, verdictAnswer, setAnswer, searchAnswer, runAnswer}
+use Rattle.rules.specs.Refusal.{planCheck, setCheck, runCheck, verdictAnswer, setAnswer, searchAnswer, runAnswer}
+use Rattle.faults.specs.Checks.{faultNumber}
 use Rattle.rules.specs.Text.{readingOf}
 use Rattle.rules.specs.Answer.{answerOf}
 use Rattle.rules.specs.Lines.{linesFor}

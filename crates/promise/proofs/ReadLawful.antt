@@ -15,16 +15,19 @@ use Rattle.rules.specs.declared.Plan.{Plan}
 use Rattle.rules.specs.declared.Release.{Release}
 use Rattle.rules.specs.declared.Releases.{Releases}
 use Rattle.rules.specs.declared.Reading.{Reading}
-use Rattle.rules.specs.declared.Fault.{Fault}
-use Rattle.rules.specs.declared.Fault.the-variants.{TextTooLong, LineMalformed, FrameWrong, StringCount, OutOfBounds, MultipleOver, ReleaseTooMany, ReleaseUnlawful}
-use Rattle.rules.specs.declared.Checked.{Checked}
-use Rattle.rules.specs.declared.Checked.the-variants.{Lawful, Refused}
-use Rattle.rules.specs.Plan.{stringsOf, inBounds, stringLawful, multipleOf, noString}
+use Rattle.faults.specs.declared.Fault.{Fault}
+use Rattle.faults.specs.declared.Fault.the-variants.{TextTooLong, LineMalformed, FrameWrong, StringCount, OutOfBounds, MultipleOver, ReleaseTooMany, ReleaseUnlawful}
+use Rattle.faults.specs.declared.Checked.{Checked}
+use Rattle.faults.specs.declared.Checked.the-variants.{Lawful, Refused}
+use Rattle.rules.specs.Plan.{stringsOf, stringLawful, multipleOf, noString}
+use Rattle.faults.specs.Checks.{inBounds, then, refuseIf}
+use Rattle.faults.proofs.Checks.{refused-not-lawful, then-first, then-second, then-lawful, refuseIf-not, inBounds-low, inBounds-high}
 use Rattle.rules.specs.Release.{releasesOf, releaseLawful, unlawfulFrom, firstUnlawful, noRelease}
-use Rattle.rules.specs.Refusal.{then, refuseIf, countCheck, numbersCheck, stringsCheck, multipleCheck, planCheck, releasesCheck, runCheck}
-use Rattle.rules.specs.Text.{Line, linesOf, frameOf, fieldAt, nIn, aIn, runIn, stringOf, releaseOf, filled, planIn, releasesIn, frameCheck, headerCheck, stringLineCheck, stringLinesCheck, releaseLineCheck, releaseLinesCheck, bodyCheck, linesCheck, textCheck, lawfulReading, readingOf}
-use Rattle.laws.proofs.Lists.{by-bool, and-left, and-right, true-not-false}
-use Rattle.laws.proofs.Lawful.{refused-not-lawful, then-first, then-second, then-lawful, refuseIf-not, inBounds-low, inBounds-high, countCheck-good, numbersCheck-good, multipleCheck-good}
+use Rattle.rules.specs.Refusal.{countCheck, numbersCheck, stringsCheck, multipleCheck, planCheck, releasesCheck, runCheck}
+use Rattle.lists.specs.Count.{filled}
+use Rattle.rules.specs.Text.{Line, linesOf, frameOf, fieldAt, nIn, aIn, runIn, stringOf, releaseOf, planIn, releasesIn, frameCheck, headerCheck, stringLineCheck, stringLinesCheck, releaseLineCheck, releaseLinesCheck, bodyCheck, linesCheck, textCheck, lawfulReading, readingOf}
+use Rattle.lists.proofs.Lists.{by-bool, and-left, and-right, true-not-false}
+use Rattle.laws.proofs.Lawful.{countCheck-good, numbersCheck-good, multipleCheck-good}
 use Rattle.laws.proofs.Releases.{releasesCheck-good}
 
 -- ---- The string lines

@@ -14,7 +14,7 @@ use lib.ListN.{length}
 use Rattle.days.specs.declared.Length.{Length}
 use Rattle.days.specs.Days.{days}
 use Rattle.rules.specs.declared.Plan.{Plan}
-use Rattle.rules.specs.declared.Checked.the-variants.{Lawful}
+use Rattle.faults.specs.declared.Checked.the-variants.{Lawful}
 use Rattle.rules.specs.declared.Verdict.{Verdict}
 use Rattle.rules.specs.declared.Verdict.the-variants.{Overload, Fail, Pass}
 use Rattle.rules.specs.declared.Assign.{Assign}
@@ -23,7 +23,7 @@ use Rattle.rules.specs.Demand.{Passes, demand, overloaded}
 use Rattle.rules.specs.Verdict.{allPairs, compared, isPass}
 use Rattle.rules.specs.Search.{withSet, setPasses}
 use Rattle.rules.specs.Refusal.{planCheck, setCheck, verdictAnswer, setAnswer, searchAnswer}
-use Rattle.laws.proofs.Lists.{by-bool, true-not-false}
+use Rattle.lists.proofs.Lists.{by-bool, true-not-false}
 use Rattle.laws.proofs.Lawful.{planCheck-lawful}
 use Rattle.horizon.proofs.Sets.{withSet-lawful}
 use Rattle.horizon.proofs.Verdict.{pass-exactly, pass-count, overload-exactly, FirstBreak, fail-names}

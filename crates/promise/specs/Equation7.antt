@@ -7,7 +7,7 @@ use mathlib.Core.Bool.{cond, _&&_}
 use lib.Dec.{leb, ltb}
 use Rattle.rules.specs.declared.BatteryString.{BatteryString}
 use Rattle.rules.specs.declared.Plan.{Plan}
-use Rattle.rules.specs.Count.{largest}
+use Rattle.lists.specs.Count.{largest}
 use Rattle.rules.specs.Plan.{stringsOf, dMin, dMax}
 use Rattle.rules.specs.Demand.{demand}
 

@@ -9,11 +9,11 @@ use native.Mathlib.Decide.{decLe, ℕ-discrete}
 use borrow.Author.Tests.{eq-eqb, ne-eqb, eqb-true}
 use lib.Dec.{eqb}
 use lib.ListN.{length, drop, getD, length-drop}
-use Rattle.rules.specs.declared.Fault.the-variants.{LineMalformed, FrameWrong}
-use Rattle.rules.specs.declared.Checked.the-variants.{Lawful, Refused}
+use Rattle.faults.specs.declared.Fault.the-variants.{LineMalformed, FrameWrong}
+use Rattle.faults.specs.declared.Checked.the-variants.{Lawful, Refused}
 use Rattle.rules.specs.Text.{Line, linesOf, wellFormed, frameOf, fieldAt, frameCheck}
-use Rattle.laws.proofs.Lists.{by-bool, and-left, and-right, true-not-false}
-use Rattle.laws.proofs.Lawful.{refused-not-lawful, then-first, then-second, refuseIf-not}
+use Rattle.lists.proofs.Lists.{by-bool, and-left, and-right, true-not-false}
+use Rattle.faults.proofs.Checks.{refused-not-lawful, then-first, then-second, refuseIf-not}
 use Rattle.reading.specs.Place.{digitRun, lineAt, byteIn, Frame}
 use Rattle.reading.proofs.Lines.{digitLine, digitRun-fits, wellFormed-none, wellFormed-odd, wellFormed-even, lineAt-digits, lineAt-other, linesOf-next}
 use Rattle.reading.proofs.Fields.{twice, frame-length, field-one}

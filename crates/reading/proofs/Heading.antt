@@ -6,13 +6,12 @@ use mathlib.Core.Bool.{Bool, true, false, not, _&&_}
 use native.Mathlib.Omega.{arith}
 use borrow.Author.Tests.{eq-eqb, ne-eqb, eqb-true, not-false}
 use lib.Dec.{eqb}
-use Rattle.rules.specs.declared.Fault.the-variants.{FrameWrong, StringCount, OutOfBounds}
-use Rattle.rules.specs.declared.Checked.the-variants.{Lawful, Refused}
-use Rattle.rules.specs.Plan.{inBounds}
-use Rattle.rules.specs.Refusal.{then, refuseIf}
+use Rattle.faults.specs.declared.Fault.the-variants.{FrameWrong, StringCount, OutOfBounds}
+use Rattle.faults.specs.declared.Checked.the-variants.{Lawful, Refused}
+use Rattle.faults.specs.Checks.{inBounds, then, refuseIf}
+use Rattle.faults.proofs.Checks.{inBounds-low, inBounds-high, inBounds-yes, inBounds-not, then-first, then-second, refuseIf-not}
 use Rattle.rules.specs.Text.{Line, frameOf, fieldAt, nIn, aIn, runIn, frameCheck, headerCheck}
-use Rattle.laws.proofs.Lists.{by-bool, and-left, and-right}
-use Rattle.laws.proofs.Lawful.{inBounds-low, inBounds-high, inBounds-yes, inBounds-not, then-first, then-second, refuseIf-not}
+use Rattle.lists.proofs.Lists.{by-bool, and-left, and-right}
 use Rattle.reading.specs.Place.{numbersOfHeader}
 
 module _ (line : Line) where

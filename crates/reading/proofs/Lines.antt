@@ -13,9 +13,9 @@ use borrow.Author.Tests.{lt-ltb, le-ltb, ltb-true, ltb-false, eq-eqb, ne-eqb, eq
 use lib.Dec.{ltb, eqb}
 use lib.ListN.{length, take, drop, getD, length-drop}
 use lib.Seq.{drop-drop, getD-drop, getD-take, length-take-le}
-use Rattle.rules.specs.Count.{every}
+use Rattle.lists.specs.Count.{every}
 use Rattle.rules.specs.Text.{Line, before, linesOf, digitOf, wellFormed}
-use Rattle.laws.proofs.Lists.{by-bool, true-not-false, and-both}
+use Rattle.lists.proofs.Lists.{by-bool, true-not-false, and-both}
 use Rattle.reading.specs.Place.{digitRun, headLine, lineAt}
 
 abbrev pub isDigit : ℕ → Bool

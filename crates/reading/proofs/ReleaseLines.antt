@@ -14,14 +14,14 @@ use lib.Dec.{ltb}
 use lib.ListN.{length, take, drop}
 use Rattle.rules.specs.declared.Plan.{Plan}
 use Rattle.rules.specs.declared.Release.{Release}
-use Rattle.rules.specs.declared.Fault.{Fault}
-use Rattle.rules.specs.declared.Fault.the-variants.{ReleaseTooMany, ReleaseUnlawful}
-use Rattle.rules.specs.declared.Checked.{Checked}
-use Rattle.rules.specs.declared.Checked.the-variants.{Lawful, Refused}
+use Rattle.faults.specs.declared.Fault.{Fault}
+use Rattle.faults.specs.declared.Fault.the-variants.{ReleaseTooMany, ReleaseUnlawful}
+use Rattle.faults.specs.declared.Checked.{Checked}
+use Rattle.faults.specs.declared.Checked.the-variants.{Lawful, Refused}
 use Rattle.rules.specs.Release.{releaseLawful, unlawfulFrom}
 use Rattle.rules.specs.Text.{Line, linesOf, releaseOf, frameCheck, releaseLineCheck, releaseLinesCheck}
-use Rattle.laws.proofs.Lists.{by-bool}
-use Rattle.laws.proofs.Lawful.{then-lawful, then-refused}
+use Rattle.lists.proofs.Lists.{by-bool}
+use Rattle.faults.proofs.Checks.{then-lawful, then-refused}
 use Rattle.reading.specs.declared.Framed.{Framed}
 use Rattle.reading.specs.Place.{lineAt, Frame, framedOr, framesFrom, releasesBy}
 use Rattle.reading.proofs.Framing.{frameCheck-frame, frame-next}

@@ -6,12 +6,12 @@ use mathlib.Core.List.{List, [], _∷_, map, tail-eq-of-cons-eq, head-eq-of-cons
 use native.Mathlib.Omega.{arith}
 use native.Mathlib.Nat.{not-suc-le-zero}
 use lib.ListN.{length, take, drop}
-use Rattle.rules.specs.declared.Fault.{Fault}
-use Rattle.rules.specs.declared.Fault.the-variants.{ReleaseTooMany}
-use Rattle.rules.specs.declared.Checked.{Checked}
-use Rattle.rules.specs.declared.Checked.the-variants.{Lawful, Refused}
+use Rattle.faults.specs.declared.Fault.{Fault}
+use Rattle.faults.specs.declared.Fault.the-variants.{ReleaseTooMany}
+use Rattle.faults.specs.declared.Checked.{Checked}
+use Rattle.faults.specs.declared.Checked.the-variants.{Lawful, Refused}
 use Rattle.rules.specs.Text.{Line, linesOf, releaseOf, frameCheck}
-use Rattle.laws.proofs.Lawful.{refused-not-lawful}
+use Rattle.faults.proofs.Checks.{refused-not-lawful}
 use Rattle.reading.specs.declared.Framed.{Framed}
 use Rattle.reading.specs.Place.{headLine, lineAt, Frame, framesFrom, releasesBy}
 use Rattle.reading.proofs.Framing.{frameCheck-frame, frame-next}

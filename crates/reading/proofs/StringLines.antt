@@ -9,14 +9,14 @@ use native.Mathlib.Decide.{decLe}
 use native.Mathlib.Nat.{not-suc-le-zero}
 use lib.Dec.{eqb}
 use lib.ListN.{length, take, drop, drop-of-length-le, length-drop}
-use Rattle.rules.specs.declared.Fault.{Fault}
-use Rattle.rules.specs.declared.Fault.the-variants.{FrameWrong, OutOfBounds}
-use Rattle.rules.specs.declared.Checked.{Checked}
-use Rattle.rules.specs.declared.Checked.the-variants.{Lawful, Refused}
+use Rattle.faults.specs.declared.Fault.{Fault}
+use Rattle.faults.specs.declared.Fault.the-variants.{FrameWrong, OutOfBounds}
+use Rattle.faults.specs.declared.Checked.{Checked}
+use Rattle.faults.specs.declared.Checked.the-variants.{Lawful, Refused}
 use Rattle.rules.specs.Plan.{stringLawful}
 use Rattle.rules.specs.Text.{Line, before, linesOf, stringOf, frameCheck, stringLineCheck, stringLinesCheck}
-use Rattle.laws.proofs.Lists.{by-bool}
-use Rattle.laws.proofs.Lawful.{then-lawful, then-refused, then-first, then-second, refused-not-lawful}
+use Rattle.lists.proofs.Lists.{by-bool}
+use Rattle.faults.proofs.Checks.{then-lawful, then-refused, then-first, then-second, refused-not-lawful}
 use Rattle.reading.specs.Place.{headLine, lineAt, Frame, stringsBy}
 use Rattle.reading.proofs.Framing.{frameCheck-frame, frame-next}
 

@@ -14,14 +14,15 @@ use Rattle.rules.specs.declared.Plan.{Plan}
 use Rattle.rules.specs.declared.Release.{Release}
 use Rattle.rules.specs.declared.Releases.{Releases}
 use Rattle.rules.specs.declared.Reading.{Reading}
-use Rattle.rules.specs.declared.Fault.{Fault}
-use Rattle.rules.specs.declared.Fault.the-variants.{TextTooLong, FrameWrong, MultipleOver, ReleaseUnlawful}
-use Rattle.rules.specs.declared.Checked.{Checked}
-use Rattle.rules.specs.declared.Checked.the-variants.{Lawful, Refused}
+use Rattle.faults.specs.declared.Fault.{Fault}
+use Rattle.faults.specs.declared.Fault.the-variants.{TextTooLong, FrameWrong, MultipleOver, ReleaseUnlawful}
+use Rattle.faults.specs.declared.Checked.{Checked}
+use Rattle.faults.specs.declared.Checked.the-variants.{Lawful, Refused}
 use Rattle.rules.specs.Plan.{multipleOf, noString}
 use Rattle.rules.specs.Release.{releasesOf, noRelease, firstUnlawful, unlawfulFrom}
-use Rattle.rules.specs.Text.{Line, linesOf, nIn, aIn, runIn, stringOf, releaseOf, filled, planIn, releasesIn, headerCheck, stringLinesCheck, releaseLinesCheck, bodyCheck, linesCheck, textCheck, lawfulReading, readingOf}
-use Rattle.laws.proofs.Lawful.{then-lawful, then-refused}
+use Rattle.lists.specs.Count.{filled}
+use Rattle.rules.specs.Text.{Line, linesOf, nIn, aIn, runIn, stringOf, releaseOf, planIn, releasesIn, headerCheck, stringLinesCheck, releaseLinesCheck, bodyCheck, linesCheck, textCheck, lawfulReading, readingOf}
+use Rattle.faults.proofs.Checks.{then-lawful, then-refused}
 use Rattle.laws.proofs.Releases.{firstUnlawful-le}
 use Rattle.reading.specs.declared.Framed.{Framed}
 use Rattle.reading.specs.Place.{lineAt, Frame, HeaderRead, StringsRead, stringsBy, planBy, releasesBy, releaseListBy, framesFrom, restCheck, restReading, bodyReading, refusedReading}

@@ -13,16 +13,16 @@ use Rattle.rules.specs.declared.BatteryString.{BatteryString}
 use Rattle.rules.specs.declared.Plan.{Plan}
 use Rattle.rules.specs.declared.Release.{Release}
 use Rattle.rules.specs.declared.Releases.{Releases}
-use Rattle.rules.specs.declared.Fault.the-variants.{OutOfBounds}
-use Rattle.rules.specs.declared.Checked.{Checked}
-use Rattle.rules.specs.declared.Checked.the-variants as checked
+use Rattle.faults.specs.declared.Fault.the-variants.{OutOfBounds}
+use Rattle.faults.specs.declared.Checked.{Checked}
+use Rattle.faults.specs.declared.Checked.the-variants as checked
 use Rattle.rules.specs.declared.Verdict.{Verdict}
 use Rattle.rules.specs.declared.Verdict.the-variants.{Overload, Fail, Pass}
 use Rattle.rules.specs.declared.Assign.{Assign}
 use Rattle.rules.specs.declared.Assign.the-variants.{Takers}
 use Rattle.rules.specs.declared.Outcome.{Outcome}
 use Rattle.rules.specs.declared.Outcome.the-variants.{Miss, Clean}
-use Rattle.rules.specs.Count.{sumOf, largest, smallest, smallestWith, every, keep, countOf, upFrom, leastFrom}
+use Rattle.lists.specs.Count.{sumOf, largest, smallest, smallestWith, every, keep, countOf, upFrom, leastFrom}
 use Rattle.rules.specs.Plan.{noString, stringLawful, commonMultiple, multipleOf, dMin, dMax}
 use Rattle.rules.specs.Demand.{movingCost, holdOf, jobs, blockerHold, blockLimit, need, demand, load, overloaded}
 use Rattle.rules.specs.Verdict.{pairsAt, allPairs, broken, firstBroken, compared, judged, verdictOf, isPass}
@@ -33,7 +33,8 @@ use Rattle.rules.specs.Refusal.{countCheck, numbersCheck, stringsCheck, 
 use Rattle.rules.specs.Answer.{answerOf}
 use Rattle.rules.specs.Answer as answers
 use Rattle.rules.specs.Lines.{bytesOf, decimalIn, decimal, refusedLine, verdictLine, assignLine, outcomeLine, linesFor}
-use Rattle.rules.specs.Text.{Line, before, linesOf, digitOf, wellFormed, pairsOf, frameOf, numberFrom, fieldAt, nIn, aIn, runIn, stringOf, releaseOf, filled, planIn, releasesIn, frameCheck, headerCheck, stringLineCheck, stringLinesCheck, releaseLineCheck, releaseLinesCheck, bodyCheck, linesCheck, textCheck, lawfulReading, readingOf}
+use Rattle.lists.specs.Count.{filled}
+use Rattle.rules.specs.Text.{Line, before, linesOf, digitOf, wellFormed, pairsOf, frameOf, numberFrom, fieldAt, nIn, aIn, runIn, stringOf, releaseOf, planIn, releasesIn, frameCheck, headerCheck, stringLineCheck, stringLinesCheck, releaseLineCheck, releaseLinesCheck, bodyCheck, linesCheck, textCheck, lawfulReading, readingOf}
 
 -- ---- Writing plans and texts down
 

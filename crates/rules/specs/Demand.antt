@@ -14,7 +14,7 @@ use mathlib.Core.Bool.{Bool, cond, _&&_}
 use lib.Dec.{leb, ltb, eqb}
 use Rattle.rules.specs.declared.BatteryString.{BatteryString}
 use Rattle.rules.specs.declared.Plan.{Plan}
-use Rattle.rules.specs.Count.{sumOf, largest}
+use Rattle.lists.specs.Count.{sumOf, largest}
 use Rattle.rules.specs.Plan.{stringsOf, multipleOf, dMin, dMax}
 
 unfoldable pub movingCost : Plan → BatteryString → ℕ

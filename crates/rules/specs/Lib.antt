@@ -1,5 +1,4 @@
 -- The rules of document 01, in its order. Read: Plan, Demand, Verdict, Search, Release, Run, Refusal, Text, Answer, Lines.
-pub mod Count
 pub mod Plan
 pub mod Demand
 pub mod Verdict

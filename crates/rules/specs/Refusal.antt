@@ -1,5 +1,4 @@
 -- Refusals of entries that take numbers (document 01, "Refusal numbers"), and what each entry answers for any input.
---     faultNumber f         the number that document 01 gives the fault f
 --     stringsCheck k ss     5 with the place, from k on, of the first string outside its bounds
 --     planCheck p           4, then 5 for A and N (with 0), then 5 place by place, then 6 (with 0)
 --     setCheck p m          the same with a permission set: 5 with 0 for 2^n or more, straight after A and N
@@ -13,41 +12,24 @@ use lib.Dec.{ltb, leb, eqb}
 use Rattle.rules.specs.declared.BatteryString.{BatteryString}
 use Rattle.rules.specs.declared.Plan.{Plan}
 use Rattle.rules.specs.declared.Releases.{Releases}
-use Rattle.rules.specs.declared.Fault.{Fault}
-use Rattle.rules.specs.declared.Fault.the-variants.{TextTooLong, LineMalformed, FrameWrong, StringCount, OutOfBounds, MultipleOver, ReleaseTooMany, ReleaseUnlawful}
-use Rattle.rules.specs.declared.Checked.{Checked}
-use Rattle.rules.specs.declared.Checked.the-variants as checked
+use Rattle.faults.specs.declared.Fault.{Fault}
+use Rattle.faults.specs.declared.Fault.the-variants.{TextTooLong, LineMalformed, FrameWrong, StringCount, OutOfBounds, MultipleOver, ReleaseTooMany, ReleaseUnlawful}
+use Rattle.faults.specs.declared.Checked.{Checked}
+use Rattle.faults.specs.declared.Checked.the-variants as checked
 use Rattle.rules.specs.declared.Verdict.{Verdict}
 use Rattle.rules.specs.declared.Verdict.the-variants as verdict
 use Rattle.rules.specs.declared.Assign.{Assign}
 use Rattle.rules.specs.declared.Assign.the-variants as assign
 use Rattle.rules.specs.declared.Outcome.{Outcome}
 use Rattle.rules.specs.declared.Outcome.the-variants as outcome
-use Rattle.rules.specs.Plan.{stringsOf, inBounds, stringLawful, multipleOf}
+use Rattle.rules.specs.Plan.{stringsOf, stringLawful, multipleOf}
+use Rattle.faults.specs.Checks.{inBounds, refuseIf, then}
 use Rattle.rules.specs.Verdict.{verdictOf}
 use Rattle.rules.specs.Search.{withSet, searchOf}
 use Rattle.rules.specs.Release.{releasesOf, firstUnlawful}
 use Rattle.rules.specs.Run.{runOf}
 
-abbrev pub faultNumber : Fault → ℕ
-faultNumber TextTooLong = 1
-faultNumber LineMalformed = 2
-faultNumber FrameWrong = 3
-faultNumber StringCount = 4
-faultNumber OutOfBounds = 5
-faultNumber MultipleOver = 6
-faultNumber ReleaseTooMany = 7
-faultNumber ReleaseUnlawful = 8
-
 -- ---- The order of faults
-
--- the first check decides; the second is looked at only where the first finds nothing
-abbrev pub then : Checked → Checked → Checked
-then checked.Lawful next = next
-then (checked.Refused f at) next = checked.Refused f at
-
-abbrev pub refuseIf : Bool → Fault → ℕ → Checked
-refuseIf bad f at = cond bad (checked.Refused f at) checked.Lawful
 
 unfoldable pub countCheck : Plan → Checked
 countCheck p = refuseIf (not (inBounds 1 (p .n) 10)) StringCount 0

@@ -14,7 +14,8 @@ use Rattle.days.specs.Days.{day, days}
 use Rattle.rules.specs.declared.Plan.{Plan}
 use Rattle.rules.specs.declared.Release.{Release}
 use Rattle.rules.specs.declared.Releases.{Releases}
-use Rattle.rules.specs.Plan.{inBounds, stringAt}
+use Rattle.rules.specs.Plan.{stringAt}
+use Rattle.faults.specs.Checks.{inBounds}
 
 abbrev pub releasesOf : Releases → List Release
 releasesOf rs = take (rs .count) (rs .list)

@@ -31,7 +31,7 @@ use Rattle.rules.specs.declared.Use.{Use}
 use Rattle.rules.specs.declared.Use.the-variants.{Idle, Work, Move}
 use Rattle.rules.specs.declared.Outcome.{Outcome}
 use Rattle.rules.specs.declared.Outcome.the-variants.{Miss, Clean}
-use Rattle.rules.specs.Count.{countOf, leastFrom}
+use Rattle.lists.specs.Count.{countOf, leastFrom}
 use Rattle.rules.specs.Plan.{stringsOf, stringAt, noString}
 use Rattle.rules.specs.Demand.{movingCost}
 

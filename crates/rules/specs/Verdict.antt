@@ -16,7 +16,7 @@ use Rattle.days.specs.Days.{days}
 use Rattle.rules.specs.declared.Plan.{Plan}
 use Rattle.rules.specs.declared.Verdict.{Verdict}
 use Rattle.rules.specs.declared.Verdict.the-variants.{Refused, Overload, Fail, Pass}
-use Rattle.rules.specs.Count.{upFrom}
+use Rattle.lists.specs.Count.{upFrom}
 use Rattle.rules.specs.Plan.{multipleOf, dMax}
 use Rattle.rules.specs.Demand.{blockLimit, demand, overloaded}
 

@@ -13,7 +13,7 @@ use lib.ListN.{length, getD, take}
 use lib.Seq.{getD-take, length-take-le}
 use Rattle.rules.specs.declared.Slot.{Slot}
 use Rattle.rules.specs.Run.{chosen, noSlot, slotAt}
-use Rattle.laws.proofs.Lists.{by-bool}
+use Rattle.lists.proofs.Lists.{by-bool}
 
 module _ (ok : Slot → Bool) (ahead : Slot → Slot → Bool) (ss : List Slot) where
   pub chosen-none : chosen ok ahead ss 0 ≡ 0

@@ -11,9 +11,9 @@ use Rattle.rules.specs.declared.Plan.{Plan}
 use Rattle.rules.specs.declared.Release.{Release}
 use Rattle.rules.specs.declared.Use.{Use}
 use Rattle.rules.specs.declared.Use.the-variants.{Idle, Work, Move}
-use Rattle.rules.specs.Count.{countOf}
+use Rattle.lists.specs.Count.{countOf}
 use Rattle.rules.specs.Run.{useOn, history, isWork, isMove, isIdle}
-use Rattle.laws.proofs.Lists.{by-bool}
+use Rattle.lists.proofs.Lists.{by-bool}
 use Rattle.run.specs.Tally.{addedTo, tallyOf, Under}
 
 countOf-end : (f : Use → Bool) (us : List Use) (u : Use) → countOf f (us ++ (u ∷ [])) ≡ countOf f us + cond (f u) 1 0

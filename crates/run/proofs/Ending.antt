@@ -11,7 +11,7 @@ use Rattle.rules.specs.declared.Plan.{Plan}
 use Rattle.rules.specs.declared.Release.{Release}
 use Rattle.rules.specs.declared.Outcome.the-variants.{Miss, Clean}
 use Rattle.rules.specs.Run.{lateOn, missDay, daysOf, runOf}
-use Rattle.laws.proofs.Least.{leastFrom-unique, leastFrom-none}
+use Rattle.lists.proofs.Least.{leastFrom-unique, leastFrom-none}
 use Rattle.run.specs.Tally.{tallyOf}
 
 module _ (p : Plan) (rs : List Release) where

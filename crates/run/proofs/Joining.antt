@@ -15,7 +15,7 @@ use Rattle.rules.specs.declared.Release.{Release}
 use Rattle.rules.specs.declared.Slot.{Slot}
 use Rattle.rules.specs.Release.{noRelease}
 use Rattle.rules.specs.Run.{newSlot, joinFrom}
-use Rattle.laws.proofs.Lists.{by-bool, All}
+use Rattle.lists.proofs.Lists.{by-bool, All}
 use Rattle.run.proofs.Places.{all-set}
 
 abbrev pub dayAt : List Release → ℕ → ℕ

@@ -14,7 +14,7 @@ use Rattle.rules.specs.declared.Job.the-variants.{Empty, Waiting, OnBank}
 use Rattle.rules.specs.declared.Slot.{Slot}
 use Rattle.rules.specs.Demand.{movingCost}
 use Rattle.rules.specs.Run.{noSlot, slotAt, withJob, stopped, charged, seated, onOrGone, spentJob, stop}
-use Rattle.laws.proofs.Lists.{by-bool}
+use Rattle.lists.proofs.Lists.{by-bool}
 use Rattle.run.specs.Job.{movingLeft}
 use Rattle.run.specs.Day.{MovingWithin}
 use Rattle.run.proofs.Places.{slotAt-take, change-take, all-set, all-getD}

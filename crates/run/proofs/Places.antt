@@ -10,7 +10,7 @@ use lib.Seq.{getD-take, take-set-lt}
 use Rattle.rules.specs.declared.Job.{Job}
 use Rattle.rules.specs.declared.Slot.{Slot}
 use Rattle.rules.specs.Run.{noSlot, slotAt, withJob}
-use Rattle.laws.proofs.Lists.{All}
+use Rattle.lists.proofs.Lists.{All}
 
 -- ---- The first n slots
 

@@ -8,7 +8,7 @@ use lib.Seq.{length-take-le}
 use Rattle.rules.specs.declared.Plan.{Plan}
 use Rattle.rules.specs.declared.Release.{Release}
 use Rattle.rules.specs.Plan.{stringsOf, noString}
-use Rattle.laws.proofs.Lists.{all-at}
+use Rattle.lists.proofs.Lists.{all-at}
 use Rattle.laws.proofs.Lawful.{LawfulString, LawfulPlan}
 use Rattle.laws.proofs.ReleaseList.{LawfulRelease}
 use Rattle.run.specs.Join.{Joins}

@@ -22,7 +22,7 @@ use Rattle.rules.specs.declared.Slot.{Slot}
 use Rattle.rules.specs.Plan.{stringsOf}
 use Rattle.rules.specs.Demand.{movingCost}
 use Rattle.rules.specs.Run.{emptySlot, noSlot, slotAt, withJob, waits, newSlot, joined, holder, mayTake, dueBefore, payer, stopped, charged, stop, taken, nextUp, seated, given, spentJob, spent, morning, stateAt}
-use Rattle.laws.proofs.Lists.{All, all-map, by-bool}
+use Rattle.lists.proofs.Lists.{All, all-map, by-bool}
 use Rattle.run.specs.Job.{movingLeft}
 use Rattle.run.specs.Day.{MovingWithin}
 use Rattle.run.proofs.Chosen.{chosen-nobody}

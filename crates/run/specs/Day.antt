@@ -10,7 +10,7 @@ use lib.ListN.{take}
 use Rattle.rules.specs.declared.Plan.{Plan}
 use Rattle.rules.specs.declared.Slot.{Slot}
 use Rattle.rules.specs.Run.{taken, given, useOf, spent}
-use Rattle.laws.proofs.Lists.{All}
+use Rattle.lists.proofs.Lists.{All}
 use Rattle.run.specs.declared.day.Evening.{Evening}
 use Rattle.run.specs.Job.{movingLeft}
 

@@ -10,7 +10,7 @@ use Rattle.rules.specs.declared.Plan.{Plan}
 use Rattle.rules.specs.declared.Release.{Release}
 use Rattle.rules.specs.declared.Use.{Use}
 use Rattle.rules.specs.declared.Use.the-variants.{Idle, Work, Move}
-use Rattle.rules.specs.Count.{countOf}
+use Rattle.lists.specs.Count.{countOf}
 use Rattle.rules.specs.Run.{history, isWork, isMove, isIdle}
 use Rattle.run.specs.declared.tally.Tally.{Tally}
 

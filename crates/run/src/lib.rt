@@ -12,7 +12,7 @@ use days::Day;
 use days::Length;
 use release::empty_slots;
 use release::join;
-use rules::Checked;
+use faults::Checked;
 use rules::Outcome;
 use rules::Plan;
 use rules::Releases;

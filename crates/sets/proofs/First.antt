@@ -12,11 +12,11 @@ use lib.Count.{ones, ones-le}
 use lib.Dec.{eqb}
 use Rattle.rules.specs.declared.Plan.{Plan}
 use Rattle.rules.specs.declared.Assign.the-variants.{Takers, Nobody}
-use Rattle.rules.specs.Count.{upFrom}
+use Rattle.lists.specs.Count.{upFrom}
 use Rattle.rules.specs.Search.{setPasses, setsOf, ordered, firstPassing}
-use Rattle.laws.proofs.Lists.{All, all-map, by-bool, true-not-false}
-use Rattle.horizon.proofs.Order.{Rising, all-keep, keep-all, all-flat, flat-all}
-use Rattle.horizon.proofs.Order.{all-upFrom, upFrom-all, rising-keep, rising-within, rising-flat, rising-upFrom}
+use Rattle.lists.proofs.Lists.{All, all-map, by-bool, true-not-false}
+use Rattle.lists.proofs.Order.{Rising, all-keep, keep-all, all-flat, flat-all}
+use Rattle.lists.proofs.Order.{all-upFrom, upFrom-all, rising-keep, rising-within, rising-flat, rising-upFrom}
 
 -- ---- The first passing set
 

@@ -13,7 +13,7 @@ use Rattle.rules.specs.declared.Plan.{Plan}
 use Rattle.rules.specs.declared.Assign.the-variants.{Takers, Nobody}
 use Rattle.rules.specs.Demand.{Passes}
 use Rattle.rules.specs.Search.{withSet, setPasses, ordered, searchOf}
-use Rattle.laws.proofs.Lists.{true-not-false}
+use Rattle.lists.proofs.Lists.{true-not-false}
 use Rattle.laws.proofs.Lawful.{LawfulPlan}
 use Rattle.horizon.proofs.Verdict.{pass-exactly}
 use Rattle.horizon.proofs.Sets.{withSet-lawful}

@@ -13,9 +13,9 @@ use lib.Count.{ones}
 use lib.Dec.{eqb}
 use Rattle.rules.specs.declared.Plan.{Plan}
 use Rattle.rules.specs.declared.Assign.the-variants.{Takers, Nobody}
-use Rattle.rules.specs.Count.{upFrom, keep}
+use Rattle.lists.specs.Count.{upFrom, keep}
 use Rattle.rules.specs.Search.{setPasses, setsOf, ordered, firstPassing, searchOf}
-use Rattle.horizon.proofs.Order.{keep-yes, keep-no}
+use Rattle.lists.proofs.Order.{keep-yes, keep-no}
 use Rattle.sets.proofs.First.{firstPassing-here, firstPassing-later, firstPassing-end}
 
 unfoldable pub setsFrom : ℕ → ℕ → ℕ → List ℕ

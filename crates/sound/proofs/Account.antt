@@ -24,11 +24,11 @@ use Rattle.rules.specs.Plan.{stringsOf}
 use Rattle.rules.specs.Release.{firstUnlawful}
 use Rattle.rules.specs.Demand.{holdOf}
 use Rattle.rules.specs.Run.{onBank, waits, left}
-use Rattle.laws.proofs.Lists.{true-not-false}
+use Rattle.lists.proofs.Lists.{true-not-false}
 use Rattle.sound.proofs.Chosen.{at, Choice}
 use Rattle.sound.proofs.Places.{holder-choice}
 use Rattle.laws.proofs.ReleaseList.{str, Released, released-apart}
-use Rattle.sound.proofs.Sums.{sumTo, sumTo-none, sumTo-part}
+use Rattle.lists.proofs.Sums.{sumTo, sumTo-none, sumTo-part}
 use Rattle.sound.proofs.Orderly.{Live, Orderly, on-held, live-if-on}
 
 -- ---- What is left in near jobs

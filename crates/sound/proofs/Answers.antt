@@ -3,7 +3,7 @@
 use mathlib.Core.Path.{_≡_, _∙_}
 use Rattle.rules.specs.declared.Plan.{Plan}
 use Rattle.rules.specs.declared.Releases.{Releases}
-use Rattle.rules.specs.declared.Checked.the-variants.{Lawful}
+use Rattle.faults.specs.declared.Checked.the-variants.{Lawful}
 use Rattle.rules.specs.declared.Outcome.the-variants.{Clean}
 use Rattle.rules.specs.Release.{releasesOf}
 use Rattle.rules.specs.Demand.{Passes}

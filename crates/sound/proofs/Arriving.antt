@@ -15,7 +15,7 @@ use Rattle.rules.specs.Plan.{stringsOf, stringAt, noString}
 use Rattle.rules.specs.Release.{noRelease, firstUnlawful}
 use Rattle.rules.specs.Demand.{movingCost, holdOf}
 use Rattle.rules.specs.Run.{onBank, waits, left, newSlot, joined, taken, lateAt}
-use Rattle.laws.proofs.Lists.{true-not-false, all-at}
+use Rattle.lists.proofs.Lists.{true-not-false, all-at}
 use Rattle.laws.proofs.Lawful.{LawfulPlan, LawfulString}
 use Rattle.sound.specs.Served.{payerIn}
 use Rattle.sound.proofs.Chosen.{at}

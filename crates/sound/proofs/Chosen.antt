@@ -13,7 +13,7 @@ use lib.Dec.{eqb}
 use lib.ListN.{getD}
 use Rattle.rules.specs.declared.Slot.{Slot}
 use Rattle.rules.specs.Run.{chosen, slotAt, noSlot}
-use Rattle.laws.proofs.Lists.{by-bool, true-not-false}
+use Rattle.lists.proofs.Lists.{by-bool, true-not-false}
 
 abbrev pub at : List Slot → ℕ → Slot
 at ss j = getD ss j noSlot

@@ -19,7 +19,7 @@ use Rattle.laws.proofs.Lawful.{LawfulPlan}
 use Rattle.sound.proofs.Chosen.{at}
 use Rattle.sound.proofs.Places.{late-nobody}
 use Rattle.laws.proofs.ReleaseList.{str}
-use Rattle.sound.proofs.Sums.{sumTo-part, sumTo-none}
+use Rattle.lists.proofs.Sums.{sumTo-part, sumTo-none}
 use Rattle.sound.proofs.Orderly.{Orderly, empty-not-on}
 use Rattle.sound.proofs.Account.{nearLeft, nearLeft-near, nearLeft-some, backlog, Mode, opened}
 use Rattle.sound.proofs.Keeping.{day-orderly, day-mode}

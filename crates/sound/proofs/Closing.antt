@@ -12,13 +12,13 @@ use lib.ListN.{length}
 use Rattle.rules.specs.declared.Plan.{Plan}
 use Rattle.rules.specs.declared.Release.{Release}
 use Rattle.rules.specs.declared.Slot.{Slot}
-use Rattle.rules.specs.Count.{largest}
+use Rattle.lists.specs.Count.{largest}
 use Rattle.rules.specs.Plan.{stringsOf, noString, dMin, dMax}
 use Rattle.rules.specs.Demand.{holdOf, jobs, blockerHold, blockLimit, need, demand, Passes}
-use Rattle.laws.proofs.Lists.{all-at, largest-ge, smallest-le}
+use Rattle.lists.proofs.Lists.{all-at, largest-ge, smallest-le}
 use Rattle.laws.proofs.Lawful.{LawfulPlan, LawfulString}
 use Rattle.laws.proofs.Jobs.{jobs-window}
-use Rattle.sound.proofs.Sums.{sumTo, sumTo-some, sumTo-sumOf}
+use Rattle.lists.proofs.Sums.{sumTo, sumTo-some, sumTo-sumOf}
 use Rattle.laws.proofs.ReleaseList.{str}
 use Rattle.laws.proofs.Demand.{holdOf-other}
 use Rattle.sound.proofs.Arriving.{lawful-str}

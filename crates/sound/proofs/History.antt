@@ -14,9 +14,9 @@ use Rattle.rules.specs.declared.Release.{Release}
 use Rattle.rules.specs.declared.Use.{Use}
 use Rattle.rules.specs.declared.Use.the-variants.{Idle, Work, Move}
 use Rattle.rules.specs.declared.Outcome.the-variants.{Clean, Miss}
-use Rattle.rules.specs.Count.{countOf}
+use Rattle.lists.specs.Count.{countOf}
 use Rattle.rules.specs.Run.{useOn, history, isWork, isMove, isIdle, daysOf, lateOn, missDay, runOf}
-use Rattle.laws.proofs.Least.{leastFrom-none, leastFrom-before, leastFrom-passes, leastFrom-unique}
+use Rattle.lists.proofs.Least.{leastFrom-none, leastFrom-before, leastFrom-passes, leastFrom-unique}
 
 -- ---- Counts
 

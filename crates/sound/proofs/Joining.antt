@@ -16,7 +16,7 @@ use Rattle.rules.specs.declared.Release.{Release}
 use Rattle.rules.specs.declared.Slot.{Slot}
 use Rattle.rules.specs.Release.{noRelease, firstUnlawful}
 use Rattle.rules.specs.Run.{noSlot, newSlot, joinFrom, joined}
-use Rattle.laws.proofs.Lists.{All, all-by, by-bool}
+use Rattle.lists.proofs.Lists.{All, all-by, by-bool}
 use Rattle.sound.proofs.Chosen.{at}
 use Rattle.laws.proofs.ReleaseList.{release-lawful}
 

@@ -20,7 +20,7 @@ use Rattle.rules.specs.Plan.{stringsOf, stringAt}
 use Rattle.rules.specs.Release.{noRelease, firstUnlawful}
 use Rattle.rules.specs.Demand.{movingCost}
 use Rattle.rules.specs.Run.{onBank, waits, stopped, newSlot, joined, taken, lateAt}
-use Rattle.laws.proofs.Lists.{true-not-false}
+use Rattle.lists.proofs.Lists.{true-not-false}
 use Rattle.laws.proofs.Lawful.{LawfulPlan}
 use Rattle.sound.specs.Served.{payerIn}
 use Rattle.sound.proofs.Chosen.{at}

@@ -20,7 +20,7 @@ use Rattle.rules.specs.declared.Use.{Use}
 use Rattle.rules.specs.Plan.{stringsOf}
 use Rattle.rules.specs.Demand.{movingCost, holdOf}
 use Rattle.rules.specs.Run.{onBank, waits, left, stopped, charged, seated, spentJob}
-use Rattle.laws.proofs.Lists.{by-bool, true-not-false}
+use Rattle.lists.proofs.Lists.{by-bool, true-not-false}
 use Rattle.sound.proofs.Chosen.{at}
 use Rattle.sound.proofs.Places.{putJob}
 use Rattle.laws.proofs.ReleaseList.{str, Released}

@@ -14,7 +14,7 @@ use Rattle.days.specs.Days.{days}
 use Rattle.rules.specs.declared.Job.{Job}
 use Rattle.rules.specs.declared.Job.the-variants.{Empty, Waiting, OnBank}
 use Rattle.rules.specs.Run.{left, stopped, seated, spentJob, onOrGone, usedFor}
-use Rattle.laws.proofs.Lists.{by-bool}
+use Rattle.lists.proofs.Lists.{by-bool}
 use Rattle.sound.specs.Served.{worksFor, movesFor}
 
 abbrev pub workOf : Job → ℕ

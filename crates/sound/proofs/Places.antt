@@ -14,7 +14,7 @@ use lib.Seq.{getD-set-same, getD-set-other}
 use Rattle.rules.specs.declared.Slot.{Slot}
 use Rattle.rules.specs.declared.Job.{Job}
 use Rattle.rules.specs.Run.{slotAt, noSlot, noneAhead, onBank, waits, left, lateSlot, lateAt, holder, mayTake, dueBefore, payer, goesFirst, nextUp, withJob}
-use Rattle.laws.proofs.Lists.{by-bool, true-not-false, and-left, and-right, and-both}
+use Rattle.lists.proofs.Lists.{by-bool, true-not-false, and-left, and-right, and-both}
 use Rattle.sound.proofs.Chosen.{at, Choice, Order, chosen-choice}
 
 -- ---- The three orders

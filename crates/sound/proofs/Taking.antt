@@ -15,7 +15,7 @@ use Rattle.rules.specs.declared.Job.{Job}
 use Rattle.rules.specs.declared.Job.the-variants.{Empty, Waiting, OnBank}
 use Rattle.rules.specs.Demand.{movingCost}
 use Rattle.rules.specs.Run.{slotAt, noneAhead, onBank, waits, holder, mayTake, dueBefore, payer, stopped, charged, stop, charge, taken}
-use Rattle.laws.proofs.Lists.{true-not-false, and-left, and-right}
+use Rattle.lists.proofs.Lists.{true-not-false, and-left, and-right}
 use Rattle.sound.specs.Served.{payerIn}
 use Rattle.sound.proofs.Chosen.{at, slotAt-suc, Nobody, One, Choice}
 use Rattle.sound.proofs.Places.{holder-choice, payer-choice, putJob, withJob-length, withJob-same, withJob-other}

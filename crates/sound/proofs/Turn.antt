@@ -14,7 +14,7 @@ use Rattle.rules.specs.declared.Use.{Use}
 use Rattle.rules.specs.Plan.{stringsOf}
 use Rattle.rules.specs.Run.{onBank, left}
 use Rattle.sound.proofs.Chosen.{at}
-use Rattle.sound.proofs.Sums.{sumTo-le, sumTo-less}
+use Rattle.lists.proofs.Sums.{sumTo-le, sumTo-less}
 use Rattle.sound.proofs.Using.{Used, spent-left}
 use Rattle.sound.proofs.Orderly.{Live, Orderly}
 use Rattle.sound.proofs.Account.{nearLeft, nearLeft-near, nearLeft-far, backlog, Phase, flowing}

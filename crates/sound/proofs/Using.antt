@@ -19,7 +19,7 @@ use Rattle.rules.specs.declared.Job.the-variants.{Empty, Waiting, OnBank}
 use Rattle.rules.specs.declared.Use.{Use}
 use Rattle.rules.specs.declared.Use.the-variants.{Idle}
 use Rattle.rules.specs.Run.{slotAt, noneAhead, onBank, waits, left, holder, nextUp, goesFirst, seated, given, spentJob, onOrGone, spent, usedFor, useOf, withJob}
-use Rattle.laws.proofs.Lists.{by-bool, true-not-false}
+use Rattle.lists.proofs.Lists.{by-bool, true-not-false}
 use Rattle.sound.proofs.Chosen.{at, slotAt-suc, Nobody, One, Choice}
 use Rattle.sound.proofs.Places.{holder-choice, nextUp-choice, goesFirst-not, putJob, withJob-length, withJob-same, withJob-other}
 

@@ -10,13 +10,13 @@ use borrow.Author.Tests.{eq-eqb, ne-eqb}
 use lib.ListN.{length, length-take}
 use Rattle.rules.specs.declared.BatteryString.{BatteryString}
 use Rattle.rules.specs.declared.Plan.{Plan}
-use Rattle.rules.specs.Count.{sumOf}
+use Rattle.lists.specs.Count.{sumOf}
 use Rattle.rules.specs.Plan.{stringsOf}
 use Rattle.rules.specs.Demand.{movingCost, holdOf, jobs, need, demand}
-use Rattle.laws.proofs.Lists.{All, all-map, sumOf-eq, sumOf-add}
+use Rattle.lists.proofs.Lists.{All, all-map, sumOf-eq, sumOf-add}
 use Rattle.laws.proofs.Jobs.{jobs-short, jobs-from, jobs-zero}
 use Rattle.laws.proofs.Lawful.{LawfulString, LawfulPlan}
-use Rattle.horizon.proofs.Order.{sumOf-zero}
+use Rattle.lists.proofs.Order.{sumOf-zero}
 use Rattle.laws.proofs.Demand.{holdOf-other, need-taker, need-keeper}
 use Rattle.verdict.specs.Asked.{askedOf, askedBy}
 

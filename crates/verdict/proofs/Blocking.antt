@@ -8,10 +8,10 @@ use native.Mathlib.Nat.{mul-le-mul, div-le-self}
 use borrow.Author.Tests.{lt-ltb, le-ltb, le-leb, lt-leb}
 use Rattle.rules.specs.declared.BatteryString.{BatteryString}
 use Rattle.rules.specs.declared.Plan.{Plan}
-use Rattle.rules.specs.Count.{largest}
+use Rattle.lists.specs.Count.{largest}
 use Rattle.rules.specs.Plan.{stringsOf, dMin, dMax}
 use Rattle.rules.specs.Demand.{holdOf, blockerHold, blockLimit}
-use Rattle.laws.proofs.Lists.{all-map, largest-le}
+use Rattle.lists.proofs.Lists.{all-map, largest-le}
 use Rattle.laws.proofs.Lawful.{LawfulString, LawfulPlan}
 use Rattle.laws.proofs.Demand.{blockLimit-late, blockLimit-interval}
 use Rattle.verdict.proofs.Asked.{holdOf-le}

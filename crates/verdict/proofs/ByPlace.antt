@@ -9,9 +9,9 @@ use lib.ListN.{length, drop, getD, drop-of-length-le}
 use lib.Seq.{length-take-le, getD-take}
 use Rattle.rules.specs.declared.BatteryString.{BatteryString}
 use Rattle.rules.specs.declared.Plan.{Plan}
-use Rattle.rules.specs.Count.{sumOf, largest, smallest, smallestWith}
+use Rattle.lists.specs.Count.{sumOf, largest, smallest, smallestWith}
 use Rattle.rules.specs.Plan.{stringsOf, noString}
-use Rattle.laws.proofs.Lists.{all-at, sumOf-drop, largest-drop, smallestWith-drop}
+use Rattle.lists.proofs.Lists.{all-at, sumOf-drop, largest-drop, smallestWith-drop}
 use Rattle.laws.proofs.Lawful.{LawfulString}
 use Rattle.verdict.specs.Asked.{Ready}
 

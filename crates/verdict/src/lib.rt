@@ -11,7 +11,7 @@ use pairs::judged;
 use permissions::first_set;
 use permissions::with_set;
 use rules::Assign;
-use rules::Checked;
+use faults::Checked;
 use rules::Plan;
 use rules::Verdict;
 ghost use mathlib.Core.Path.{_≡_};

@@ -4,7 +4,7 @@ use rules::BatteryString;
 use rules::Plan;
 ghost use mathlib.Core.Path.{_≡_};
 ghost use Prim.Native.Nat.{_≤_, _<_, _*_, _/_, min, max};
-ghost use Rattle.rules.specs.Count.{largest};
+ghost use Rattle.lists.specs.Count.{largest};
 ghost use Rattle.rules.specs.Plan.{stringsOf, multipleOf, dMin, dMax};
 ghost use Rattle.rules.specs.Demand.{holdOf, blockerHold, blockLimit, load};
 ghost use Rattle.laws.proofs.Lawful.{LawfulString};

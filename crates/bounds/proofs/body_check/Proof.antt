@@ -5,7 +5,8 @@ use native.Mathlib.Omega.{arith}
 use borrow.Author.Needs.{needs}
 use Rattle.rules.specs.Plan.{stringsOf}
 use Rattle.rules.specs.Refusal.{stringsCheck, multipleCheck}
-use Rattle.laws.proofs.Lawful.{then-lawful, then-refused, multipleCheck-good, multipleCheck-bad}
+use Rattle.laws.proofs.Lawful.{multipleCheck-good, multipleCheck-bad}
+use Rattle.faults.proofs.Checks.{then-lawful, then-refused}
 use Rattle.bounds.proofs.body_check.Statement.{statement}
 use Rattle.bounds.proofs.body_check.Tie as tie
 

@@ -4,10 +4,11 @@ use mathlib.Core.Path.{_≡_, sym, ap, _∙_}
 use native.Mathlib.Omega.{arith}
 use borrow.Author.Needs.{needs}
 use Rattle.rules.specs.declared.Plan.{Plan}
-use Rattle.rules.specs.declared.Fault.the-variants.{StringCount, OutOfBounds}
-use Rattle.rules.specs.declared.Checked.{Checked}
-use Rattle.rules.specs.declared.Checked.the-variants.{Lawful, Refused}
-use Rattle.rules.specs.Refusal.{then, countCheck, numbersCheck}
+use Rattle.faults.specs.declared.Fault.the-variants.{StringCount, OutOfBounds}
+use Rattle.faults.specs.declared.Checked.{Checked}
+use Rattle.faults.specs.declared.Checked.the-variants.{Lawful, Refused}
+use Rattle.rules.specs.Refusal.{countCheck, numbersCheck}
+use Rattle.faults.specs.Checks.{then}
 use Prim.Native.Nat.{_≤_}
 use Rattle.laws.proofs.Lawful.{countCheck-good, countCheck-bad, numbersCheck-good, numbersCheck-bad}
 use Rattle.bounds.proofs.head_check.Statement.{statement}

@@ -4,8 +4,9 @@ use mathlib.Core.Path.{_≡_, refl, sym, ap, _∙_}
 use borrow.Author.Needs.{needs}
 use Rattle.rules.specs.declared.Plan.{Plan}
 use Rattle.rules.specs.Plan.{stringsOf}
-use Rattle.rules.specs.Refusal.{then, countCheck, numbersCheck, stringsCheck, multipleCheck, planCheck}
-use Rattle.laws.proofs.Lawful.{then-lawful, then-refused, then-assoc}
+use Rattle.rules.specs.Refusal.{countCheck, numbersCheck, stringsCheck, multipleCheck, planCheck}
+use Rattle.faults.specs.Checks.{then}
+use Rattle.faults.proofs.Checks.{then-lawful, then-refused, then-assoc}
 use Rattle.bounds.proofs.plan_check.Statement.{statement}
 use Rattle.bounds.proofs.plan_check.Tie as tie
 

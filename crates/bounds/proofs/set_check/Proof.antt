@@ -6,12 +6,14 @@ use native.Mathlib.Omega.{arith}
 use borrow.Author.Needs.{needs}
 use borrow.Author.Tests.{le-leb, lt-leb}
 use Rattle.rules.specs.declared.Plan.{Plan}
-use Rattle.rules.specs.declared.Fault.{Fault}
-use Rattle.rules.specs.declared.Fault.the-variants.{OutOfBounds}
-use Rattle.rules.specs.declared.Checked.the-variants.{Lawful, Refused}
+use Rattle.faults.specs.declared.Fault.{Fault}
+use Rattle.faults.specs.declared.Fault.the-variants.{OutOfBounds}
+use Rattle.faults.specs.declared.Checked.the-variants.{Lawful, Refused}
 use Rattle.rules.specs.Plan.{stringsOf}
-use Rattle.rules.specs.Refusal.{then, countCheck, numbersCheck, stringsCheck, multipleCheck, setCheck}
-use Rattle.laws.proofs.Lawful.{then-lawful, then-refused, then-assoc, then-first, then-second, countCheck-high}
+use Rattle.rules.specs.Refusal.{countCheck, numbersCheck, stringsCheck, multipleCheck, setCheck}
+use Rattle.faults.specs.Checks.{then}
+use Rattle.faults.proofs.Checks.{then-lawful, then-refused, then-assoc, then-first, then-second}
+use Rattle.laws.proofs.Lawful.{countCheck-high}
 use Rattle.laws.proofs.Powers.{shift-is-sets}
 use Rattle.bounds.proofs.set_check.Statement.{statement}
 use Rattle.bounds.proofs.set_check.Tie as tie

@@ -5,8 +5,8 @@ use mathlib.Core.Path.{_≡_, refl, sym, ap, _∙_}
 use native.Mathlib.Omega.{arith}
 use borrow.Author.Needs.{needs}
 use lib.ListN.{drop}
-use Rattle.rules.specs.declared.Checked.the-variants.{Lawful, Refused}
-use Rattle.rules.specs.declared.Fault.{Fault}
+use Rattle.faults.specs.declared.Checked.the-variants.{Lawful, Refused}
+use Rattle.faults.specs.declared.Fault.{Fault}
 use Rattle.rules.specs.Text.{linesOf, nIn, stringLinesCheck}
 use Rattle.reading.specs.Place.{lineAt, planBy, restReading}
 use Rattle.reading.proofs.Numbers.{n-is}

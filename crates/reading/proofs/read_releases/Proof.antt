@@ -7,7 +7,7 @@ use borrow.Author.Needs.{needs}
 use Rattle.rules.specs.declared.Plan.{Plan}
 use Rattle.rules.specs.declared.Releases.{Releases}
 use Rattle.rules.specs.declared.Reading.{Reading}
-use Rattle.rules.specs.declared.Checked.the-variants.{Lawful}
+use Rattle.faults.specs.declared.Checked.the-variants.{Lawful}
 use Rattle.rules.specs.Release.{releasesOf, firstUnlawful}
 use Rattle.rules.specs.Plan.{multipleOf}
 use Rattle.reading.specs.declared.Framed.{Framed}

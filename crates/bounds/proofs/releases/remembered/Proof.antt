@@ -6,7 +6,7 @@ use mathlib.Core.List.{List}
 use native.Mathlib.Omega.{arith}
 use borrow.Author.Needs.{needs}
 use lib.ListN.{getD}
-use Rattle.laws.proofs.Lawful.{inBounds-yes, inBounds-not}
+use Rattle.faults.proofs.Checks.{inBounds-yes, inBounds-not}
 use Rattle.bounds.specs.Seen.{rememberedOf}
 use Rattle.bounds.proofs.releases.remembered.Statement.{statement}
 use Rattle.bounds.proofs.releases.remembered.Tie as tie

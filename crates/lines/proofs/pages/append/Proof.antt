@@ -6,7 +6,7 @@ use mathlib.Core.List.{List, [], _++_, append-nil}
 use native.Mathlib.Omega.{arith}
 use lib.ListN.{length, getD, take, set, length-append}
 use lib.Seq.{take-length}
-use Rattle.rules.specs.Text.{filled}
+use Rattle.lists.specs.Count.{filled}
 use Rattle.lines.specs.declared.Page.{Page}
 use Rattle.lines.specs.Pages.{pageOf, textOf, Written}
 use Rattle.lines.proofs.Growing.{stored, bytes-are, len-is}

@@ -6,7 +6,7 @@ use mathlib.Core.List.{List}
 use native.Mathlib.Omega.{arith}
 use borrow.Author.Needs.{needs}
 use lib.ListN.{length, drop}
-use Rattle.rules.specs.declared.Checked.the-variants.{Lawful, Refused}
+use Rattle.faults.specs.declared.Checked.the-variants.{Lawful, Refused}
 use Rattle.rules.specs.Text.{linesOf, frameCheck}
 use Rattle.reading.specs.declared.Framed.{Framed}
 use Rattle.reading.specs.Place.{lineAt, framesFrom}

@@ -5,10 +5,10 @@ use mathlib.Core.Path.{_≡_, refl, sym, ap, _∙_}
 use native.Mathlib.Omega.{arith}
 use borrow.Author.Needs.{needs}
 use lib.ListN.{length, drop}
-use Rattle.rules.specs.declared.Checked.{Checked}
-use Rattle.rules.specs.declared.Checked.the-variants.{Lawful, Refused}
-use Rattle.rules.specs.declared.Fault.the-variants.{FrameWrong}
-use Rattle.rules.specs.declared.Fault.{Fault}
+use Rattle.faults.specs.declared.Checked.{Checked}
+use Rattle.faults.specs.declared.Checked.the-variants.{Lawful, Refused}
+use Rattle.faults.specs.declared.Fault.the-variants.{FrameWrong}
+use Rattle.faults.specs.declared.Fault.{Fault}
 use Rattle.rules.specs.Text.{linesOf, stringLineCheck, stringLinesCheck}
 use mathlib.Core.List.{List}
 use Rattle.reading.specs.Place.{lineAt, Frame}

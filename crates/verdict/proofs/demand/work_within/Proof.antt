@@ -5,7 +5,7 @@ use Prim.Native.Nat.{_+_, _-_, _*_, _≤_}
 use mathlib.Core.Path.{_≡_}
 use native.Mathlib.Omega.{arith}
 use lib.ListN.{drop, getD}
-use Rattle.rules.specs.Count.{sumOf}
+use Rattle.lists.specs.Count.{sumOf}
 use Rattle.rules.specs.Plan.{stringsOf, noString}
 use Rattle.laws.proofs.Lawful.{LawfulString}
 use Rattle.verdict.specs.Asked.{askedOf, askedBy}

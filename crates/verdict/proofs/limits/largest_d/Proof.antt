@@ -5,7 +5,7 @@ use mathlib.Core.Path.{_≡_}
 use native.Mathlib.Omega.{arith}
 use borrow.Author.Needs.{needs}
 use lib.ListN.{take, drop}
-use Rattle.rules.specs.Count.{largest}
+use Rattle.lists.specs.Count.{largest}
 use Rattle.rules.specs.Plan.{dMax}
 use Rattle.verdict.proofs.ByPlace.{largest-at, largest-end}
 use Rattle.verdict.proofs.limits.largest_d.Statement.{statement}

@@ -6,7 +6,7 @@ use native.Mathlib.Omega.{arith}
 use lib.ListN.{drop, getD}
 use Rattle.rules.specs.declared.BatteryString.{BatteryString}
 use Prim.Native.Nat.{ℕ}
-use Rattle.rules.specs.Count.{sumOf}
+use Rattle.lists.specs.Count.{sumOf}
 use Rattle.rules.specs.Plan.{stringsOf, noString, multipleOf}
 use Rattle.rules.specs.Demand.{holdOf, load}
 use Rattle.verdict.proofs.Blocking.{share-le}

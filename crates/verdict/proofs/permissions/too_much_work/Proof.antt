@@ -4,7 +4,7 @@ use Prim.Native.Nat.{_+_, _-_, _≤_}
 use mathlib.Core.Path.{_≡_, sym, ap, _∙_, subst}
 use native.Mathlib.Omega.{arith}
 use Rattle.rules.specs.Search.{withSet}
-use Rattle.laws.proofs.Lists.{true-not-false}
+use Rattle.lists.proofs.Lists.{true-not-false}
 use Rattle.horizon.proofs.Sets.{withSet-lawful}
 use Rattle.horizon.proofs.Alone.{work-alone-breaks}
 use Rattle.verdict.specs.Asked.{Ready, askedBy}

@@ -6,7 +6,7 @@ use mathlib.Core.List.{List, [], _∷_, _++_, append-assoc}
 use native.Mathlib.Omega.{arith}
 use lib.ListN.{length, set, replicate, length-append}
 use lib.Seq.{set-at}
-use Rattle.rules.specs.Text.{filled}
+use Rattle.lists.specs.Count.{filled}
 
 pub filled-set {ℓ} : {A : Type ℓ} (k : ℕ) (z v : A) (xs : List A) → length xs < k → set (filled k z xs) (length xs) v ≡ filled k z (xs ++ (v ∷ []))
 filled-set k z v xs h =

@@ -8,8 +8,8 @@ use mathlib.Core.List.{List, [], _∷_, _++_, map, flatMap}
 use native.Mathlib.Omega.{arith}
 use native.Mathlib.Decide.{ℕ-discrete}
 use native.Mathlib.Nat.{le-refl}
-use Rattle.rules.specs.Count.{sumOf, upFrom, keep}
-use Rattle.laws.proofs.Lists.{All, all-map, by-bool, true-not-false}
+use Rattle.lists.specs.Count.{sumOf, upFrom, keep}
+use Rattle.lists.proofs.Lists.{All, all-map, by-bool, true-not-false}
 
 -- ---- All
 

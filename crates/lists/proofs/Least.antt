@@ -6,8 +6,8 @@ use mathlib.Core.Bool.{Bool, true, false, cond}
 use native.Mathlib.Omega.{arith}
 use native.Mathlib.Decide.{ℕ-discrete}
 use native.Mathlib.Nat.{le-refl}
-use Rattle.rules.specs.Count.{leastFrom}
-use Rattle.laws.proofs.Lists.{by-bool, true-not-false}
+use Rattle.lists.specs.Count.{leastFrom}
+use Rattle.lists.proofs.Lists.{by-bool, true-not-false}
 
 module _ (f : ℕ → Bool) where
   pub leastFrom-here : (k n : ℕ) → f k ≡ true → leastFrom f k (suc n) ≡ k

@@ -7,7 +7,7 @@ use native.Mathlib.Omega.{arith}
 use native.Mathlib.Decide.{decLe, ℕ-discrete}
 use native.Mathlib.Nat.{le-refl, add-mul}
 use lib.ListN.{length, getD}
-use Rattle.rules.specs.Count.{sumOf}
+use Rattle.lists.specs.Count.{sumOf}
 
 unfoldable pub sumTo : ℕ → (ℕ → ℕ) → ℕ
 sumTo zero f = 0

@@ -13,7 +13,7 @@ use native.Mathlib.Decide.{decLe}
 use native.Mathlib.Nat.{not-suc-le-zero, le-of-suc-le-suc, le-refl}
 use lib.ListN.{length, getD, drop}
 use lib.Seq.{drop-cons}
-use Rattle.rules.specs.Count.{sumOf, largest, smallest, smallestWith, every, countOf}
+use Rattle.lists.specs.Count.{sumOf, largest, smallest, smallestWith, every, countOf}
 
 -- ---- Tests
 
