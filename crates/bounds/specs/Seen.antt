@@ -3,7 +3,6 @@
 --     lastOf i seen         one more than the day of the last release of place i; 0 where there is none
 --     rememberedOf last i   what the code's ten places hold for place i; 0 for a place that no plan has
 --     admits p latest last r     r may stand after releases with these two
--- Assumes nothing.
 use Prim.Native.Nat.{ℕ, _+_, _-_}
 use mathlib.Core.Bool.{Bool, true, not, cond, _&&_}
 use mathlib.Core.List.{List, [], _∷_}

@@ -4,16 +4,15 @@ mod periods;
 mod releases;
 mod strings;
 
-pub use periods::multiple;
-pub use releases::first_unlawful;
 use faults::Checked;
 use faults::Fault;
+pub use periods::multiple;
+pub use releases::first_unlawful;
 use rules::Plan;
 use rules::Releases;
 pub use strings::string_lawful;
 use strings::strings_check;
 ghost use mathlib.Core.Path.{_≡_};
-ghost use Prim.Native.Nat.{_≤_};
 ghost use Rattle.rules.specs.Plan.{stringsOf};
 ghost use Rattle.rules.specs.Refusal.{countCheck, numbersCheck, stringsCheck, multipleCheck, planCheck, setCheck, runCheck};
 ghost use Rattle.faults.specs.Checks.{then};

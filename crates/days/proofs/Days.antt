@@ -1,7 +1,6 @@
 -- Laws of day plus length and day minus day.
--- Assumes nothing.
 use mathlib.Core.Path.{_≡_}
-use Prim.Native.Nat.{ℕ, _+_, _-_, _^_, _≤_, _<_}
+use Prim.Native.Nat.{_+_, _-_, _^_, _≤_, _<_}
 use borrow.Author.Tests.{lt-ltb, le-ltb, le-leb, lt-leb}
 use Rattle.days.specs.declared.Day.{Day}
 use Rattle.days.specs.declared.Length.{Length}

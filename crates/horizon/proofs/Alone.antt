@@ -1,7 +1,6 @@
 -- The work alone decides "none": where the plan with no permissions breaks the rule with no blocking, or is overloaded, no set
 -- passes, since E ≥ C and with no blocking every string counts its jobs in all the days.
 --     workOf l s            the work that the jobs of s within l days bring, without moving
--- Assumes nothing.
 use Prim.Native.Nat.{ℕ, _-_, _*_, _≤_, _<_, zero-le}
 use mathlib.Core.Path.{_≡_, refl, ap, _∙_}
 use mathlib.Core.Bool.{true, false}

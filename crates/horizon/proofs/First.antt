@@ -1,7 +1,6 @@
 -- The first broken pair of a list, and what the pairs of a plan are: those within the limits, in order of l, then b.
 --     Within p q            q has an interval from 1 to Dmax + H − 1 and a blocking up to its limit
 --     Before q r            the pair q comes before r: a smaller interval, or the same and a smaller blocking
--- Assumes nothing.
 use Prim.Native.Nat.{ℕ, suc, _+_, _-_, _≤_, _<_, zero-le}
 use mathlib.Core.Path.{_≡_, refl, sym, _∙_}
 use mathlib.Core.Logic.{_⊎_, inl, inr}

@@ -1,6 +1,5 @@
 -- A plan with a permission set: T, C and D stay, so a lawful plan stays lawful, with the same H, Dmin and Dmax.
 --     permitted s x         the string s with permission x
--- Assumes nothing.
 use Prim.Native.Nat.{ℕ, zero, suc, _/_, _%_, _≤_}
 use mathlib.Core.Path.{_≡_, refl, ap, _∙_, fun-ext}
 use mathlib.Core.Bool.{Bool}

@@ -1,7 +1,6 @@
 -- The verdict's definition means what document 01 says: Pass exactly where the plan passes, with all pairs counted; and a Fail
 -- names the first pair, in order of l, then b, that breaks the rule.
 --     FirstBreak p l b      the rule breaks at (l, b), and at no smaller interval, nor at l with a smaller blocking
--- Assumes nothing.
 use Prim.Native.Nat.{ℕ, _+_, _-_, _≤_, _<_, zero-le}
 use mathlib.Core.Path.{_≡_, refl, sym, ap, _∙_}
 use mathlib.Core.Logic.{_⊎_, inl, inr, _↔_}

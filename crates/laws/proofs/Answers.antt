@@ -1,5 +1,4 @@
 -- The answers of the entries: the check decides, and a lawful plan gets the answer of the rules.
--- Assumes nothing.
 use Prim.Native.Nat.{ℕ, _^_}
 use mathlib.Core.Path.{_≡_, _∙_}
 use lib.Dec.{leb}

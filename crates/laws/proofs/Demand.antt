@@ -1,6 +1,5 @@
 -- Laws of E, of what a string asks, and of the blocking limit. Everything above cites these and not the definitions.
--- Assumes nothing.
-use Prim.Native.Nat.{ℕ, _+_, _-_, _*_, _≤_, _<_}
+use Prim.Native.Nat.{ℕ, _+_, _-_, _*_, _≤_}
 use mathlib.Core.Path.{_≡_, sym, ap, _∙_}
 use mathlib.Core.Bool.{_&&_}
 use native.Mathlib.Omega.{arith}

@@ -1,28 +1,23 @@
 -- What the checks of a plan give where they find no fault.
 --     LawfulString s        the bounds on a string
 --     LawfulPlan p          the bounds on a plan, and that H is a common multiple of all T, the least, and at most 100,000
--- Assumes nothing.
-use Prim.Native.Nat.{ℕ, zero, suc, _+_, _%_, _≤_, _<_, zero-le}
-use mathlib.Core.Path.{_≡_, refl, sym, ap, _∙_}
-use mathlib.Core.Bool.{Bool, true, false, not, cond, _&&_}
+use Prim.Native.Nat.{ℕ, suc, _%_, _≤_, _<_, zero-le}
+use mathlib.Core.Path.{_≡_}
+use mathlib.Core.Bool.{true, false, _&&_}
 use mathlib.Core.List.{List, [], _∷_}
 use native.Mathlib.Omega.{arith}
-use native.Mathlib.Nat.{le-refl}
-use borrow.Author.Tests.{leb-true, ltb-false, eqb-true, not-false, le-leb, lt-ltb, le-ltb}
-use lib.Dec.{leb, ltb, eqb}
+use borrow.Author.Tests.{ltb-false, eqb-true, not-false, lt-ltb, le-ltb}
+use lib.Dec.{eqb}
 use Rattle.rules.specs.declared.BatteryString.{BatteryString}
 use Rattle.rules.specs.declared.Plan.{Plan}
-use Rattle.faults.specs.declared.Fault.{Fault}
 use Rattle.faults.specs.declared.Fault.the-variants.{StringCount, OutOfBounds, MultipleOver}
-use Rattle.faults.specs.declared.Checked.{Checked}
 use Rattle.faults.specs.declared.Checked.the-variants.{Lawful, Refused}
-use Rattle.lists.specs.Count.{leastFrom}
 use Rattle.rules.specs.Plan.{stringsOf, stringLawful, commonMultiple, multipleOf}
-use Rattle.faults.specs.Checks.{inBounds, then, refuseIf}
+use Rattle.faults.specs.Checks.{inBounds, then}
 use Rattle.faults.proofs.Checks.{refused-not-lawful, then-first, then-second, refuseIf-not}
 use Rattle.faults.proofs.Checks.{inBounds-low, inBounds-high, inBounds-yes, inBounds-not}
 use Rattle.rules.specs.Refusal.{countCheck, numbersCheck, stringsCheck, multipleCheck, planCheck}
-use Rattle.lists.proofs.Lists.{All, all-map, every-all, by-bool, true-not-false, and-left, and-right, and-both}
+use Rattle.lists.proofs.Lists.{All, all-map, every-all, by-bool, and-left, and-right}
 use Rattle.lists.proofs.Least.{leastFrom-low, leastFrom-passes, leastFrom-before, leastFrom-unique, leastFrom-none}
 
 -- ---- n, A and N

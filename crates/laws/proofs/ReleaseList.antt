@@ -1,7 +1,6 @@
 -- What a lawful release list gives: each release is within the bounds, and two of one place are at least T days apart.
 --     str p j               the string with index j: the string of place j + 1
 --     Released rs j t       a release of the list is of the place with index j and of day t
--- Assumes nothing.
 use Prim.Native.Nat.{ℕ, zero, suc, _+_, _-_, _≤_, _<_}
 use mathlib.Core.Path.{_≡_, sym, ap, _∙_}
 use mathlib.Core.Bool.{true, false, not, _&&_}

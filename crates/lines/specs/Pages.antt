@@ -2,7 +2,6 @@
 --     pageOf text           the page that holds a text
 --     textOf page           the text that a page holds
 --     Written page          the page holds its text and nothing else
--- Assumes nothing.
 use Prim.Native.Nat.{ℕ}
 use mathlib.Core.Path.{_≡_}
 use mathlib.Core.List.{List}

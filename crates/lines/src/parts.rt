@@ -5,15 +5,14 @@ use super::pages::append_count;
 use super::pages::append_place;
 use days::Day;
 use days::Length;
-use rules::Assign;
 use faults::Fault;
 use faults::fault_number;
+use rules::Assign;
 use rules::Outcome;
 use rules::Verdict;
 ghost use mathlib.Core.Path.{_≡_};
 ghost use mathlib.Core.List.{_++_};
 ghost use Prim.Native.Nat.{_+_, _≤_};
-ghost use Rattle.faults.specs.Checks.{faultNumber};
 ghost use Rattle.rules.specs.Lines.{refusedLine, verdictLine, assignLine, outcomeLine};
 ghost use Rattle.lines.specs.Pages.{pageOf, textOf, Written};
 

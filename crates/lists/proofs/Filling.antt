@@ -1,5 +1,4 @@
 -- Arrays filled from the front: what is stored so far, and the filler behind it.
--- Assumes nothing.
 use Prim.Native.Nat.{ℕ, suc, _-_, _<_}
 use mathlib.Core.Path.{_≡_, refl, sym, _∙_}
 use mathlib.Core.List.{List, [], _∷_, _++_, append-assoc}

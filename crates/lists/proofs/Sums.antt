@@ -1,5 +1,4 @@
 -- Sums over the places 0 to n − 1 of a function of the place: what the account of a run needs of them.
--- Assumes nothing.
 use Prim.Native.Nat.{ℕ, zero, suc, _+_, _*_, _≤_, _<_}
 use mathlib.Core.Path.{_≡_, refl}
 use mathlib.Core.List.{List, [], _∷_}

@@ -8,9 +8,9 @@
 --     upFrom k n            the n numbers k, k + 1, ..
 --     filled k z xs         xs, and z to fill k places
 --     leastFrom f k n       the least of the n numbers from k on that passes f, or k + n where none does
--- In a recursion both ways are bound before `cond` chooses, so that only the chosen one is computed. Assumes nothing.
+-- In a recursion both ways are bound before `cond` chooses, so that only the chosen one is computed.
 use Prim.Native.Nat.{ℕ, zero, suc, _+_, _-_, min, max}
-use mathlib.Core.Bool.{Bool, true, false, cond, _&&_}
+use mathlib.Core.Bool.{Bool, true, false, cond}
 use mathlib.Core.List.{List, [], _∷_, _++_}
 use lib.ListN.{length, replicate}
 

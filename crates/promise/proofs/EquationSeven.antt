@@ -1,14 +1,13 @@
 -- With the source's equation 7 as printed, demand 3 is false: P5 passes under it at every interval, and P6, a lawful list for the same plan, misses.
 -- So the theorem could not be proved with C in the blocking limit.
--- Assumes nothing.
-use Prim.Native.Nat.{ℕ, zero, suc, _+_, _-_, _≤_, _<_}
-use mathlib.Core.Path.{_≡_, refl, sym, ap, _∙_}
-use mathlib.Core.Bool.{Bool, true, false, _&&_}
+use Prim.Native.Nat.{ℕ, suc, _+_, _-_, _≤_}
+use mathlib.Core.Path.{_≡_, refl, ap}
+use mathlib.Core.Bool.{Bool, true, false}
 use mathlib.Core.List.{List, [], _∷_}
 use native.Mathlib.Omega.{arith}
 use borrow.Author.Tests.{le-ltb, leb-true}
-use lib.Dec.{leb, ltb}
-use lib.ListN.{length, getD}
+use lib.Dec.{leb}
+use lib.ListN.{getD}
 use Rattle.days.specs.Days.{day}
 use Rattle.rules.specs.declared.Plan.{Plan}
 use Rattle.rules.specs.declared.Release.{Release}
@@ -18,11 +17,10 @@ use Rattle.lists.specs.Count.{sumOf, largest, smallest, smallestWith, every, up
 use Rattle.rules.specs.Plan.{stringLawful, commonMultiple, multipleOf, dMin, dMax}
 use Rattle.rules.specs.Demand.{movingCost, holdOf, jobs, need, demand, load, overloaded}
 use Rattle.rules.specs.Search.{permit, withSet}
-use Rattle.rules.specs.Release.{tooClose, outOfOrder, releaseLawful, unlawfulFrom, firstUnlawful}
-use Rattle.rules.specs.Refusal.{countCheck, numbersCheck, stringsCheck, multipleCheck, planCheck, releasesCheck, runCheck, runAnswer}
+use Rattle.rules.specs.Refusal.{countCheck, numbersCheck, stringsCheck, multipleCheck, planCheck, runAnswer}
 use Rattle.rules.proofs.Worked.{string, plan, release, releases, five, row, table, answered, worked}
 use Rattle.rules.proofs.Worked as page
-use Rattle.lists.proofs.Lists.{All, by-bool, every-all}
+use Rattle.lists.proofs.Lists.{by-bool, every-all}
 use Rattle.laws.proofs.Lawful.{planCheck-lawful}
 use Rattle.lists.proofs.Order.{upFrom-all}
 use Rattle.horizon.proofs.Range.{range-suffices-for}

@@ -1,9 +1,8 @@
 -- Demand 3 over the answers: what said pass cannot say miss, by numbers and for a file, and each job has had its days.
 -- The code's answers equal these definitions by their contracts, so this speaks of the code.
--- Assumes nothing.
 use Prim.Native.Nat.{ℕ, _+_, _-_, _≤_}
 use mathlib.Core.Path.{_≡_, refl, sym, ap, _∙_}
-use mathlib.Core.Bool.{Bool, true, false, cond}
+use mathlib.Core.Bool.{cond}
 use mathlib.Core.List.{List}
 use native.Mathlib.Omega.{arith}
 use lib.ListN.{length, getD}
@@ -11,9 +10,7 @@ use Rattle.days.specs.declared.Day.{Day}
 use Rattle.days.specs.declared.Length.{Length}
 use Rattle.faults.specs.declared.Fault.{Fault}
 use Rattle.rules.specs.declared.Plan.{Plan}
-use Rattle.rules.specs.declared.Release.{Release}
 use Rattle.rules.specs.declared.Releases.{Releases}
-use Rattle.rules.specs.declared.Reading.{Reading}
 use Rattle.faults.specs.declared.Checked.{Checked}
 use Rattle.faults.specs.declared.Checked.the-variants as checked
 use Rattle.rules.specs.declared.Verdict.{Verdict}
@@ -21,7 +18,6 @@ use Rattle.rules.specs.declared.Verdict.the-variants as verdict
 use Rattle.rules.specs.declared.Assign.{Assign}
 use Rattle.rules.specs.declared.Outcome.{Outcome}
 use Rattle.rules.specs.declared.Outcome.the-variants as outcome
-use Rattle.rules.specs.declared.Answer.{Answer}
 use Rattle.rules.specs.declared.Answer.the-variants as answer
 use Rattle.rules.specs.Plan.{stringAt}
 use Rattle.rules.specs.Demand.{Passes, movingCost}
@@ -32,10 +28,10 @@ use Rattle.rules.specs.Run.{history, daysOf, isWork, isMove, isIdle}
 use Rattle.rules.specs.Refusal.{onVerdict, planCheck, runCheck, verdictAnswer, searchAnswer, runAnswer}
 use Rattle.rules.specs.Text.{readingOf}
 use Rattle.rules.specs.Answer.{answered, answerOf}
-use Rattle.laws.proofs.Lawful.{LawfulPlan, planCheck-lawful}
+use Rattle.laws.proofs.Lawful.{planCheck-lawful}
 use Rattle.laws.proofs.Answers.{run-refused}
-use Rattle.laws.proofs.Releases.{LawfulRun, runCheck-lawful}
-use Rattle.horizon.proofs.Verdict.{pass-passes, passes-pass}
+use Rattle.laws.proofs.Releases.{runCheck-lawful}
+use Rattle.horizon.proofs.Verdict.{pass-passes}
 use Rattle.sound.specs.Served.{worksFor, movesFor, paid}
 use Rattle.sound.proofs.Answers.{never-misses}
 use Rattle.sound.proofs.Served.{served}

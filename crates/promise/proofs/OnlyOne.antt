@@ -1,25 +1,16 @@
 -- Every public function allows one result: two results that meet its contract are equal. A contract says `r ≡ definition arguments`, so one law
 -- serves for all; the list names each function beside its definition. No public function is lent memory that it can write.
--- Assumes nothing.
 use Prim.Native.Nat.{ℕ}
 use mathlib.Core.Path.{_≡_, sym, _∙_}
-use mathlib.Core.Bool.{Bool}
 use mathlib.Core.List.{List}
 use lib.Dec.{ltb}
 use Rattle.days.specs.declared.Day.{Day}
 use Rattle.days.specs.declared.Length.{Length}
-use Rattle.days.specs.declared.Later.{Later}
-use Rattle.days.specs.declared.Gap.{Gap}
 use Rattle.days.specs.Days.{laterOf, gapOf}
 use Rattle.rules.specs.declared.BatteryString.{BatteryString}
 use Rattle.rules.specs.declared.Plan.{Plan}
 use Rattle.rules.specs.declared.Releases.{Releases}
 use Rattle.faults.specs.declared.Fault.{Fault}
-use Rattle.faults.specs.declared.Checked.{Checked}
-use Rattle.rules.specs.declared.Reading.{Reading}
-use Rattle.rules.specs.declared.Verdict.{Verdict}
-use Rattle.rules.specs.declared.Assign.{Assign}
-use Rattle.rules.specs.declared.Outcome.{Outcome}
 use Rattle.rules.specs.declared.Answer.{Answer}
 use Rattle.rules.specs.Plan.{stringLawful, multipleOf}
 use Rattle.rules.specs.Release.{releasesOf, firstUnlawful}

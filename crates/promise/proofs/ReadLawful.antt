@@ -1,32 +1,26 @@
 -- A text that is read is lawful by numbers too: its plan and its releases pass the checks of the entries that take numbers.
 -- So none of the three answers for it is a refusal.
--- Assumes nothing.
-use Prim.Native.Nat.{ℕ, zero, suc, _+_, _-_, _≤_, _<_}
-use mathlib.Core.Path.{_≡_, refl, sym, ap, ap₂, _∙_}
-use mathlib.Core.Bool.{Bool, true, false, not, cond, _&&_}
-use mathlib.Core.List.{List, [], _∷_, _++_, map}
+use Prim.Native.Nat.{ℕ, zero, suc, _+_, _-_, _≤_}
+use mathlib.Core.Path.{_≡_, refl, ap, _∙_}
+use mathlib.Core.Bool.{true, not, _&&_}
+use mathlib.Core.List.{List, [], _∷_, map}
 use native.Mathlib.Omega.{arith}
-use borrow.Author.Tests.{le-ltb, ltb-false, not-false}
+use borrow.Author.Tests.{ltb-false, not-false}
 use lib.Dec.{ltb, eqb}
 use lib.ListN.{length, take, drop, length-map}
 use lib.Seq.{take-at}
-use Rattle.rules.specs.declared.BatteryString.{BatteryString}
 use Rattle.rules.specs.declared.Plan.{Plan}
 use Rattle.rules.specs.declared.Release.{Release}
-use Rattle.rules.specs.declared.Releases.{Releases}
-use Rattle.rules.specs.declared.Reading.{Reading}
-use Rattle.faults.specs.declared.Fault.{Fault}
-use Rattle.faults.specs.declared.Fault.the-variants.{TextTooLong, LineMalformed, FrameWrong, StringCount, OutOfBounds, MultipleOver, ReleaseTooMany, ReleaseUnlawful}
+use Rattle.faults.specs.declared.Fault.the-variants.{TextTooLong, FrameWrong, StringCount, OutOfBounds, MultipleOver, ReleaseTooMany, ReleaseUnlawful}
 use Rattle.faults.specs.declared.Checked.{Checked}
 use Rattle.faults.specs.declared.Checked.the-variants.{Lawful, Refused}
-use Rattle.rules.specs.Plan.{stringsOf, stringLawful, multipleOf, noString}
+use Rattle.rules.specs.Plan.{stringsOf, stringLawful, multipleOf}
 use Rattle.faults.specs.Checks.{inBounds, then, refuseIf}
 use Rattle.faults.proofs.Checks.{refused-not-lawful, then-first, then-second, then-lawful, refuseIf-not, inBounds-low, inBounds-high}
-use Rattle.rules.specs.Release.{releasesOf, releaseLawful, unlawfulFrom, firstUnlawful, noRelease}
-use Rattle.rules.specs.Refusal.{countCheck, numbersCheck, stringsCheck, multipleCheck, planCheck, releasesCheck, runCheck}
-use Rattle.lists.specs.Count.{filled}
+use Rattle.rules.specs.Release.{releasesOf, releaseLawful, unlawfulFrom, firstUnlawful}
+use Rattle.rules.specs.Refusal.{countCheck, numbersCheck, stringsCheck, planCheck, runCheck}
 use Rattle.rules.specs.Text.{Line, linesOf, frameOf, fieldAt, nIn, aIn, runIn, stringOf, releaseOf, planIn, releasesIn, frameCheck, headerCheck, stringLineCheck, stringLinesCheck, releaseLineCheck, releaseLinesCheck, bodyCheck, linesCheck, textCheck, lawfulReading, readingOf}
-use Rattle.lists.proofs.Lists.{by-bool, and-left, and-right, true-not-false}
+use Rattle.lists.proofs.Lists.{and-left, and-right}
 use Rattle.laws.proofs.Lawful.{countCheck-good, numbersCheck-good, multipleCheck-good}
 use Rattle.laws.proofs.Releases.{releasesCheck-good}
 

@@ -1,9 +1,8 @@
 -- The wrong programs of document 01, "What the promises have to say": no program with such answers meets the contracts.
 -- Each falls to a row of the worked table. A program is a function of its input; `meets` says that its contract holds for every input.
--- Assumes nothing.
-use Prim.Native.Nat.{ℕ, _+_, _-_}
-use mathlib.Core.Path.{_≡_, refl, sym, ap, _∙_}
-use mathlib.Core.List.{List, [], _∷_, map}
+use Prim.Native.Nat.{ℕ, _-_}
+use mathlib.Core.Path.{_≡_, sym, ap, _∙_}
+use mathlib.Core.List.{[], _∷_, map}
 use native.Mathlib.Omega.{arith}
 use lib.ListN.{getD}
 use Rattle.days.specs.Days.{days}
@@ -18,7 +17,7 @@ use Rattle.rules.specs.declared.Outcome.{Outcome}
 use Rattle.rules.specs.declared.Outcome.the-variants as outcome
 use Rattle.rules.specs.Search.{withSet}
 use Rattle.rules.specs.Refusal.{setAnswer, searchAnswer, runAnswer}
-use Rattle.rules.proofs.Worked.{Answer, Row, answered, table, row, fails, clean, release, releases, two, eight, level, worked}
+use Rattle.rules.proofs.Worked.{Answer, answered, table, row, fails, clean, release, releases, two, eight, level, worked}
 use Rattle.rules.proofs.Worked as worked-rows
 
 -- the i-th row of the table, as the page says it

@@ -4,7 +4,6 @@
 --     the search gives a set exactly if the plan passes with it, with no set of fewer ones, and with no smaller one of as many ones
 --     it gives none exactly if the plan passes with none of the 2^n sets
 --     BestSet p m           m is such a set
--- Assumes nothing.
 use Prim.Native.Nat.{ℕ, _^_, _≤_, _<_}
 use mathlib.Core.Path.{_≡_, sym, ap, _∙_}
 use mathlib.Core.Logic.{_↔_}
@@ -15,9 +14,7 @@ use Rattle.days.specs.declared.Length.{Length}
 use Rattle.days.specs.Days.{days}
 use Rattle.rules.specs.declared.Plan.{Plan}
 use Rattle.faults.specs.declared.Checked.the-variants.{Lawful}
-use Rattle.rules.specs.declared.Verdict.{Verdict}
 use Rattle.rules.specs.declared.Verdict.the-variants.{Overload, Fail, Pass}
-use Rattle.rules.specs.declared.Assign.{Assign}
 use Rattle.rules.specs.declared.Assign.the-variants.{Takers, Nobody}
 use Rattle.rules.specs.Demand.{Passes, demand, overloaded}
 use Rattle.rules.specs.Verdict.{allPairs, compared, isPass}

@@ -1,8 +1,7 @@
 -- The string lines by places of the text, one after the other, and what they give where none is refused.
--- Assumes nothing.
 use Prim.Native.Nat.{ℕ, zero, suc, _+_, _-_, _*_, _≤_, _<_}
-use mathlib.Core.Path.{_≡_, refl, sym, ap, ap₂, _∙_}
-use mathlib.Core.Bool.{Bool, true, false, cond}
+use mathlib.Core.Path.{_≡_, refl, sym, ap, _∙_}
+use mathlib.Core.Bool.{true, false}
 use mathlib.Core.List.{List, [], _∷_, map}
 use native.Mathlib.Omega.{arith}
 use native.Mathlib.Decide.{decLe}
@@ -16,7 +15,7 @@ use Rattle.faults.specs.declared.Checked.the-variants.{Lawful, Refused}
 use Rattle.rules.specs.Plan.{stringLawful}
 use Rattle.rules.specs.Text.{Line, before, linesOf, stringOf, frameCheck, stringLineCheck, stringLinesCheck}
 use Rattle.lists.proofs.Lists.{by-bool}
-use Rattle.faults.proofs.Checks.{then-lawful, then-refused, then-first, then-second, refused-not-lawful}
+use Rattle.faults.proofs.Checks.{then-lawful, then-refused, then-first, refused-not-lawful}
 use Rattle.reading.specs.Place.{headLine, lineAt, Frame, stringsBy}
 use Rattle.reading.proofs.Framing.{frameCheck-frame, frame-next}
 

@@ -10,10 +10,9 @@
 --     framesFrom k j lines  release lines from number k on, after j releases: how many are frames, and the fault that ends them, if one does
 --     refusedReading f at   what a refusal gives
 --     restReading text p, bodyReading text    what reading gives once the strings, once the header have been read
--- Assumes nothing.
 use Prim.Native.Nat.{ℕ, zero, suc, _+_, _*_, _<_}
 use mathlib.Core.Path.{_≡_}
-use mathlib.Core.Bool.{Bool, false, not, cond, _&&_}
+use mathlib.Core.Bool.{false, not, cond, _&&_}
 use mathlib.Core.List.{List, [], _∷_}
 use lib.Dec.{ltb, eqb}
 use lib.ListN.{length, getD, drop}

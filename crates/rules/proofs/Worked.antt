@@ -1,7 +1,6 @@
 -- Document 01's worked plans, P1 to P10, its sample file, and two runs on which planners go wrong: one table, one statement.
 -- Each row is a question and the answer that the page gives. `worked` has antt compute every answer from the definitions.
--- Assumes nothing.
-use Prim.Native.Nat.{ℕ, zero, suc, _+_, _*_, _/_, _%_, _-_}
+use Prim.Native.Nat.{ℕ, zero, suc, _+_, _/_, _%_, _-_}
 use mathlib.Core.Path.{_≡_, refl}
 use mathlib.Core.Bool.{cond}
 use mathlib.Core.List.{List, [], _∷_, _++_, map, flatMap}
@@ -13,9 +12,6 @@ use Rattle.rules.specs.declared.BatteryString.{BatteryString}
 use Rattle.rules.specs.declared.Plan.{Plan}
 use Rattle.rules.specs.declared.Release.{Release}
 use Rattle.rules.specs.declared.Releases.{Releases}
-use Rattle.faults.specs.declared.Fault.the-variants.{OutOfBounds}
-use Rattle.faults.specs.declared.Checked.{Checked}
-use Rattle.faults.specs.declared.Checked.the-variants as checked
 use Rattle.rules.specs.declared.Verdict.{Verdict}
 use Rattle.rules.specs.declared.Verdict.the-variants.{Overload, Fail, Pass}
 use Rattle.rules.specs.declared.Assign.{Assign}
@@ -34,7 +30,7 @@ use Rattle.rules.specs.Answer.{answerOf}
 use Rattle.rules.specs.Answer as answers
 use Rattle.rules.specs.Lines.{bytesOf, decimalIn, decimal, refusedLine, verdictLine, assignLine, outcomeLine, linesFor}
 use Rattle.lists.specs.Count.{filled}
-use Rattle.rules.specs.Text.{Line, before, linesOf, digitOf, wellFormed, pairsOf, frameOf, numberFrom, fieldAt, nIn, aIn, runIn, stringOf, releaseOf, planIn, releasesIn, frameCheck, headerCheck, stringLineCheck, stringLinesCheck, releaseLineCheck, releaseLinesCheck, bodyCheck, linesCheck, textCheck, lawfulReading, readingOf}
+use Rattle.rules.specs.Text.{before, linesOf, digitOf, wellFormed, pairsOf, frameOf, numberFrom, fieldAt, nIn, aIn, runIn, stringOf, releaseOf, planIn, releasesIn, frameCheck, headerCheck, stringLineCheck, stringLinesCheck, releaseLineCheck, releaseLinesCheck, bodyCheck, linesCheck, textCheck, lawfulReading, readingOf}
 
 -- ---- Writing plans and texts down
 

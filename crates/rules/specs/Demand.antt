@@ -8,7 +8,6 @@
 --     Passes p              demand ≤ l for every whole l ≥ 1 and every b ≤ B: no upper end
 --     load p                the sum over strings of E × H / T
 --     overloaded p          the load exceeds H
--- Assumes nothing.
 use Prim.Native.Nat.{ℕ, _+_, _-_, _*_, _/_, _≤_, min}
 use mathlib.Core.Bool.{Bool, cond, _&&_}
 use lib.Dec.{leb, ltb, eqb}

@@ -6,9 +6,8 @@
 --     outcomeLine o         run miss day t place i | run clean work w move m idle i
 --     refusedLine f at      refused number line at
 --     linesFor a            all that is written for an answer
--- Assumes nothing.
 use Prim.Native.Nat.{ℕ, zero, suc, _+_, _/_, _%_}
-use Prim.Native.Char.{Char, code}
+use Prim.Native.Char.{code}
 use Prim.Native.String.{String}
 use Prim.Native.String as text
 use mathlib.Core.Bool.{cond}

@@ -5,11 +5,10 @@
 --     multipleOf p          H, the least common multiple of all T; 100,001 stands for any H over 100,000
 --     dMin p, dMax p        the smallest and the largest D
 --     stringLawful s        T 1 to 1,000; D 1 to T; C 1 to D; X 0 or 1
--- Assumes nothing.
-use Prim.Native.Nat.{ℕ, _+_, _-_, _%_}
+use Prim.Native.Nat.{ℕ, _-_, _%_}
 use mathlib.Core.Bool.{Bool, _&&_}
 use mathlib.Core.List.{List}
-use lib.Dec.{leb, eqb}
+use lib.Dec.{eqb}
 use lib.ListN.{take, getD}
 use Rattle.days.specs.Days.{days}
 use Rattle.faults.specs.Checks.{inBounds}

@@ -4,16 +4,14 @@
 --     setCheck p m          the same with a permission set: 5 with 0 for 2^n or more, straight after A and N
 --     runCheck p rs         planCheck, then 7 (with 1,001), then 8 with the place in the list
 --     verdictAnswer p, setAnswer p m, searchAnswer p, runAnswer p rs    the answers of the entries
--- Assumes nothing.
 use Prim.Native.Nat.{ℕ, suc, _^_}
-use mathlib.Core.Bool.{Bool, true, false, not, cond, _&&_}
+use mathlib.Core.Bool.{not, cond, _&&_}
 use mathlib.Core.List.{List, [], _∷_}
-use lib.Dec.{ltb, leb, eqb}
+use lib.Dec.{ltb, leb}
 use Rattle.rules.specs.declared.BatteryString.{BatteryString}
 use Rattle.rules.specs.declared.Plan.{Plan}
 use Rattle.rules.specs.declared.Releases.{Releases}
-use Rattle.faults.specs.declared.Fault.{Fault}
-use Rattle.faults.specs.declared.Fault.the-variants.{TextTooLong, LineMalformed, FrameWrong, StringCount, OutOfBounds, MultipleOver, ReleaseTooMany, ReleaseUnlawful}
+use Rattle.faults.specs.declared.Fault.the-variants.{StringCount, OutOfBounds, MultipleOver, ReleaseTooMany, ReleaseUnlawful}
 use Rattle.faults.specs.declared.Checked.{Checked}
 use Rattle.faults.specs.declared.Checked.the-variants as checked
 use Rattle.rules.specs.declared.Verdict.{Verdict}

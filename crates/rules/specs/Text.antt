@@ -9,11 +9,10 @@
 --     planIn lines, releasesIn lines    the plan and the releases that lines write, where they are lawful
 --     textCheck text        the first fault, with its line; the order of faults is document 01's
 --     readingOf text        what reading a text gives: on a refusal an empty plan and no releases
--- Assumes nothing.
 use Prim.Native.Nat.{ℕ, zero, suc, _+_, _-_, _*_, _%_}
 use mathlib.Core.Bool.{Bool, true, false, not, cond, _&&_}
-use mathlib.Core.List.{List, [], _∷_, _++_, map}
-use lib.Dec.{ltb, leb, eqb}
+use mathlib.Core.List.{List, [], _∷_, map}
+use lib.Dec.{ltb, eqb}
 use lib.ListN.{length, take, drop, replicate}
 use Rattle.days.specs.Days.{day, days}
 use Rattle.rules.specs.declared.BatteryString.{BatteryString}

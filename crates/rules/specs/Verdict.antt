@@ -5,7 +5,6 @@
 --     firstBroken p qs      the first of qs that is broken
 --     compared p qs         qs up to and including the first broken one, all of them where none is
 --     verdictOf p           the verdict on a lawful plan
--- Assumes nothing.
 use Prim.Native.Nat.{ℕ, suc, _+_, _-_}
 use mathlib.Core.Bool.{Bool, true, false, cond}
 use mathlib.Core.List.{List, [], _∷_, map, flatMap}

@@ -1,5 +1,4 @@
 -- Laws of `chosen`: what the next place makes of the choice so far, and that only the places looked at matter.
--- Assumes nothing.
 use Prim.Native.Nat.{ℕ, zero, suc, _-_, _≤_}
 use mathlib.Core.Path.{_≡_, refl, _∙_}
 use mathlib.Core.Bool.{Bool, true, false}

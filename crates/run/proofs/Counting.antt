@@ -1,5 +1,4 @@
 -- The tally of a run's days: a day more adds to the kind of that day, and no kind has more days than have passed.
--- Assumes nothing.
 use Prim.Native.Nat.{ℕ, zero, suc, _+_, _≤_}
 use mathlib.Core.Path.{_≡_, refl, _∙_}
 use mathlib.Core.Bool.{Bool, cond}

@@ -1,5 +1,4 @@
 -- How a run ends: at the first day on which step 1 finds a job, or clean where it finds none.
--- Assumes nothing.
 use Prim.Native.Nat.{ℕ, suc, _≤_, _<_}
 use mathlib.Core.Path.{_≡_}
 use mathlib.Core.List.{List}

@@ -1,5 +1,4 @@
 -- What each step does to the moving that is left: only the payer's grows, by one moving cost a day.
--- Assumes nothing.
 use Prim.Native.Nat.{ℕ, _+_, _-_, _≤_}
 use mathlib.Core.Path.{_≡_, refl, sym, ap, _∙_}
 use mathlib.Core.List.{List}

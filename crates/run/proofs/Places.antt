@@ -1,6 +1,5 @@
 -- Laws of slots by place: the first n slots of an array under a read and under a change at one of their places, and what
 -- holds of every job after a change.
--- Assumes nothing.
 use Prim.Native.Nat.{ℕ, zero, suc, _-_, _≤_}
 use mathlib.Core.Path.{_≡_, refl, ap}
 use mathlib.Core.List.{List, [], _∷_, map}

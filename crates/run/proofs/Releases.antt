@@ -1,5 +1,4 @@
 -- A lawful release may join: its string is one of the plan's, so its deadline is a day of the code.
--- Assumes nothing.
 use Prim.Native.Nat.{_-_, _<_}
 use mathlib.Core.Path.{_≡_}
 use native.Mathlib.Omega.{arith}

@@ -2,7 +2,6 @@
 -- slot with a job was released on an earlier day. So a day without a release has no taker, and step 3 changes nothing.
 --     withOwn s j           the slot s with the job j
 --     Old t s               s has no job, or was released before day t
--- Assumes nothing.
 use Prim.Native.Nat.{ℕ, zero, suc, _-_, _*_, _≤_, _<_}
 use mathlib.Core.Path.{_≡_, refl, ap, _∙_}
 use mathlib.Core.Logic.{_⊎_, inl, inr}

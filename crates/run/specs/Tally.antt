@@ -2,7 +2,6 @@
 --     addedTo tally u       the tally with a day more, on which the bank did u
 --     tallyOf p rs k        the tally of the days 0 to k − 1
 --     Under k tally         no kind has more than k days, so that a day more fits
--- Assumes nothing.
 use Prim.Native.Nat.{ℕ, _+_, _≤_}
 use mathlib.Core.List.{List}
 use Rattle.days.specs.Days.{days}

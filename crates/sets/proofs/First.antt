@@ -1,6 +1,5 @@
 -- The first passing set of a list, and what the search's list is: every set below 2^n, fewer ones first, then the smaller number.
 --     Sooner m k            the set m comes before k: fewer ones, or as many and a smaller number
--- Assumes nothing.
 use Prim.Native.Nat.{ℕ, suc, _^_, _<_, zero-le}
 use mathlib.Core.Path.{_≡_, refl, sym, _∙_}
 use mathlib.Core.Logic.{_⊎_, inl, inr}

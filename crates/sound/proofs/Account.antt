@@ -5,7 +5,6 @@
 --     asks t d s            1 if a near job came to the slot s on day t, else 0
 --     Span ..               the last of k near releases of a place since the start is T days after the one before, and so on
 --     Blocker ..            some string's job, not near, can have blocked for b days
--- Assumes nothing.
 use Prim.Native.Nat.{ℕ, suc, _+_, _*_, _≤_, _<_}
 use mathlib.Core.Path.{_≡_, refl, sym, ap, _∙_, subst}
 use mathlib.Core.Logic.{_⊎_, inl, inr}

@@ -1,5 +1,4 @@
 -- Demand 3 in the words of the answers: the answer of the run, for a plan that passes and releases that are lawful, is clean.
--- Assumes nothing.
 use mathlib.Core.Path.{_≡_, _∙_}
 use Rattle.rules.specs.declared.Plan.{Plan}
 use Rattle.rules.specs.declared.Releases.{Releases}

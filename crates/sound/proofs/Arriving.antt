@@ -1,5 +1,4 @@
 -- Steps 2 and 3 keep the slots orderly, where nobody is late: a release joins an empty slot, since D ≤ T, and who pays came today.
--- Assumes nothing.
 use Prim.Native.Nat.{ℕ, suc, _+_, _≤_, _<_}
 use mathlib.Core.Path.{_≡_, refl, sym, ap, _∙_}
 use mathlib.Core.Logic.{inl, inr}

@@ -1,5 +1,4 @@
 -- What a morning adds to the account, by place: near jobs that came today, at most E each; the rest is as it was.
--- Assumes nothing.
 use Prim.Native.Nat.{ℕ, suc, _+_, _*_, _≤_, _<_}
 use mathlib.Core.Path.{_≡_, sym, ap, _∙_}
 use mathlib.Core.Logic.{inl, inr}

@@ -1,6 +1,5 @@
 -- What `chosen` gives: nobody, and then nobody passes; or a place that passes and that nobody who passes is ahead of.
 --     at ss j               the slot with index j: the slot of place j + 1
--- Assumes nothing.
 use Prim.Native.Nat.{ℕ, zero, suc, _-_, _<_}
 use mathlib.Core.Path.{_≡_, refl, sym, ap, _∙_, subst}
 use mathlib.Core.Logic.{_⊎_, inl, inr}

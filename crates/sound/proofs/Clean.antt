@@ -1,5 +1,4 @@
 -- A plan that passes never misses a deadline: on no day of the run is anybody late, and the run ends clean.
--- Assumes nothing.
 use Prim.Native.Nat.{ℕ, zero, suc, _≤_, _<_}
 use mathlib.Core.Path.{_≡_, ap, subst}
 use mathlib.Core.Logic.{inl}

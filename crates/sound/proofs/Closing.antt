@@ -1,5 +1,4 @@
 -- The account closes: on day d it is the demand rule at the interval since its start, so nothing due by d is left.
--- Assumes nothing.
 use Prim.Native.Nat.{ℕ, suc, _+_, _-_, _*_, _≤_, _<_, min}
 use mathlib.Core.Path.{_≡_, sym, ap, _∙_}
 use mathlib.Core.Logic.{_⊎_, inl, inr}

@@ -1,5 +1,4 @@
 -- Step 2 by place: a slot has a release of the day, the last listed, or it is as it was and the day has none for it.
--- Assumes nothing.
 use Prim.Native.Nat.{ℕ, zero, suc, _+_, _-_, _≤_, _<_}
 use mathlib.Core.Path.{_≡_, refl, ap, _∙_}
 use mathlib.Core.Logic.{_⊎_, inl, inr, _≢_}

@@ -1,6 +1,5 @@
 -- A day keeps the account: whoever is on the bank in the phase without blocking is near, so what is left falls by one a day; and
 -- while a job that is not near blocks, b grows with the days and no near job that may take the bank has come.
--- Assumes nothing.
 use Prim.Native.Nat.{ℕ, suc, _+_, _*_, _≤_, _<_}
 use mathlib.Core.Path.{_≡_, sym, ap, _∙_}
 use mathlib.Core.Logic.{inl, inr}

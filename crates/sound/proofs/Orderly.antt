@@ -2,7 +2,6 @@
 -- is on the bank. Steps 3 to 5 keep it.
 --     Live p rs t j s       the slot s, with index j, has a job released before day t and not due before t
 --     Orderly p rs t ss     the slots ss stand so before day t
--- Assumes nothing.
 use Prim.Native.Nat.{ℕ, suc, _+_, _≤_, _<_}
 use mathlib.Core.Path.{_≡_, refl, sym, ap, _∙_, subst}
 use mathlib.Core.Logic.{_⊎_, inl, inr}

@@ -1,6 +1,5 @@
 -- Who is late, who holds the bank, who pays and who is next, by place; and what `withJob` does to each place.
 --     putJob s j            the slot s with the job j
--- Assumes nothing.
 use Prim.Native.Nat.{ℕ, suc, _-_, _≤_, _<_}
 use mathlib.Core.Path.{_≡_, refl, sym, ap, _∙_}
 use mathlib.Core.Logic.{_⊎_, inl, inr, _≢_}

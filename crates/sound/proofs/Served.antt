@@ -1,6 +1,5 @@
 -- Job by job: in a run of a plan that passes, each release has, by its deadline, exactly its need in days of work, and the moving cost
 -- in moving days if it was the payer of its release day, else none; and no day is for it after.
--- Assumes nothing.
 use Prim.Native.Nat.{ℕ, zero, suc, _+_, _-_, _≤_, _<_}
 use mathlib.Core.Path.{_≡_, refl, sym, ap, _∙_, subst}
 use mathlib.Core.Bool.{cond}

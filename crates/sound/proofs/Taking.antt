@@ -1,5 +1,4 @@
 -- Step 3 by place: the bank is free, or its holder keeps it since nobody may take it, or the holder is stopped and the payer charged.
--- Assumes nothing.
 use Prim.Native.Nat.{ℕ, suc, _<_}
 use mathlib.Core.Path.{_≡_, sym, ap, _∙_, subst}
 use mathlib.Core.Logic.{inl, inr, _≢_}

@@ -1,5 +1,4 @@
 -- A day used by one job: what is left in near jobs does not grow, falls if the job is near, and who is on the bank after is that job.
--- Assumes nothing.
 use Prim.Native.Nat.{ℕ, suc, _≤_, _<_}
 use mathlib.Core.Path.{_≡_, sym, ap, _∙_, subst}
 use mathlib.Core.Bool.{true}

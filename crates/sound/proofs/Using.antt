@@ -1,6 +1,5 @@
 -- Steps 4 and 5 by place: all slots are empty and the day is idle; or one job uses it, which held the bank or is due first of those
 -- that wait.
--- Assumes nothing.
 use Prim.Native.Nat.{ℕ, suc, _+_, _-_, _≤_, _<_}
 use mathlib.Core.Path.{_≡_, refl, sym, ap, _∙_}
 use mathlib.Core.Logic.{_⊎_, inl, inr, _≢_}

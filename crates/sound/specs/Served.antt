@@ -5,7 +5,6 @@
 --                           the bank
 --     payerOn p rs t        the place of the payer of day t in the run
 --     paid p rs k           the k-th release was the payer of its release day
--- Assumes nothing.
 use Prim.Native.Nat.{ℕ, _-_}
 use mathlib.Core.Bool.{Bool, false, cond}
 use mathlib.Core.List.{List}

@@ -1,7 +1,7 @@
 // Tries the reader on texts that users try, and writes what it answers. The expected answers are stored beside src/.
-use libc::STDOUT_FILENO;
-use faults::fault_number;
 use faults::Checked;
+use faults::fault_number;
+use libc::STDOUT_FILENO;
 ghost use mathlib.Core.Path.{_≡_};
 ghost use lib.ListN.{length};
 

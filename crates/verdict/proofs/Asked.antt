@@ -1,5 +1,4 @@
 -- Laws of what the strings with one permission ask: the demand is the sum of two such parts, and each fits the code's word.
--- Assumes nothing.
 use Prim.Native.Nat.{ℕ, _+_, _-_, _*_, _≤_}
 use mathlib.Core.Path.{_≡_, ap, _∙_}
 use mathlib.Core.List.{List, [], _∷_}

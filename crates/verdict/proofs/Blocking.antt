@@ -1,5 +1,4 @@
 -- Laws of the blocking limit and of the load, as the code meets them.
--- Assumes nothing.
 use Prim.Native.Nat.{ℕ, _*_, _/_, _≤_, _<_, min}
 use mathlib.Core.Path.{_≡_, sym, _∙_}
 use native.Mathlib.Omega.{arith}

@@ -1,6 +1,5 @@
 -- Laws for loops over the strings of a plan that is ready: the string at a place is lawful, and a sum or an extreme from a place on
 -- takes it and those after it.
--- Assumes nothing.
 use Prim.Native.Nat.{ℕ, _+_, _≤_, _<_, min, max}
 use mathlib.Core.Path.{_≡_, refl, ap, _∙_}
 use mathlib.Core.List.{List, [], _∷_}

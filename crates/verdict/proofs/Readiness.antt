@@ -1,5 +1,4 @@
 -- When the loops of this crate may start.
--- Assumes nothing.
 use mathlib.Core.Path.{_≡_}
 use lib.ListN.{length}
 use Rattle.rules.specs.declared.Plan.{Plan}

@@ -1,5 +1,4 @@
 -- `answers::answer` meets its contract: what reading finds decides between the refusal and the three answers.
--- Assumes nothing.
 use Prim.Native.Nat.{ℕ}
 use mathlib.Core.Path.{_≡_, refl, sym, ap, _∙_}
 use mathlib.Core.List.{List}

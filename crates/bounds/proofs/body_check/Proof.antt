@@ -1,6 +1,5 @@
 -- `bounds::body_check` meets its contract: the strings decide first, then H.
--- Assumes nothing.
-use mathlib.Core.Path.{sym, ap, _∙_}
+use mathlib.Core.Path.{sym, _∙_}
 use native.Mathlib.Omega.{arith}
 use borrow.Author.Needs.{needs}
 use Rattle.rules.specs.Plan.{stringsOf}

@@ -1,12 +1,11 @@
 -- `bounds::head_check` meets its contract: each test that ends it denies a bound of n, or of A and N after n held.
--- Assumes nothing.
 use mathlib.Core.Path.{_≡_, sym, ap, _∙_}
 use native.Mathlib.Omega.{arith}
 use borrow.Author.Needs.{needs}
 use Rattle.rules.specs.declared.Plan.{Plan}
 use Rattle.faults.specs.declared.Fault.the-variants.{StringCount, OutOfBounds}
 use Rattle.faults.specs.declared.Checked.{Checked}
-use Rattle.faults.specs.declared.Checked.the-variants.{Lawful, Refused}
+use Rattle.faults.specs.declared.Checked.the-variants.{Refused}
 use Rattle.rules.specs.Refusal.{countCheck, numbersCheck}
 use Rattle.faults.specs.Checks.{then}
 use Prim.Native.Nat.{_≤_}

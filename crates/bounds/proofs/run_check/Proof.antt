@@ -1,5 +1,4 @@
 -- `bounds::run_check` meets its contract: the plan decides first, then the length of the list, then the first unlawful release.
--- Assumes nothing.
 use Prim.Native.Nat.{ℕ}
 use mathlib.Core.Path.{_≡_, sym, _∙_}
 use native.Mathlib.Omega.{arith}

@@ -1,7 +1,6 @@
 -- `bounds::set_check` meets its contract: n, A and N decide first, then the set, then the strings and H.
--- Assumes nothing.
 use Prim.Native.Nat.{ℕ, _^_, _≤_, _<_}
-use mathlib.Core.Path.{_≡_, refl, sym, ap, _∙_}
+use mathlib.Core.Path.{_≡_, sym, _∙_}
 use native.Mathlib.Omega.{arith}
 use borrow.Author.Needs.{needs}
 use borrow.Author.Tests.{le-leb, lt-leb}
@@ -12,7 +11,7 @@ use Rattle.faults.specs.declared.Checked.the-variants.{Lawful, Refused}
 use Rattle.rules.specs.Plan.{stringsOf}
 use Rattle.rules.specs.Refusal.{countCheck, numbersCheck, stringsCheck, multipleCheck, setCheck}
 use Rattle.faults.specs.Checks.{then}
-use Rattle.faults.proofs.Checks.{then-lawful, then-refused, then-assoc, then-first, then-second}
+use Rattle.faults.proofs.Checks.{then-lawful, then-refused, then-assoc, then-first}
 use Rattle.laws.proofs.Lawful.{countCheck-high}
 use Rattle.laws.proofs.Powers.{shift-is-sets}
 use Rattle.bounds.proofs.set_check.Statement.{statement}

@@ -1,7 +1,5 @@
 -- `reading::read` meets its contract: the length decides first, then the first line, then the body.
--- Assumes nothing.
-use Prim.Native.Nat.{_≤_}
-use mathlib.Core.Path.{_≡_, refl, sym, ap, _∙_}
+use mathlib.Core.Path.{_≡_, refl, sym, _∙_}
 use native.Mathlib.Omega.{arith}
 use borrow.Author.Needs.{needs}
 use Rattle.faults.specs.declared.Checked.the-variants.{Lawful}

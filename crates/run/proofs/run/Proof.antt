@@ -1,5 +1,4 @@
 -- `run::run` meets its contract: the check decides, and what it finds lawful is run.
--- Assumes nothing.
 use mathlib.Core.Path.{_≡_, sym, _∙_}
 use Rattle.faults.specs.declared.Checked.the-variants.{Lawful}
 use Rattle.rules.specs.Refusal.{runCheck, runAnswer}

@@ -1,5 +1,4 @@
 -- `run::run_days` meets its contract: at the start of each day the code stands where the definition does.
--- Assumes nothing.
 use Prim.Native.Nat.{ℕ, _-_, _≤_, _<_}
 use mathlib.Core.Path.{_≡_, refl, sym, ap, _∙_}
 use mathlib.Core.List.{List}

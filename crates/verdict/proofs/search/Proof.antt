@@ -1,5 +1,4 @@
 -- `verdict::search` meets its contract: the check decides, then the rules.
--- Assumes nothing.
 use mathlib.Core.Path.{_≡_, sym, _∙_}
 use borrow.Author.Needs.{needs}
 use lib.ListN.{length-map}

@@ -1,5 +1,4 @@
 -- `verdict::verdict_with` meets its contract: the check decides, then the rules.
--- Assumes nothing.
 use mathlib.Core.Path.{_≡_, sym, ap, _∙_, subst}
 use borrow.Author.Needs.{needs}
 use lib.ListN.{length-map}

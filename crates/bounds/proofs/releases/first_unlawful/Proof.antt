@@ -1,13 +1,11 @@
 -- `bounds::releases::first_unlawful` meets its contract: before each release the walk holds (`Walk`), and each way out is a law of it.
--- Assumes nothing.
-use Prim.Native.Nat.{ℕ, zero, suc, _+_, _-_, _≤_, _<_}
+use Prim.Native.Nat.{ℕ, zero, suc, _-_, _≤_}
 use mathlib.Core.Path.{_≡_, refl, sym, ap, _∙_}
 use mathlib.Core.Bool.{Bool, true}
-use mathlib.Core.List.{[], _∷_}
 use native.Mathlib.Omega.{arith}
 use borrow.Author.Needs.{needs}
 use borrow.Author.Tests.{not-true, not-false}
-use lib.ListN.{length, take, getD, length-map, replicate}
+use lib.ListN.{take, getD, length-map, replicate}
 use Rattle.rules.specs.declared.Release.{Release}
 use Rattle.rules.specs.Release.{firstUnlawful, releasesOf, noRelease}
 use Rattle.bounds.specs.Seen.{rememberedOf, admits}

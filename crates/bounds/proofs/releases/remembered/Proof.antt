@@ -1,5 +1,4 @@
 -- `bounds::releases::remembered` meets its contract: the tests say on which side of the ten places a place lies.
--- Assumes nothing.
 use Prim.Native.Nat.{ℕ, _-_, _≤_}
 use mathlib.Core.Path.{_≡_, sym}
 use mathlib.Core.List.{List}

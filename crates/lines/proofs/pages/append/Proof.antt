@@ -1,5 +1,4 @@
 -- `lines::pages::append` meets its contract: the page holds its text and what is copied so far.
--- Assumes nothing.
 use Prim.Native.Nat.{ℕ, _+_, _-_, _≤_, _<_}
 use mathlib.Core.Path.{_≡_, sym, ap, _∙_}
 use mathlib.Core.List.{List, [], _++_, append-nil}

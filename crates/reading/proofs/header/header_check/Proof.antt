@@ -1,5 +1,4 @@
 -- `reading::header::header_check` meets its contract: the frame decides first, then its numbers.
--- Assumes nothing.
 use mathlib.Core.Path.{_≡_, sym, _∙_}
 use borrow.Author.Needs.{needs}
 use Rattle.faults.specs.declared.Checked.the-variants.{Lawful}

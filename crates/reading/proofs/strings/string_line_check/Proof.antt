@@ -1,5 +1,4 @@
 -- `reading::strings::string_line_check` meets its contract: the frame decides first, then the bounds of the string.
--- Assumes nothing.
 use mathlib.Core.Path.{_≡_, sym, ap, _∙_}
 use borrow.Author.Needs.{needs}
 use Rattle.faults.specs.declared.Checked.the-variants.{Lawful}

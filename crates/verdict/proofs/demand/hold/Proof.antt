@@ -1,5 +1,4 @@
 -- `verdict::demand::hold` meets its contract: C and A are small, so the sum fits.
--- Assumes nothing.
 use mathlib.Core.Path.{refl}
 use native.Mathlib.Omega.{arith}
 use Rattle.rules.specs.Demand.{movingCost, holdOf}

@@ -1,5 +1,4 @@
 -- `verdict::demand::share` meets its contract: few jobs and a short hold, so the product fits.
--- Assumes nothing.
 use Prim.Native.Nat.{ℕ, _*_}
 use mathlib.Core.Path.{_≡_, sym, ap, _∙_}
 use native.Mathlib.Omega.{arith}

@@ -1,6 +1,5 @@
 -- `verdict::demand::work_within` meets its contract: what is added up so far, with what
 -- the strings that are left ask, is the whole, for each permission.
--- Assumes nothing.
 use Prim.Native.Nat.{_+_, _-_, _*_, _≤_}
 use mathlib.Core.Path.{_≡_}
 use native.Mathlib.Omega.{arith}

@@ -1,5 +1,4 @@
 -- `verdict::limits::blocker` meets its contract: the two cases of its test are those of the promise.
--- Assumes nothing.
 use borrow.Author.Needs.{needs}
 use Rattle.verdict.proofs.limits.blocker.Statement.{statement}
 use Rattle.verdict.proofs.limits.blocker.Tie as tie

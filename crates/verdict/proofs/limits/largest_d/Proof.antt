@@ -1,5 +1,4 @@
 -- `verdict::limits::largest_d` meets its contract: the larger of the largest so far and of the largest that is left is the largest of all.
--- Assumes nothing.
 use Prim.Native.Nat.{_-_, _≤_, max}
 use mathlib.Core.Path.{_≡_}
 use native.Mathlib.Omega.{arith}

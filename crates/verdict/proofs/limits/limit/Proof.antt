@@ -1,5 +1,4 @@
 -- `verdict::limits::limit` meets its contract: before the smallest D and from the largest on nothing blocks.
--- Assumes nothing.
 use mathlib.Core.Path.{sym}
 use native.Mathlib.Omega.{arith}
 use borrow.Author.Needs.{needs}

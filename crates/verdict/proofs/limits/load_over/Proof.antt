@@ -1,5 +1,4 @@
 -- `verdict::limits::load_over` meets its contract: what is added up so far, with the shares of the strings that are left, is the load.
--- Assumes nothing.
 use Prim.Native.Nat.{_+_, _-_, _*_, _/_, _≤_}
 use mathlib.Core.Path.{_≡_, ap, _∙_}
 use native.Mathlib.Omega.{arith}

@@ -1,6 +1,5 @@
 -- `verdict::limits::longest_blocker` meets its contract: the larger of the longest so far and of the longest
 -- that is left is the longest of all.
--- Assumes nothing.
 use Prim.Native.Nat.{_-_, _≤_, max}
 use mathlib.Core.Path.{_≡_}
 use native.Mathlib.Omega.{arith}

@@ -1,5 +1,4 @@
 -- `verdict::limits::period_share` meets its contract: a short hold and at most h jobs, so the product fits.
--- Assumes nothing.
 use Prim.Native.Nat.{_*_, _/_}
 use mathlib.Core.Path.{ap}
 use native.Mathlib.Omega.{arith}

@@ -1,6 +1,5 @@
 -- `verdict::limits::smallest_d` meets its contract: the smaller of the smallest so far and of the smallest
 -- that is left is the smallest of all.
--- Assumes nothing.
 use Prim.Native.Nat.{_-_, _≤_, min}
 use mathlib.Core.Path.{_≡_}
 use native.Mathlib.Omega.{arith}

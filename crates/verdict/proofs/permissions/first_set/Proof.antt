@@ -1,5 +1,4 @@
 -- `verdict::permissions::first_set` meets its contract: the first passing set of those that are left is the first of all.
--- Assumes nothing.
 use Prim.Native.Nat.{ℕ, _+_, _-_, _^_, _≤_, _<_}
 use mathlib.Core.Path.{_≡_, sym, _∙_}
 use mathlib.Core.Bool.{false, _&&_}

@@ -1,5 +1,4 @@
 -- `verdict::permissions::too_much_work` meets its contract: work that breaks the rule alone breaks it with any set.
--- Assumes nothing.
 use Prim.Native.Nat.{_+_, _-_, _≤_}
 use mathlib.Core.Path.{_≡_, sym, ap, _∙_, subst}
 use native.Mathlib.Omega.{arith}
