@@ -1,6 +1,4 @@
 -- What the checks of a plan give where they find no fault.
---     LawfulString s        the bounds on a string
---     LawfulPlan p          the bounds on a plan, and that H is a common multiple of all T, the least, and at most 100,000
 use Prim.Native.Nat.{ℕ, suc, _%_, _≤_, _<_, zero-le}
 use mathlib.Core.Path.{_≡_}
 use mathlib.Core.Bool.{true, false, _&&_}
@@ -19,6 +17,7 @@ use Rattle.faults.proofs.Checks.{inBounds-low, inBounds-high, inBounds-yes, inB
 use Rattle.rules.specs.Refusal.{countCheck, numbersCheck, stringsCheck, multipleCheck, planCheck}
 use Rattle.lists.proofs.Lists.{All, all-map, every-all, by-bool, and-left, and-right}
 use Rattle.lists.proofs.Least.{leastFrom-low, leastFrom-passes, leastFrom-before, leastFrom-unique, leastFrom-none}
+pub use Rattle.laws.specs.Lawful.{LawfulString, LawfulPlan}
 
 -- ---- n, A and N
 
@@ -51,15 +50,6 @@ numbersCheck-bad p out =
     (λ e. rw e)
 
 -- ---- A string
-
-pub record LawfulString (s : BatteryString) : Type 0 where
-  pub tPos : 1 ≤ s .t .0
-  pub tMax : s .t .0 ≤ 1000
-  pub dPos : 1 ≤ s .d .0
-  pub dMax : s .d .0 ≤ s .t .0
-  pub cPos : 1 ≤ s .c .0
-  pub cMax : s .c .0 ≤ s .d .0
-  pub xMax : s .x ≤ 1
 
 pub stringLawful-is : (s : BatteryString) → stringLawful s ≡ true → LawfulString s
 unfolding stringLawful
@@ -106,18 +96,6 @@ stringsCheck-all k (s ∷ ss) h =
     (λ e. absurd (refused-not-lawful OutOfBounds k (rw e at h)))
 
 -- ---- A plan
-
-pub record LawfulPlan (p : Plan) : Type 0 where
-  pub nPos : 1 ≤ p .n
-  pub nMax : p .n ≤ 10
-  pub aMax : p .a .0 ≤ 1000
-  pub runPos : 1 ≤ p .run .0
-  pub runMax : p .run .0 ≤ 1000000
-  pub each : All LawfulString (stringsOf p)
-  pub hPos : 1 ≤ multipleOf p
-  pub hMax : multipleOf p ≤ 100000
-  pub hWhole : All (λ s. multipleOf p % s .t .0 ≡ 0) (stringsOf p)
-  pub hLeast : (k : ℕ) → 1 ≤ k → k < multipleOf p → commonMultiple (stringsOf p) k ≡ false
 
 pub commonMultiple-whole : (ss : List BatteryString) (h : ℕ) → commonMultiple ss h ≡ true → All (λ s. h % s .t .0 ≡ 0) ss
 unfolding commonMultiple

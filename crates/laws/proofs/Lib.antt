@@ -2,7 +2,9 @@
 pub mod Jobs
 pub mod Demand
 pub mod Lawful
+pub mod LawfulChecked
 pub mod Powers
 pub mod Releases
 pub mod ReleaseList
 pub mod Answers
+pub mod Says

@@ -16,7 +16,8 @@ use Rattle.rules.specs.Refusal.{planCheck, releasesCheck, runCheck}
 use Rattle.faults.specs.Checks.{then, refuseIf}
 use Rattle.faults.proofs.Checks.{then-first, then-second, refuseIf-not}
 use Rattle.lists.proofs.Lists.{by-bool}
-use Rattle.laws.proofs.Lawful.{LawfulPlan, planCheck-lawful}
+use Rattle.laws.proofs.Lawful.{planCheck-lawful}
+pub use Rattle.laws.specs.Lawful.{LawfulRun}
 
 pub releasesCheck-many : (p : Plan) (rs : Releases) → 1000 < rs .count → releasesCheck p rs ≡ Refused ReleaseTooMany 1001
 unfolding releasesCheck
@@ -29,12 +30,6 @@ releasesCheck-bad p rs k h e low = rw (le-ltb 1000 (rs .count) h, e, lt-ltb 0 k 
 pub releasesCheck-good : (p : Plan) (rs : Releases) → rs .count ≤ 1000 → firstUnlawful p (releasesOf rs) ≡ 0 → releasesCheck p rs ≡ Lawful
 unfolding releasesCheck
 releasesCheck-good p rs h e = rw (le-ltb 1000 (rs .count) h, e)
-
--- what a lawful input of a run gives
-pub record LawfulRun (p : Plan) (rs : Releases) : Type 0 where
-  pub plan : LawfulPlan p
-  pub few : rs .count ≤ 1000
-  pub none-bad : firstUnlawful p (releasesOf rs) ≡ 0
 
 pub runCheck-lawful : (p : Plan) (rs : Releases) → runCheck p rs ≡ Lawful → LawfulRun p rs
 unfolding runCheck releasesCheck

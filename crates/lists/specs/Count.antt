@@ -3,6 +3,7 @@
 --     largest f xs          the largest f of xs, 0 of none
 --     smallest f xs         the smallest f of xs, 0 of none
 --     every f xs            all of xs pass f
+--     All P xs              every one of xs has P
 --     keep f xs             those of xs that pass f, in their order
 --     countOf f xs          how many of xs pass f
 --     upFrom k n            the n numbers k, k + 1, ..
@@ -38,6 +39,10 @@ module _ {ℓ} {A : Type ℓ} where
   every f (x ∷ xs) =
       let rest = every f xs in
       cond (f x) rest false
+
+  abbrev pub All : (A → Type 0) → List A → Type 0
+  All P [] = Unit {0}
+  All P (x ∷ xs) = P x × All P xs
 
   unfoldable pub keep : (A → Bool) → List A → List A
   keep f [] = []

@@ -8,11 +8,10 @@ use native.Mathlib.Omega.{arith}
 use borrow.Author.Tests.{le-ltb, leb-true}
 use lib.Dec.{leb}
 use lib.ListN.{getD}
-use Rattle.days.specs.Days.{day}
 use Rattle.rules.specs.declared.Plan.{Plan}
 use Rattle.rules.specs.declared.Release.{Release}
 use Rattle.faults.specs.declared.Checked.the-variants.{Lawful}
-use Rattle.rules.specs.declared.Outcome.the-variants.{Miss}
+use Rattle.rules.specs.Said.{miss, outcomeSays}
 use Rattle.lists.specs.Count.{sumOf, largest, smallest, smallestWith, every, upFrom, leastFrom}
 use Rattle.rules.specs.Plan.{stringLawful, commonMultiple, multipleOf, dMin, dMax}
 use Rattle.rules.specs.Demand.{movingCost, holdOf, jobs, need, demand, load, overloaded}
@@ -81,8 +80,8 @@ passes-as-printed = range-suffices-for p5 (planCheck-lawful p5 p5-lawful) (print
 
 -- ---- and P6 misses
 
-pub misses-all-the-same : runAnswer p5 (releases p6) ≡ Miss (day 8) 1
+pub misses-all-the-same : outcomeSays (runAnswer p5 (releases p6)) ≡ miss 8 1
 unfolding p5 p6 table row answered
 misses-all-the-same =
-    let e = ap (λ rows. getD rows 5 (page.Answer.written [])) worked in
+    let e = ap (λ rows. getD rows 6 (page.Answer.written [])) worked in
     cc

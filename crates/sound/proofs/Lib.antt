@@ -18,3 +18,4 @@ pub mod Answers
 pub mod Parts
 pub mod Progress
 pub mod Served
+pub mod Naming
