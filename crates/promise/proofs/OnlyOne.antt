@@ -81,8 +81,8 @@ one-verdict κs a e f r s h k = h ∙ sym k
 pub one-verdict-with : (κs : Lfts 0) (a : _) (e f : _) (r s : Verdict) → verdict-with.Learnt κs a r e → verdict-with.Learnt κs a s f → r ≡ s
 one-verdict-with κs a e f r s h k = h ∙ sym k
 
-pub one-search-takers : (κs : Lfts 0) (a : _) (e f : _) (r s : Assign) → search-takers.Learnt κs a r e → search-takers.Learnt κs a s f → r ≡ s
-one-search-takers κs a e f r s h k = h ∙ sym k
+pub one-search : (κs : Lfts 0) (a : _) (e f : _) (r s : Assign) → search-takers.Learnt κs a r e → search-takers.Learnt κs a s f → r ≡ s
+one-search κs a e f r s h k = h ∙ sym k
 
 -- run
 pub one-run : (κs : Lfts 0) (a : _) (e f : _) (r s : Outcome) → run.Learnt κs a r e → run.Learnt κs a s f → r ≡ s
