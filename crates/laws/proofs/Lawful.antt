@@ -1,6 +1,7 @@
 -- What the checks of a plan give where they find no fault.
 --     LawfulString s        the bounds on a string
 --     LawfulPlan p          the bounds on a plan, and that H is a common multiple of all T, the least, and at most 100,000
+--     PlanString p s        the bounds on s as a string of the plan p: those of a string, and that of its moving cost
 use Prim.Native.Nat.{ℕ, suc, _%_, _≤_, _<_, zero-le}
 use mathlib.Core.Path.{_≡_}
 use mathlib.Core.Bool.{true, false, _&&_}
@@ -12,7 +13,8 @@ use Rattle.rules.specs.declared.BatteryString.{BatteryString}
 use Rattle.rules.specs.declared.Plan.{Plan}
 use Rattle.faults.specs.declared.Fault.the-variants.{StringCount, OutOfBounds, MultipleOver}
 use Rattle.faults.specs.declared.Checked.the-variants.{Lawful, Refused}
-use Rattle.rules.specs.Plan.{stringsOf, stringLawful, commonMultiple, multipleOf}
+use Rattle.rules.specs.Plan.{stringsOf, noString, stringLawful, commonMultiple, multipleOf}
+use Rattle.rules.specs.Demand.{movingCost}
 use Rattle.faults.specs.Checks.{inBounds, then}
 use Rattle.faults.proofs.Checks.{refused-not-lawful, then-first, then-second, refuseIf-not}
 use Rattle.faults.proofs.Checks.{inBounds-low, inBounds-high, inBounds-yes, inBounds-not}
@@ -119,6 +121,19 @@ pub record LawfulPlan (p : Plan) : Type 0 where
   pub hWhole : All (λ s. multipleOf p % s .t .0 ≡ 0) (stringsOf p)
   pub hLeast : (k : ℕ) → 1 ≤ k → k < multipleOf p → commonMultiple (stringsOf p) k ≡ false
 
+pub record PlanString (p : Plan) (s : BatteryString) : Type 0 where
+  pub lawful : LawfulString s
+  pub costMax : movingCost p s ≤ 1000
+
+pub plan-strings : (p : Plan) → LawfulPlan p → All (PlanString p) (stringsOf p)
+unfolding movingCost
+plan-strings p ok = all-map LawfulString (PlanString p) (λ s h. record { lawful = h; costMax = ok .aMax }) (stringsOf p) (ok .each)
+
+-- where no string is, nothing is paid that a string would not
+pub noString-cost : (p : Plan) → LawfulPlan p → movingCost p noString ≤ 1000
+unfolding movingCost
+noString-cost p ok = ok .aMax
+
 pub commonMultiple-whole : (ss : List BatteryString) (h : ℕ) → commonMultiple ss h ≡ true → All (λ s. h % s .t .0 ≡ 0) ss
 unfolding commonMultiple
 commonMultiple-whole ss h e =
@@ -138,7 +153,8 @@ unfolding multipleOf
 multipleOf-least p k h m = leastFrom-before (commonMultiple (stringsOf p)) 1 100000 k h m
 
 -- a common multiple within the bound before which there is none is H; where there is none, 100,001 stands
-pub multipleOf-found : (p : Plan) (h : ℕ) → 1 ≤ h → h ≤ 100000 → commonMultiple (stringsOf p) h ≡ true → ((k : ℕ) → 1 ≤ k → k < h → commonMultiple (stringsOf p) k ≡ false) → multipleOf p ≡ h
+pub multipleOf-found : (p : Plan) (h : ℕ) → 1 ≤ h → h ≤ 100000 → commonMultiple (stringsOf p) h ≡ true
+    → ((k : ℕ) → 1 ≤ k → k < h → commonMultiple (stringsOf p) k ≡ false) → multipleOf p ≡ h
 unfolding multipleOf
 multipleOf-found p h low high t before = leastFrom-unique (commonMultiple (stringsOf p)) 1 100000 h low (omega arith) t before
 
@@ -164,7 +180,8 @@ planCheck-lawful p h =
     let a = and-left (inBounds 0 (p .a .0) 1000) (inBounds 1 (p .run .0) 1000000) numbers in
     let run = and-right (inBounds 0 (p .a .0) 1000) (inBounds 1 (p .run .0) 1000000) numbers in
     let body = then-second (numbersCheck p) strings after in
-    let high : multipleOf p ≤ 100000 = ltb-false 100000 (multipleOf p) (refuseIf-not _ _ _ (then-second (stringsCheck 1 (stringsOf p)) (multipleCheck p) body)) in
+    let high : multipleOf p ≤ 100000 =
+    ltb-false 100000 (multipleOf p) (refuseIf-not _ _ _ (then-second (stringsCheck 1 (stringsOf p)) (multipleCheck p) body)) in
     record {
       nPos = inBounds-low 1 (p .n) 10 count;
       nMax = inBounds-high 1 (p .n) 10 count;
