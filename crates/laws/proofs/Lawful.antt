@@ -10,14 +10,15 @@ use Rattle.rules.specs.declared.BatteryString.{BatteryString}
 use Rattle.rules.specs.declared.Plan.{Plan}
 use Rattle.faults.specs.declared.Fault.the-variants.{StringCount, OutOfBounds, MultipleOver}
 use Rattle.faults.specs.declared.Checked.the-variants.{Lawful, Refused}
-use Rattle.rules.specs.Plan.{stringsOf, stringLawful, commonMultiple, multipleOf}
+use Rattle.rules.specs.Plan.{stringsOf, noString, stringLawful, commonMultiple, multipleOf}
+use Rattle.rules.specs.Demand.{movingCost}
 use Rattle.faults.specs.Checks.{inBounds, then}
 use Rattle.faults.proofs.Checks.{refused-not-lawful, then-first, then-second, refuseIf-not}
 use Rattle.faults.proofs.Checks.{inBounds-low, inBounds-high, inBounds-yes, inBounds-not}
 use Rattle.rules.specs.Refusal.{countCheck, numbersCheck, stringsCheck, multipleCheck, planCheck}
 use Rattle.lists.proofs.Lists.{All, all-map, every-all, by-bool, and-left, and-right}
 use Rattle.lists.proofs.Least.{leastFrom-low, leastFrom-passes, leastFrom-before, leastFrom-unique, leastFrom-none}
-pub use Rattle.laws.specs.Lawful.{LawfulString, LawfulPlan}
+pub use Rattle.laws.specs.Lawful.{LawfulString, LawfulPlan, PlanString}
 
 -- ---- n, A and N
 
@@ -97,6 +98,15 @@ stringsCheck-all k (s ∷ ss) h =
 
 -- ---- A plan
 
+pub plan-strings : (p : Plan) → LawfulPlan p → All (PlanString p) (stringsOf p)
+unfolding movingCost
+plan-strings p ok = all-map LawfulString (PlanString p) (λ s h. record { lawful = h; costMax = ok .aMax }) (stringsOf p) (ok .each)
+
+-- where no string is, nothing is paid that a string would not
+pub noString-cost : (p : Plan) → LawfulPlan p → movingCost p noString ≤ 1000
+unfolding movingCost
+noString-cost p ok = ok .aMax
+
 pub commonMultiple-whole : (ss : List BatteryString) (h : ℕ) → commonMultiple ss h ≡ true → All (λ s. h % s .t .0 ≡ 0) ss
 unfolding commonMultiple
 commonMultiple-whole ss h e =
@@ -116,7 +126,8 @@ unfolding multipleOf
 multipleOf-least p k h m = leastFrom-before (commonMultiple (stringsOf p)) 1 100000 k h m
 
 -- a common multiple within the bound before which there is none is H; where there is none, 100,001 stands
-pub multipleOf-found : (p : Plan) (h : ℕ) → 1 ≤ h → h ≤ 100000 → commonMultiple (stringsOf p) h ≡ true → ((k : ℕ) → 1 ≤ k → k < h → commonMultiple (stringsOf p) k ≡ false) → multipleOf p ≡ h
+pub multipleOf-found : (p : Plan) (h : ℕ) → 1 ≤ h → h ≤ 100000 → commonMultiple (stringsOf p) h ≡ true
+    → ((k : ℕ) → 1 ≤ k → k < h → commonMultiple (stringsOf p) k ≡ false) → multipleOf p ≡ h
 unfolding multipleOf
 multipleOf-found p h low high t before = leastFrom-unique (commonMultiple (stringsOf p)) 1 100000 h low (omega arith) t before
 
@@ -142,7 +153,8 @@ planCheck-lawful p h =
     let a = and-left (inBounds 0 (p .a .0) 1000) (inBounds 1 (p .run .0) 1000000) numbers in
     let run = and-right (inBounds 0 (p .a .0) 1000) (inBounds 1 (p .run .0) 1000000) numbers in
     let body = then-second (numbersCheck p) strings after in
-    let high : multipleOf p ≤ 100000 = ltb-false 100000 (multipleOf p) (refuseIf-not _ _ _ (then-second (stringsCheck 1 (stringsOf p)) (multipleCheck p) body)) in
+    let high : multipleOf p ≤ 100000 =
+    ltb-false 100000 (multipleOf p) (refuseIf-not _ _ _ (then-second (stringsCheck 1 (stringsOf p)) (multipleCheck p) body)) in
     record {
       nPos = inBounds-low 1 (p .n) 10 count;
       nMax = inBounds-high 1 (p .n) 10 count;

@@ -11,7 +11,7 @@ use Rattle.rules.specs.declared.Plan.{Plan}
 use Rattle.lists.specs.Count.{sumOf, largest, smallest, smallestWith}
 use Rattle.rules.specs.Plan.{stringsOf, noString}
 use Rattle.lists.proofs.Lists.{all-at, sumOf-drop, largest-drop, smallestWith-drop}
-use Rattle.laws.proofs.Lawful.{LawfulString}
+use Rattle.laws.proofs.Lawful.{PlanString, plan-strings}
 use Rattle.verdict.specs.Asked.{Ready}
 
 -- a smallest starts from the first
@@ -29,10 +29,11 @@ module _ (p : Plan) (ready : Ready p) where
       let ten = ready .ten in
       length-take-le (p .n) (p .strings) (omega arith)
 
-  pub lawful-at : (i : ℕ) → i < p .n → LawfulString (getD (p .strings) i noString)
-  lawful-at i h =
+  pub string-at : (i : ℕ) → i < p .n → PlanString p (getD (p .strings) i noString)
+  string-at i h =
       let inside : i < length (stringsOf p) = omega (arith, strings-count) in
-      rw (getD-take (p .n) (p .strings) i noString h) at (all-at LawfulString (stringsOf p) noString (ready .lawful .each) i inside)
+      let there = all-at (PlanString p) (stringsOf p) noString (plan-strings p (ready .lawful)) i inside in
+      rw (getD-take (p .n) (p .strings) i noString h) at there
 
   pub sum-at :
       (f : BatteryString → ℕ) (i : ℕ) → i < p .n
