@@ -15,40 +15,62 @@ use Rattle.rules.specs.Demand.{movingCost}
 use Rattle.faults.specs.Checks.{inBounds, then}
 use Rattle.faults.proofs.Checks.{refused-not-lawful, then-first, then-second, refuseIf-not}
 use Rattle.faults.proofs.Checks.{inBounds-low, inBounds-high, inBounds-yes, inBounds-not}
-use Rattle.rules.specs.Refusal.{countCheck, numbersCheck, stringsCheck, multipleCheck, planCheck}
+use Rattle.rules.specs.Refusal.{countCheck, numbersCheck, headCheck, stringsCheck, multipleCheck, planCheck}
 use Rattle.lists.proofs.Lists.{All, all-map, every-all, by-bool, and-left, and-right}
 use Rattle.lists.proofs.Least.{leastFrom-low, leastFrom-passes, leastFrom-before, leastFrom-unique, leastFrom-none}
 pub use Rattle.laws.specs.Lawful.{LawfulString, LawfulPlan, PlanString}
 
 -- ---- n, A and N
 
-pub countCheck-good : (p : Plan) → 1 ≤ p .n → p .n ≤ 10 → countCheck p ≡ Lawful
-unfolding countCheck
-countCheck-good p h k = rw (inBounds-yes 1 (p .n) 10 h k)
+pub record LawfulHead (n a run : ℕ) : Type 0 where
+  pub nPos : 1 ≤ n
+  pub nMax : n ≤ 10
+  pub aMax : a ≤ 1000
+  pub runPos : 1 ≤ run
+  pub runMax : run ≤ 1000000
 
-pub countCheck-bad : (p : Plan) → (1 ≤ p .n → p .n ≤ 10 → ⊥) → countCheck p ≡ Refused StringCount 0
-unfolding countCheck
-countCheck-bad p out = rw (inBounds-not 1 (p .n) 10 out)
+-- what the check says does not depend on the place it reports at
+module _ (at n a run : ℕ) where
+  pub headCheck-lawful : headCheck at n a run ≡ Lawful → LawfulHead n a run
+  unfolding countCheck numbersCheck
+  headCheck-lawful h =
+      let A = inBounds 0 a 1000 in
+      let N = inBounds 1 run 1000000 in
+      let count = not-false _ (refuseIf-not _ _ _ (then-first (countCheck at n) (numbersCheck at a run) h)) in
+      let numbers = not-false _ (refuseIf-not _ _ _ (then-second (countCheck at n) (numbersCheck at a run) h)) in
+      record {
+        nPos = inBounds-low 1 n 10 count;
+        nMax = inBounds-high 1 n 10 count;
+        aMax = inBounds-high 0 a 1000 (and-left A N numbers);
+        runPos = inBounds-low 1 run 1000000 (and-right A N numbers);
+        runMax = inBounds-high 1 run 1000000 (and-right A N numbers);
+      }
 
-pub countCheck-high : (p : Plan) → countCheck p ≡ Lawful → p .n ≤ 10
-unfolding countCheck
-countCheck-high p h = inBounds-high 1 (p .n) 10 (not-false _ (refuseIf-not _ _ _ h))
+  pub headCheck-good : LawfulHead n a run → headCheck at n a run ≡ Lawful
+  unfolding countCheck numbersCheck
+  headCheck-good h =
+      rw (
+        inBounds-yes 1 n 10 (h .nPos) (h .nMax),
+        inBounds-yes 0 a 1000 zero-le (h .aMax),
+        inBounds-yes 1 run 1000000 (h .runPos) (h .runMax),
+      )
 
-pub numbersCheck-good : (p : Plan) → p .a .0 ≤ 1000 → 1 ≤ p .run .0 → p .run .0 ≤ 1000000 → numbersCheck p ≡ Lawful
-unfolding numbersCheck
-numbersCheck-good p a h k = rw (inBounds-yes 0 (p .a .0) 1000 zero-le a, inBounds-yes 1 (p .run .0) 1000000 h k)
+  pub headCheck-count : (1 ≤ n → n ≤ 10 → ⊥) → headCheck at n a run ≡ Refused StringCount at
+  unfolding countCheck
+  headCheck-count out = rw (inBounds-not 1 n 10 out)
 
-pub numbersCheck-bad : (p : Plan) → (p .a .0 ≤ 1000 → 1 ≤ p .run .0 → p .run .0 ≤ 1000000 → ⊥) → numbersCheck p ≡ Refused OutOfBounds 0
-unfolding numbersCheck
-numbersCheck-bad p out =
-    let A = inBounds 0 (p .a .0) 1000 in
-    let N = inBounds 1 (p .run .0) 1000000 in
-    by-bool (A && N)
-    (λ t.
-    absurd
-    (out (inBounds-high 0 (p .a .0) 1000 (and-left A N t)) (inBounds-low 1 (p .run .0) 1000000 (and-right A N t))
-    (inBounds-high 1 (p .run .0) 1000000 (and-right A N t))))
-    (λ e. rw e)
+  pub headCheck-numbers : 1 ≤ n → n ≤ 10 → (a ≤ 1000 → 1 ≤ run → run ≤ 1000000 → ⊥) → headCheck at n a run ≡ Refused OutOfBounds at
+  unfolding countCheck numbersCheck
+  headCheck-numbers low high out =
+      let A = inBounds 0 a 1000 in
+      let N = inBounds 1 run 1000000 in
+      rw (inBounds-yes 1 n 10 low high)
+      (by-bool (A && N)
+      (λ t.
+      absurd
+      (out (inBounds-high 0 a 1000 (and-left A N t)) (inBounds-low 1 run 1000000 (and-right A N t))
+      (inBounds-high 1 run 1000000 (and-right A N t))))
+      (λ e. rw e))
 
 -- ---- A string
 
@@ -135,33 +157,35 @@ pub multipleOf-over : (p : Plan) → ((k : ℕ) → 1 ≤ k → k < 100001 → c
 unfolding multipleOf
 multipleOf-over p before = leastFrom-none (commonMultiple (stringsOf p)) 1 100000 before
 
-pub multipleCheck-good : (p : Plan) → multipleOf p ≤ 100000 → multipleCheck p ≡ Lawful
-unfolding multipleCheck
-multipleCheck-good p h = rw (le-ltb 100000 (multipleOf p) h)
+module _ (at : ℕ) (p : Plan) where
+  pub multipleCheck-good : multipleOf p ≤ 100000 → multipleCheck at p ≡ Lawful
+  unfolding multipleCheck
+  multipleCheck-good h = rw (le-ltb 100000 (multipleOf p) h)
 
-pub multipleCheck-bad : (p : Plan) → 100000 < multipleOf p → multipleCheck p ≡ Refused MultipleOver 0
-unfolding multipleCheck
-multipleCheck-bad p h = rw (lt-ltb 100000 (multipleOf p) h)
+  pub multipleCheck-bad : 100000 < multipleOf p → multipleCheck at p ≡ Refused MultipleOver at
+  unfolding multipleCheck
+  multipleCheck-bad h = rw (lt-ltb 100000 (multipleOf p) h)
+
+  pub multipleCheck-small : multipleCheck at p ≡ Lawful → multipleOf p ≤ 100000
+  unfolding multipleCheck
+  multipleCheck-small h = ltb-false 100000 (multipleOf p) (refuseIf-not _ _ _ h)
 
 pub planCheck-lawful : (p : Plan) → planCheck p ≡ Lawful → LawfulPlan p
-unfolding planCheck countCheck numbersCheck multipleCheck
+unfolding planCheck
 planCheck-lawful p h =
-    let strings = then (stringsCheck 1 (stringsOf p)) (multipleCheck p) in
-    let count = not-false _ (refuseIf-not _ _ _ (then-first (countCheck p) (then (numbersCheck p) strings) h)) in
-    let after = then-second (countCheck p) (then (numbersCheck p) strings) h in
-    let numbers = not-false _ (refuseIf-not _ _ _ (then-first (numbersCheck p) strings after)) in
-    let a = and-left (inBounds 0 (p .a .0) 1000) (inBounds 1 (p .run .0) 1000000) numbers in
-    let run = and-right (inBounds 0 (p .a .0) 1000) (inBounds 1 (p .run .0) 1000000) numbers in
-    let body = then-second (numbersCheck p) strings after in
-    let high : multipleOf p ≤ 100000 =
-    ltb-false 100000 (multipleOf p) (refuseIf-not _ _ _ (then-second (stringsCheck 1 (stringsOf p)) (multipleCheck p) body)) in
+    let heading = headCheck 0 (p .n) (p .a .0) (p .run .0) in
+    let strings = stringsCheck 1 (stringsOf p) in
+    let multiple = multipleCheck 0 p in
+    let head = headCheck-lawful 0 (p .n) (p .a .0) (p .run .0) (then-first heading (then strings multiple) h) in
+    let body = then-second heading (then strings multiple) h in
+    let high = multipleCheck-small 0 p (then-second strings multiple body) in
     record {
-      nPos = inBounds-low 1 (p .n) 10 count;
-      nMax = inBounds-high 1 (p .n) 10 count;
-      aMax = inBounds-high 0 (p .a .0) 1000 a;
-      runPos = inBounds-low 1 (p .run .0) 1000000 run;
-      runMax = inBounds-high 1 (p .run .0) 1000000 run;
-      each = stringsCheck-all 1 (stringsOf p) (then-first (stringsCheck 1 (stringsOf p)) (multipleCheck p) body);
+      nPos = head .nPos;
+      nMax = head .nMax;
+      aMax = head .aMax;
+      runPos = head .runPos;
+      runMax = head .runMax;
+      each = stringsCheck-all 1 (stringsOf p) (then-first strings multiple body);
       hPos = multipleOf-pos p;
       hMax = high;
       hWhole = commonMultiple-whole (stringsOf p) (multipleOf p) (multipleOf-common p high);
