@@ -1,6 +1,6 @@
 // A plan file in, its answer out: the refusal, or verdict, search and run.
+use faults::Checked;
 use rules::Answer;
-use rules::Checked;
 ghost use mathlib.Core.Path.{_≡_};
 ghost use Rattle.rules.specs.Answer.{answerOf};
 

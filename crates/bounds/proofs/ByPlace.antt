@@ -1,8 +1,7 @@
 -- Laws for loops over the strings of a plan: the array of ten of which the first n count, one string after the other.
--- Assumes nothing.
-use Prim.Native.Nat.{ℕ, zero, suc, _+_, _-_, _%_, _≤_, _<_, min}
-use mathlib.Core.Path.{_≡_, refl, sym, ap, _∙_}
-use mathlib.Core.Bool.{Bool, true, false}
+use Prim.Native.Nat.{ℕ, _+_, _-_, _%_, _≤_, _<_, min}
+use mathlib.Core.Path.{_≡_, sym, _∙_}
+use mathlib.Core.Bool.{true, false}
 use mathlib.Core.List.{List, [], _∷_}
 use native.Mathlib.Omega.{arith}
 use native.Mathlib.Decide.{decLe}
@@ -12,9 +11,9 @@ use lib.ListN.{length, take, drop, getD, drop-of-length-le, length-take, List·g
 use lib.Seq.{drop-cons, take-all, length-take-le, getD-take}
 use Rattle.rules.specs.declared.BatteryString.{BatteryString}
 use Rattle.rules.specs.declared.Plan.{Plan}
-use Rattle.rules.specs.declared.Fault.the-variants.{OutOfBounds}
-use Rattle.rules.specs.declared.Checked.the-variants.{Lawful, Refused}
-use Rattle.rules.specs.Count.{every}
+use Rattle.faults.specs.declared.Fault.the-variants.{OutOfBounds}
+use Rattle.faults.specs.declared.Checked.the-variants.{Lawful, Refused}
+use Rattle.lists.specs.Count.{every}
 use Rattle.rules.specs.Plan.{stringLawful, commonMultiple, noString, stringAt}
 use Rattle.rules.specs.Refusal.{stringsCheck}
 

@@ -1,7 +1,7 @@
 // The bounds on a string, and the first string of a plan outside them.
+use faults::Checked;
+use faults::Fault;
 use rules::BatteryString;
-use rules::Checked;
-use rules::Fault;
 use rules::Plan;
 ghost use mathlib.Core.Path.{_≡_};
 ghost use Prim.Native.Nat.{min};

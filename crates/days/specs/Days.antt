@@ -3,7 +3,6 @@
 --     days k          a length of k days
 --     laterOf t n     the day that lies n after t, or Beyond where no day number of the code says it
 --     gapOf t s       how long t lies after s, or Backwards where s is the later
--- Assumes nothing.
 use Prim.Native.Nat.{ℕ, _+_, _-_, _^_}
 use mathlib.Core.Bool.{cond}
 use lib.Dec.{ltb, leb}

@@ -1,7 +1,6 @@
 -- The work alone decides "none": where the plan with no permissions breaks the rule with no blocking, or is overloaded, no set
 -- passes, since E ≥ C and with no blocking every string counts its jobs in all the days.
 --     workOf l s            the work that the jobs of s within l days bring, without moving
--- Assumes nothing.
 use Prim.Native.Nat.{ℕ, _-_, _*_, _≤_, _<_, zero-le}
 use mathlib.Core.Path.{_≡_, refl, ap, _∙_}
 use mathlib.Core.Bool.{true, false}
@@ -11,13 +10,13 @@ use native.Mathlib.Decide.{ℕ-discrete}
 use native.Mathlib.Nat.{mul-le-mul-left}
 use Rattle.rules.specs.declared.BatteryString.{BatteryString}
 use Rattle.rules.specs.declared.Plan.{Plan}
-use Rattle.rules.specs.Count.{sumOf}
+use Rattle.lists.specs.Count.{sumOf}
 use Rattle.rules.specs.Plan.{stringsOf, multipleOf}
 use Rattle.rules.specs.Demand.{holdOf, jobs, need, demand, overloaded}
 use Rattle.rules.specs.Search.{permit, withSet, setPasses}
-use Rattle.laws.proofs.Lists.{All, all-map, sumOf-le, sumOf-eq, by-bool}
+use Rattle.lists.proofs.Lists.{All, all-map, sumOf-le, sumOf-eq, by-bool}
 use Rattle.laws.proofs.Lawful.{LawfulPlan}
-use Rattle.horizon.proofs.Order.{all-of}
+use Rattle.lists.proofs.Order.{all-of}
 use Rattle.laws.proofs.Demand.{holdOf-work, need-taker, need-keeper}
 use Rattle.horizon.proofs.Range.{overload-at-period}
 use Rattle.horizon.proofs.Verdict.{pass-passes}

@@ -1,7 +1,6 @@
 -- The first broken pair of a list, and what the pairs of a plan are: those within the limits, in order of l, then b.
 --     Within p q            q has an interval from 1 to Dmax + H − 1 and a blocking up to its limit
 --     Before q r            the pair q comes before r: a smaller interval, or the same and a smaller blocking
--- Assumes nothing.
 use Prim.Native.Nat.{ℕ, suc, _+_, _-_, _≤_, _<_, zero-le}
 use mathlib.Core.Path.{_≡_, refl, sym, _∙_}
 use mathlib.Core.Logic.{_⊎_, inl, inr}
@@ -10,13 +9,13 @@ use mathlib.Core.List.{List, [], _∷_}
 use mathlib.Core.Option.{none, some}
 use native.Mathlib.Omega.{arith}
 use Rattle.rules.specs.declared.Plan.{Plan}
-use Rattle.rules.specs.Count.{upFrom}
+use Rattle.lists.specs.Count.{upFrom}
 use Rattle.rules.specs.Plan.{multipleOf, dMax}
 use Rattle.rules.specs.Demand.{blockLimit}
 use Rattle.rules.specs.Verdict.{Pair, pairsAt, allPairs, broken, firstBroken, compared}
-use Rattle.laws.proofs.Lists.{All, all-map, by-bool, true-not-false}
-use Rattle.horizon.proofs.Order.{Rising, all-mapped, mapped-all, all-flat, flat-all}
-use Rattle.horizon.proofs.Order.{all-upFrom, upFrom-all, rising-map, rising-mapped, rising-flat, rising-upFrom}
+use Rattle.lists.proofs.Lists.{All, all-map, by-bool, true-not-false}
+use Rattle.lists.proofs.Order.{Rising, all-mapped, mapped-all, all-flat, flat-all}
+use Rattle.lists.proofs.Order.{all-upFrom, upFrom-all, rising-map, rising-mapped, rising-flat, rising-upFrom}
 use Rattle.horizon.proofs.Pairs.{pair}
 
 -- ---- The first broken pair

@@ -1,5 +1,4 @@
 -- The verdict and the rule say the same, in the order in which the steps build on each other.
-pub mod Order
 pub mod Pairs
 pub mod Period
 pub mod Range

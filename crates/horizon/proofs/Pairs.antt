@@ -3,7 +3,7 @@
 --     rowFrom p l b         the pairs of interval l from blocking b on
 --     rows p l m            the pairs of the m intervals from l on
 --     scanFrom p k qs       the verdict where the pairs qs are left and k were compared before them
--- A walk over intervals below an end cites scan-row, scan-good, scan-bad, scan-row-end and scan-end. Assumes nothing.
+-- A walk over intervals below an end cites scan-row, scan-good, scan-bad, scan-row-end and scan-end.
 use Prim.Native.Nat.{ℕ, suc, _+_, _-_, _≤_, _<_}
 use mathlib.Core.Path.{_≡_, refl, ap, _∙_}
 use mathlib.Core.Bool.{true, false}
@@ -17,7 +17,7 @@ use Rattle.days.specs.Days.{days}
 use Rattle.rules.specs.declared.Plan.{Plan}
 use Rattle.rules.specs.declared.Verdict.{Verdict}
 use Rattle.rules.specs.declared.Verdict.the-variants.{Overload, Fail, Pass}
-use Rattle.rules.specs.Count.{upFrom}
+use Rattle.lists.specs.Count.{upFrom}
 use Rattle.rules.specs.Plan.{multipleOf, dMax}
 use Rattle.rules.specs.Demand.{blockLimit, demand, overloaded}
 use Rattle.rules.specs.Verdict.{Pair, pairsAt, allPairs, broken, firstBroken, compared, judged, verdictOf}

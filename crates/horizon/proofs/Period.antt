@@ -1,24 +1,20 @@
 -- What one period H adds to the demand. D ≤ T and T divides H, so a string has H / T jobs in H days exactly, and H more days
 -- add at most that many to any count; summed over the strings, H more days add at most the load.
--- Assumes nothing.
 use Prim.Native.Nat.{ℕ, zero, suc, _+_, _-_, _*_, _/_, _%_, _≤_, _<_}
-use mathlib.Core.Path.{_≡_, sym, ap, _∙_}
-use mathlib.Core.Bool.{_&&_}
+use mathlib.Core.Path.{_≡_, ap, _∙_}
 use native.Mathlib.Omega.{arith}
-use native.Mathlib.Decide.{decLe, ℕ-discrete}
-use native.Mathlib.Nat.{div-add-mod', div-lt-iff-lt-mul, add-mul, zero-mul, mul-zero, mul-comm, mul-le-mul-right}
-use borrow.Author.Tests.{le-ltb, eq-eqb, ne-eqb}
-use lib.Dec.{leb, ltb}
+use native.Mathlib.Decide.{decLe}
+use native.Mathlib.Nat.{div-add-mod', div-lt-iff-lt-mul, add-mul, zero-mul, mul-comm, mul-le-mul-right}
 use Rattle.rules.specs.declared.BatteryString.{BatteryString}
 use Rattle.rules.specs.declared.Plan.{Plan}
-use Rattle.rules.specs.Count.{sumOf, largest}
-use Rattle.rules.specs.Plan.{stringsOf, multipleOf, dMin, dMax}
-use Rattle.rules.specs.Demand.{movingCost, holdOf, jobs, blockerHold, blockLimit, need, demand, load}
-use Rattle.laws.proofs.Lists.{All, all-map, sumOf-le, sumOf-eq, sumOf-add, largest-le, by-bool}
+use Rattle.lists.specs.Count.{sumOf}
+use Rattle.rules.specs.Plan.{stringsOf, multipleOf, dMax}
+use Rattle.rules.specs.Demand.{holdOf, jobs, need, demand, load}
+use Rattle.lists.proofs.Lists.{All, all-map, sumOf-le, sumOf-eq, sumOf-add, largest-le}
 use Rattle.laws.proofs.Jobs.{jobs-short, jobs-from, jobs-zero, jobs-window, jobs-period}
 use Rattle.laws.proofs.Lawful.{LawfulString, LawfulPlan}
 use Rattle.laws.proofs.Demand.{need-unblocked}
-use Rattle.horizon.proofs.Order.{all-both, sumOf-zero}
+use Rattle.lists.proofs.Order.{all-both, sumOf-zero}
 
 -- ---- One string over H days
 

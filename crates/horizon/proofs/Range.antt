@@ -1,6 +1,5 @@
 -- The rule has no upper end, and a range decides it: an overloaded plan breaks it at interval H, and any other plan keeps it at
 -- every interval if it keeps it up to Dmax + H − 1, since H more days bring at most H more days of demand.
--- Assumes nothing.
 use Prim.Native.Nat.{ℕ, zero, suc, _+_, _-_, _≤_, _<_, zero-le}
 use mathlib.Core.Path.{_≡_}
 use mathlib.Core.Bool.{true, false}

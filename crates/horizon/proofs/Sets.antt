@@ -1,6 +1,5 @@
 -- A plan with a permission set: T, C and D stay, so a lawful plan stays lawful, with the same H, Dmin and Dmax.
 --     permitted s x         the string s with permission x
--- Assumes nothing.
 use Prim.Native.Nat.{ℕ, zero, suc, _/_, _%_, _≤_}
 use mathlib.Core.Path.{_≡_, refl, ap, _∙_, fun-ext}
 use mathlib.Core.Bool.{Bool}
@@ -11,10 +10,10 @@ use lib.Dec.{eqb}
 use lib.ListN.{take}
 use Rattle.rules.specs.declared.BatteryString.{BatteryString}
 use Rattle.rules.specs.declared.Plan.{Plan}
-use Rattle.rules.specs.Count.{sumOf, largest, smallest, smallestWith, every, leastFrom}
+use Rattle.lists.specs.Count.{sumOf, largest, smallest, smallestWith, every, leastFrom}
 use Rattle.rules.specs.Plan.{stringsOf, commonMultiple, multipleOf, dMin, dMax}
 use Rattle.rules.specs.Search.{permit, withSet}
-use Rattle.laws.proofs.Lists.{All}
+use Rattle.lists.proofs.Lists.{All}
 use Rattle.laws.proofs.Lawful.{LawfulString, LawfulPlan, multipleOf-pos, multipleOf-common, multipleOf-least, commonMultiple-whole}
 
 abbrev pub permitted : BatteryString → ℕ → BatteryString

@@ -1,7 +1,5 @@
 -- The verdict's definition means what document 01 says: Pass exactly where the plan passes, with all pairs counted; and a Fail
 -- names the first pair, in order of l, then b, that breaks the rule.
---     FirstBreak p l b      the rule breaks at (l, b), and at no smaller interval, nor at l with a smaller blocking
--- Assumes nothing.
 use Prim.Native.Nat.{ℕ, _+_, _-_, _≤_, _<_, zero-le}
 use mathlib.Core.Path.{_≡_, refl, sym, ap, _∙_}
 use mathlib.Core.Logic.{_⊎_, inl, inr, _↔_}
@@ -18,12 +16,13 @@ use Rattle.rules.specs.declared.Verdict.the-variants.{Overload, Fail, Pass}
 use Rattle.rules.specs.Plan.{multipleOf, dMax}
 use Rattle.rules.specs.Demand.{blockLimit, demand, Passes, overloaded}
 use Rattle.rules.specs.Verdict.{Pair, allPairs, broken, firstBroken, compared, judged, verdictOf, isPass}
-use Rattle.laws.proofs.Lists.{by-bool, true-not-false}
+use Rattle.lists.proofs.Lists.{by-bool, true-not-false}
 use Rattle.laws.proofs.Lawful.{LawfulPlan}
 use Rattle.horizon.proofs.Pairs.{pair, broken-no, broken-over, unbroken-holds, scanFrom, verdictOf-overload, verdictOf-scan}
 use Rattle.horizon.proofs.Range.{overload-at-period, range-suffices}
 use Rattle.horizon.proofs.First.{Within, Before, all-pairs, pairs-all, pairs-rising}
 use Rattle.horizon.proofs.First.{none-broken, broken-none, compared-all, firstBroken-broken, firstBroken-in, firstBroken-least}
+use Rattle.horizon.specs.FirstBreak.{FirstBreak}
 
 -- ---- Verdicts
 
@@ -103,14 +102,6 @@ module _ (p : Plan) (ok : LawfulPlan p) where
 
 -- ---- Fail
 
-pub record FirstBreak (p : Plan) (l b : ℕ) : Type 0 where
-  pub pos : 1 ≤ l
-  pub inRange : l ≤ dMax p + multipleOf p - 1
-  pub allowed : b ≤ blockLimit p l
-  pub breaks : l < demand p l b
-  pub shorter : (m c : ℕ) → 1 ≤ m → m < l → c ≤ blockLimit p m → demand p m c ≤ m
-  pub less : (c : ℕ) → c < b → demand p l c ≤ l
-
 module _ (p : Plan) where
   -- the first of all pairs that is broken is the first break
   pub firstBroken-names : (l b : ℕ) → firstBroken p (allPairs p) ≡ some (pair l b) → FirstBreak p l b
@@ -148,20 +139,23 @@ module _ (p : Plan) where
           (λ t. absurd (not-after m c earlier (least m c low high limit t)))
           (λ e. unbroken-holds p (pair m c) e)
 
+  pub fail-not-overloaded : (l b d : Length) (k : ℕ) → verdictOf p ≡ Fail l b d k → overloaded p ≡ false
+  fail-not-overloaded l b d k h = by-bool (overloaded p) (λ t. absurd (no-fail (sym (verdictOf-overload p t) ∙ h))) (λ e. e)
+    where
+      no-fail : Overload ≡ Fail l b d k → ⊥
+      no-fail e =
+          let z : _≡_ {A = ℕ} 0 1 = cc in
+          omega arith
+
   -- a fail names the first break and the demand there, and counts the pairs up to and including it
   pub fail-names :
       (l b d : Length) (k : ℕ) → verdictOf p ≡ Fail l b d k
       → FirstBreak p (l .0) (b .0) × (d ≡ days (demand p (l .0) (b .0))) × (k ≡ length (compared p (allPairs p)))
   unfolding verdictOf
   fail-names l b d k h =
-      let light : overloaded p ≡ false = by-bool (overloaded p) (λ t. absurd (no-fail (sym (verdictOf-overload p t) ∙ h))) (λ e. e) in
+      let light = fail-not-overloaded l b d k h in
       let parts = judged-fail p (firstBroken p (allPairs p)) (length (compared p (allPairs p))) l b d k (rw light at h) in
       (firstBroken-names (l .0) (b .0) (parts .0), parts .1, sym (parts .2))
-    where
-      no-fail : Overload ≡ Fail l b d k → ⊥
-      no-fail e =
-          let z : _≡_ {A = ℕ} 0 1 = cc in
-          omega arith
 
 -- ---- Exactly
 

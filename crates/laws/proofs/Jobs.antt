@@ -1,10 +1,9 @@
 -- Laws of the job count. Everything above cites these and not the definition.
--- Assumes nothing.
-use Prim.Native.Nat.{ℕ, zero, suc, _+_, _-_, _*_, _/_, _%_, _≤_, _<_}
-use mathlib.Core.Path.{_≡_, refl, sym, ap, _∙_}
+use Prim.Native.Nat.{ℕ, suc, _+_, _-_, _*_, _/_, _%_, _≤_, _<_}
+use mathlib.Core.Path.{_≡_, ap, _∙_}
 use native.Mathlib.Omega.{arith}
 use native.Mathlib.Decide.{decLe}
-use native.Mathlib.Nat.{div-add-mod', le-div-iff-mul-le, add-mul-div-right, mul-le-mul-right, div-mul-le-self}
+use native.Mathlib.Nat.{div-add-mod', le-div-iff-mul-le, add-mul-div-right, div-mul-le-self}
 use borrow.Author.Tests.{lt-ltb, le-ltb}
 use Rattle.rules.specs.declared.BatteryString.{BatteryString}
 use Rattle.rules.specs.Demand.{jobs}

@@ -1,112 +1,78 @@
 -- What the checks of a plan give where they find no fault.
---     LawfulString s        the bounds on a string
---     LawfulPlan p          the bounds on a plan, and that H is a common multiple of all T, the least, and at most 100,000
--- Assumes nothing.
-use Prim.Native.Nat.{ℕ, zero, suc, _+_, _%_, _≤_, _<_, zero-le}
-use mathlib.Core.Path.{_≡_, refl, sym, ap, _∙_}
-use mathlib.Core.Bool.{Bool, true, false, not, cond, _&&_}
+use Prim.Native.Nat.{ℕ, suc, _%_, _≤_, _<_, zero-le}
+use mathlib.Core.Path.{_≡_}
+use mathlib.Core.Bool.{true, false, _&&_}
 use mathlib.Core.List.{List, [], _∷_}
 use native.Mathlib.Omega.{arith}
-use native.Mathlib.Nat.{le-refl}
-use borrow.Author.Tests.{leb-true, ltb-false, eqb-true, not-false, le-leb, lt-ltb, le-ltb}
-use lib.Dec.{leb, ltb, eqb}
+use borrow.Author.Tests.{ltb-false, eqb-true, not-false, lt-ltb, le-ltb}
+use lib.Dec.{eqb}
 use Rattle.rules.specs.declared.BatteryString.{BatteryString}
 use Rattle.rules.specs.declared.Plan.{Plan}
-use Rattle.rules.specs.declared.Fault.{Fault}
-use Rattle.rules.specs.declared.Fault.the-variants.{StringCount, OutOfBounds, MultipleOver}
-use Rattle.rules.specs.declared.Checked.{Checked}
-use Rattle.rules.specs.declared.Checked.the-variants.{Lawful, Refused}
-use Rattle.rules.specs.Count.{leastFrom}
-use Rattle.rules.specs.Plan.{stringsOf, inBounds, stringLawful, commonMultiple, multipleOf}
-use Rattle.rules.specs.Refusal.{then, refuseIf, countCheck, numbersCheck, stringsCheck, multipleCheck, planCheck}
-use Rattle.laws.proofs.Lists.{All, all-map, every-all, by-bool, true-not-false, and-left, and-right, and-both}
-use Rattle.laws.proofs.Least.{leastFrom-low, leastFrom-passes, leastFrom-before, leastFrom-unique, leastFrom-none}
-
--- ---- Checks
-
--- a refusal is no Lawful
-pub refused-not-lawful : (f : Fault) (at : ℕ) → Refused f at ≡ Lawful → ⊥
-refused-not-lawful f at h =
-    let z : _≡_ {A = ℕ} 0 1 = cc in
-    omega arith
-
-pub then-first : (a b : Checked) → then a b ≡ Lawful → a ≡ Lawful
-then-first Lawful b h = refl
-then-first (Refused f at) b h = h
-
-pub then-second : (a b : Checked) → then a b ≡ Lawful → b ≡ Lawful
-then-second Lawful b h = h
-then-second (Refused f at) b h = absurd (refused-not-lawful f at h)
-
-pub then-lawful : (a b : Checked) → a ≡ Lawful → then a b ≡ b
-then-lawful a b h = ap (λ v. then v b) h
-
-pub then-refused : (a b : Checked) (f : Fault) (at : ℕ) → a ≡ Refused f at → then a b ≡ Refused f at
-then-refused a b f at h = ap (λ v. then v b) h
-
-pub then-assoc : (a b d : Checked) → then (then a b) d ≡ then a (then b d)
-then-assoc Lawful b d = refl
-then-assoc (Refused f at) b d = refl
-
-pub refuseIf-not : (bad : Bool) (f : Fault) (at : ℕ) → refuseIf bad f at ≡ Lawful → bad ≡ false
-refuseIf-not true f at h = absurd (refused-not-lawful f at h)
-refuseIf-not false f at h = refl
-
-pub inBounds-low : (low v high : ℕ) → inBounds low v high ≡ true → low ≤ v
-inBounds-low low v high h = leb-true low v (and-left (leb low v) (leb v high) h)
-
-pub inBounds-high : (low v high : ℕ) → inBounds low v high ≡ true → v ≤ high
-inBounds-high low v high h = leb-true v high (and-right (leb low v) (leb v high) h)
-
-pub inBounds-yes : (low v high : ℕ) → low ≤ v → v ≤ high → inBounds low v high ≡ true
-inBounds-yes low v high h k = and-both (leb low v) (leb v high) (le-leb low v h) (le-leb v high k)
-
-pub inBounds-not : (low v high : ℕ) → (low ≤ v → v ≤ high → ⊥) → inBounds low v high ≡ false
-inBounds-not low v high out =
-    by-bool (inBounds low v high)
-    (λ t. absurd (out (inBounds-low low v high t) (inBounds-high low v high t)))
-    (λ e. e)
+use Rattle.faults.specs.declared.Fault.the-variants.{StringCount, OutOfBounds, MultipleOver}
+use Rattle.faults.specs.declared.Checked.the-variants.{Lawful, Refused}
+use Rattle.rules.specs.Plan.{stringsOf, noString, stringLawful, commonMultiple, multipleOf}
+use Rattle.rules.specs.Demand.{movingCost}
+use Rattle.faults.specs.Checks.{inBounds, then}
+use Rattle.faults.proofs.Checks.{refused-not-lawful, then-first, then-second, refuseIf-not}
+use Rattle.faults.proofs.Checks.{inBounds-low, inBounds-high, inBounds-yes, inBounds-not}
+use Rattle.rules.specs.Refusal.{countCheck, numbersCheck, headCheck, stringsCheck, multipleCheck, planCheck}
+use Rattle.lists.proofs.Lists.{All, all-map, every-all, by-bool, and-left, and-right}
+use Rattle.lists.proofs.Least.{leastFrom-low, leastFrom-passes, leastFrom-before, leastFrom-unique, leastFrom-none}
+pub use Rattle.laws.specs.Lawful.{LawfulString, LawfulPlan, PlanString}
 
 -- ---- n, A and N
 
-pub countCheck-good : (p : Plan) → 1 ≤ p .n → p .n ≤ 10 → countCheck p ≡ Lawful
-unfolding countCheck
-countCheck-good p h k = rw (inBounds-yes 1 (p .n) 10 h k)
+pub record LawfulHead (n a run : ℕ) : Type 0 where
+  pub nPos : 1 ≤ n
+  pub nMax : n ≤ 10
+  pub aMax : a ≤ 1000
+  pub runPos : 1 ≤ run
+  pub runMax : run ≤ 1000000
 
-pub countCheck-bad : (p : Plan) → (1 ≤ p .n → p .n ≤ 10 → ⊥) → countCheck p ≡ Refused StringCount 0
-unfolding countCheck
-countCheck-bad p out = rw (inBounds-not 1 (p .n) 10 out)
+-- what the check says does not depend on the place it reports at
+module _ (at n a run : ℕ) where
+  pub headCheck-lawful : headCheck at n a run ≡ Lawful → LawfulHead n a run
+  unfolding countCheck numbersCheck
+  headCheck-lawful h =
+      let A = inBounds 0 a 1000 in
+      let N = inBounds 1 run 1000000 in
+      let count = not-false _ (refuseIf-not _ _ _ (then-first (countCheck at n) (numbersCheck at a run) h)) in
+      let numbers = not-false _ (refuseIf-not _ _ _ (then-second (countCheck at n) (numbersCheck at a run) h)) in
+      record {
+        nPos = inBounds-low 1 n 10 count;
+        nMax = inBounds-high 1 n 10 count;
+        aMax = inBounds-high 0 a 1000 (and-left A N numbers);
+        runPos = inBounds-low 1 run 1000000 (and-right A N numbers);
+        runMax = inBounds-high 1 run 1000000 (and-right A N numbers);
+      }
 
-pub countCheck-high : (p : Plan) → countCheck p ≡ Lawful → p .n ≤ 10
-unfolding countCheck
-countCheck-high p h = inBounds-high 1 (p .n) 10 (not-false _ (refuseIf-not _ _ _ h))
+  pub headCheck-good : LawfulHead n a run → headCheck at n a run ≡ Lawful
+  unfolding countCheck numbersCheck
+  headCheck-good h =
+      rw (
+        inBounds-yes 1 n 10 (h .nPos) (h .nMax),
+        inBounds-yes 0 a 1000 zero-le (h .aMax),
+        inBounds-yes 1 run 1000000 (h .runPos) (h .runMax),
+      )
 
-pub numbersCheck-good : (p : Plan) → p .a .0 ≤ 1000 → 1 ≤ p .run .0 → p .run .0 ≤ 1000000 → numbersCheck p ≡ Lawful
-unfolding numbersCheck
-numbersCheck-good p a h k = rw (inBounds-yes 0 (p .a .0) 1000 zero-le a, inBounds-yes 1 (p .run .0) 1000000 h k)
+  pub headCheck-count : (1 ≤ n → n ≤ 10 → ⊥) → headCheck at n a run ≡ Refused StringCount at
+  unfolding countCheck
+  headCheck-count out = rw (inBounds-not 1 n 10 out)
 
-pub numbersCheck-bad : (p : Plan) → (p .a .0 ≤ 1000 → 1 ≤ p .run .0 → p .run .0 ≤ 1000000 → ⊥) → numbersCheck p ≡ Refused OutOfBounds 0
-unfolding numbersCheck
-numbersCheck-bad p out =
-    let A = inBounds 0 (p .a .0) 1000 in
-    let N = inBounds 1 (p .run .0) 1000000 in
-    by-bool (A && N)
-    (λ t.
-    absurd
-    (out (inBounds-high 0 (p .a .0) 1000 (and-left A N t)) (inBounds-low 1 (p .run .0) 1000000 (and-right A N t))
-    (inBounds-high 1 (p .run .0) 1000000 (and-right A N t))))
-    (λ e. rw e)
+  pub headCheck-numbers : 1 ≤ n → n ≤ 10 → (a ≤ 1000 → 1 ≤ run → run ≤ 1000000 → ⊥) → headCheck at n a run ≡ Refused OutOfBounds at
+  unfolding countCheck numbersCheck
+  headCheck-numbers low high out =
+      let A = inBounds 0 a 1000 in
+      let N = inBounds 1 run 1000000 in
+      rw (inBounds-yes 1 n 10 low high)
+      (by-bool (A && N)
+      (λ t.
+      absurd
+      (out (inBounds-high 0 a 1000 (and-left A N t)) (inBounds-low 1 run 1000000 (and-right A N t))
+      (inBounds-high 1 run 1000000 (and-right A N t))))
+      (λ e. rw e))
 
 -- ---- A string
-
-pub record LawfulString (s : BatteryString) : Type 0 where
-  pub tPos : 1 ≤ s .t .0
-  pub tMax : s .t .0 ≤ 1000
-  pub dPos : 1 ≤ s .d .0
-  pub dMax : s .d .0 ≤ s .t .0
-  pub cPos : 1 ≤ s .c .0
-  pub cMax : s .c .0 ≤ s .d .0
-  pub xMax : s .x ≤ 1
 
 pub stringLawful-is : (s : BatteryString) → stringLawful s ≡ true → LawfulString s
 unfolding stringLawful
@@ -154,17 +120,14 @@ stringsCheck-all k (s ∷ ss) h =
 
 -- ---- A plan
 
-pub record LawfulPlan (p : Plan) : Type 0 where
-  pub nPos : 1 ≤ p .n
-  pub nMax : p .n ≤ 10
-  pub aMax : p .a .0 ≤ 1000
-  pub runPos : 1 ≤ p .run .0
-  pub runMax : p .run .0 ≤ 1000000
-  pub each : All LawfulString (stringsOf p)
-  pub hPos : 1 ≤ multipleOf p
-  pub hMax : multipleOf p ≤ 100000
-  pub hWhole : All (λ s. multipleOf p % s .t .0 ≡ 0) (stringsOf p)
-  pub hLeast : (k : ℕ) → 1 ≤ k → k < multipleOf p → commonMultiple (stringsOf p) k ≡ false
+pub plan-strings : (p : Plan) → LawfulPlan p → All (PlanString p) (stringsOf p)
+unfolding movingCost
+plan-strings p ok = all-map LawfulString (PlanString p) (λ s h. record { lawful = h; costMax = ok .aMax }) (stringsOf p) (ok .each)
+
+-- where no string is, nothing is paid that a string would not
+pub noString-cost : (p : Plan) → LawfulPlan p → movingCost p noString ≤ 1000
+unfolding movingCost
+noString-cost p ok = ok .aMax
 
 pub commonMultiple-whole : (ss : List BatteryString) (h : ℕ) → commonMultiple ss h ≡ true → All (λ s. h % s .t .0 ≡ 0) ss
 unfolding commonMultiple
@@ -185,7 +148,8 @@ unfolding multipleOf
 multipleOf-least p k h m = leastFrom-before (commonMultiple (stringsOf p)) 1 100000 k h m
 
 -- a common multiple within the bound before which there is none is H; where there is none, 100,001 stands
-pub multipleOf-found : (p : Plan) (h : ℕ) → 1 ≤ h → h ≤ 100000 → commonMultiple (stringsOf p) h ≡ true → ((k : ℕ) → 1 ≤ k → k < h → commonMultiple (stringsOf p) k ≡ false) → multipleOf p ≡ h
+pub multipleOf-found : (p : Plan) (h : ℕ) → 1 ≤ h → h ≤ 100000 → commonMultiple (stringsOf p) h ≡ true
+    → ((k : ℕ) → 1 ≤ k → k < h → commonMultiple (stringsOf p) k ≡ false) → multipleOf p ≡ h
 unfolding multipleOf
 multipleOf-found p h low high t before = leastFrom-unique (commonMultiple (stringsOf p)) 1 100000 h low (omega arith) t before
 
@@ -193,32 +157,35 @@ pub multipleOf-over : (p : Plan) → ((k : ℕ) → 1 ≤ k → k < 100001 → c
 unfolding multipleOf
 multipleOf-over p before = leastFrom-none (commonMultiple (stringsOf p)) 1 100000 before
 
-pub multipleCheck-good : (p : Plan) → multipleOf p ≤ 100000 → multipleCheck p ≡ Lawful
-unfolding multipleCheck
-multipleCheck-good p h = rw (le-ltb 100000 (multipleOf p) h)
+module _ (at : ℕ) (p : Plan) where
+  pub multipleCheck-good : multipleOf p ≤ 100000 → multipleCheck at p ≡ Lawful
+  unfolding multipleCheck
+  multipleCheck-good h = rw (le-ltb 100000 (multipleOf p) h)
 
-pub multipleCheck-bad : (p : Plan) → 100000 < multipleOf p → multipleCheck p ≡ Refused MultipleOver 0
-unfolding multipleCheck
-multipleCheck-bad p h = rw (lt-ltb 100000 (multipleOf p) h)
+  pub multipleCheck-bad : 100000 < multipleOf p → multipleCheck at p ≡ Refused MultipleOver at
+  unfolding multipleCheck
+  multipleCheck-bad h = rw (lt-ltb 100000 (multipleOf p) h)
+
+  pub multipleCheck-small : multipleCheck at p ≡ Lawful → multipleOf p ≤ 100000
+  unfolding multipleCheck
+  multipleCheck-small h = ltb-false 100000 (multipleOf p) (refuseIf-not _ _ _ h)
 
 pub planCheck-lawful : (p : Plan) → planCheck p ≡ Lawful → LawfulPlan p
-unfolding planCheck countCheck numbersCheck multipleCheck
+unfolding planCheck
 planCheck-lawful p h =
-    let strings = then (stringsCheck 1 (stringsOf p)) (multipleCheck p) in
-    let count = not-false _ (refuseIf-not _ _ _ (then-first (countCheck p) (then (numbersCheck p) strings) h)) in
-    let after = then-second (countCheck p) (then (numbersCheck p) strings) h in
-    let numbers = not-false _ (refuseIf-not _ _ _ (then-first (numbersCheck p) strings after)) in
-    let a = and-left (inBounds 0 (p .a .0) 1000) (inBounds 1 (p .run .0) 1000000) numbers in
-    let run = and-right (inBounds 0 (p .a .0) 1000) (inBounds 1 (p .run .0) 1000000) numbers in
-    let body = then-second (numbersCheck p) strings after in
-    let high : multipleOf p ≤ 100000 = ltb-false 100000 (multipleOf p) (refuseIf-not _ _ _ (then-second (stringsCheck 1 (stringsOf p)) (multipleCheck p) body)) in
+    let heading = headCheck 0 (p .n) (p .a .0) (p .run .0) in
+    let strings = stringsCheck 1 (stringsOf p) in
+    let multiple = multipleCheck 0 p in
+    let head = headCheck-lawful 0 (p .n) (p .a .0) (p .run .0) (then-first heading (then strings multiple) h) in
+    let body = then-second heading (then strings multiple) h in
+    let high = multipleCheck-small 0 p (then-second strings multiple body) in
     record {
-      nPos = inBounds-low 1 (p .n) 10 count;
-      nMax = inBounds-high 1 (p .n) 10 count;
-      aMax = inBounds-high 0 (p .a .0) 1000 a;
-      runPos = inBounds-low 1 (p .run .0) 1000000 run;
-      runMax = inBounds-high 1 (p .run .0) 1000000 run;
-      each = stringsCheck-all 1 (stringsOf p) (then-first (stringsCheck 1 (stringsOf p)) (multipleCheck p) body);
+      nPos = head .nPos;
+      nMax = head .nMax;
+      aMax = head .aMax;
+      runPos = head .runPos;
+      runMax = head .runMax;
+      each = stringsCheck-all 1 (stringsOf p) (then-first strings multiple body);
       hPos = multipleOf-pos p;
       hMax = high;
       hWhole = commonMultiple-whole (stringsOf p) (multipleOf p) (multipleOf-common p high);

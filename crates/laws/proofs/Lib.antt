@@ -1,11 +1,10 @@
 -- Laws of the definitions in `rules`, in the order in which they build on each other.
-pub mod Lists
-pub mod Least
 pub mod Jobs
 pub mod Demand
 pub mod Lawful
+pub mod LawfulChecked
 pub mod Powers
-pub mod Filling
 pub mod Releases
 pub mod ReleaseList
 pub mod Answers
+pub mod Says

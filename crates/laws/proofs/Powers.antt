@@ -1,5 +1,4 @@
 -- The number of permission sets, 2 ^ n for up to ten strings, fits the code's word.
--- Assumes nothing.
 use Prim.Native.Nat.{ℕ, _*_, _%_, _^_, _≤_, _<_}
 use mathlib.Core.Path.{_≡_, ap, _∙_}
 use native.Mathlib.Omega.{arith}

@@ -1,7 +1,6 @@
 -- What a lawful release list gives: each release is within the bounds, and two of one place are at least T days apart.
 --     str p j               the string with index j: the string of place j + 1
 --     Released rs j t       a release of the list is of the place with index j and of day t
--- Assumes nothing.
 use Prim.Native.Nat.{ℕ, zero, suc, _+_, _-_, _≤_, _<_}
 use mathlib.Core.Path.{_≡_, sym, ap, _∙_}
 use mathlib.Core.Bool.{true, false, not, _&&_}
@@ -15,10 +14,11 @@ use lib.ListN.{length, getD, List·getD-eq-default}
 use Rattle.rules.specs.declared.BatteryString.{BatteryString}
 use Rattle.rules.specs.declared.Plan.{Plan}
 use Rattle.rules.specs.declared.Release.{Release}
-use Rattle.rules.specs.Plan.{inBounds, stringsOf, stringAt, noString}
+use Rattle.rules.specs.Plan.{stringsOf, stringAt, noString}
+use Rattle.faults.specs.Checks.{inBounds}
+use Rattle.faults.proofs.Checks.{inBounds-low, inBounds-high}
 use Rattle.rules.specs.Release.{noRelease, tooClose, outOfOrder, releaseLawful, unlawfulFrom, firstUnlawful}
-use Rattle.laws.proofs.Lists.{All, all-map, by-bool, and-left, and-right}
-use Rattle.laws.proofs.Lawful.{inBounds-low, inBounds-high}
+use Rattle.lists.proofs.Lists.{All, all-map, by-bool, and-left, and-right}
 
 abbrev pub str : Plan → ℕ → BatteryString
 str p j = getD (stringsOf p) j noString

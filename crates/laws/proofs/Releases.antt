@@ -1,21 +1,23 @@
 -- Laws of the check of a release list, and what it gives where it finds no fault.
--- Assumes nothing.
-use Prim.Native.Nat.{ℕ, zero, suc, _+_, _≤_, _<_}
+use Prim.Native.Nat.{ℕ, suc, _+_, _≤_, _<_}
 use mathlib.Core.List.{List, [], _∷_}
 use lib.ListN.{length}
-use mathlib.Core.Path.{_≡_, refl, sym, ap, _∙_}
+use mathlib.Core.Path.{_≡_}
 use native.Mathlib.Omega.{arith}
 use lib.Dec.{ltb}
 use borrow.Author.Tests.{lt-ltb, le-ltb, ltb-false}
 use Rattle.rules.specs.declared.Plan.{Plan}
 use Rattle.rules.specs.declared.Release.{Release}
 use Rattle.rules.specs.declared.Releases.{Releases}
-use Rattle.rules.specs.declared.Fault.the-variants.{ReleaseTooMany, ReleaseUnlawful}
-use Rattle.rules.specs.declared.Checked.the-variants.{Lawful, Refused}
+use Rattle.faults.specs.declared.Fault.the-variants.{ReleaseTooMany, ReleaseUnlawful}
+use Rattle.faults.specs.declared.Checked.the-variants.{Lawful, Refused}
 use Rattle.rules.specs.Release.{releasesOf, releaseLawful, unlawfulFrom, firstUnlawful}
-use Rattle.rules.specs.Refusal.{then, refuseIf, planCheck, releasesCheck, runCheck}
-use Rattle.laws.proofs.Lists.{by-bool}
-use Rattle.laws.proofs.Lawful.{LawfulPlan, planCheck-lawful, then-first, then-second, refuseIf-not}
+use Rattle.rules.specs.Refusal.{planCheck, releasesCheck, runCheck}
+use Rattle.faults.specs.Checks.{then, refuseIf}
+use Rattle.faults.proofs.Checks.{then-first, then-second, refuseIf-not}
+use Rattle.lists.proofs.Lists.{by-bool}
+use Rattle.laws.proofs.Lawful.{planCheck-lawful}
+pub use Rattle.laws.specs.Lawful.{LawfulRun}
 
 pub releasesCheck-many : (p : Plan) (rs : Releases) → 1000 < rs .count → releasesCheck p rs ≡ Refused ReleaseTooMany 1001
 unfolding releasesCheck
@@ -28,12 +30,6 @@ releasesCheck-bad p rs k h e low = rw (le-ltb 1000 (rs .count) h, e, lt-ltb 0 k 
 pub releasesCheck-good : (p : Plan) (rs : Releases) → rs .count ≤ 1000 → firstUnlawful p (releasesOf rs) ≡ 0 → releasesCheck p rs ≡ Lawful
 unfolding releasesCheck
 releasesCheck-good p rs h e = rw (le-ltb 1000 (rs .count) h, e)
-
--- what a lawful input of a run gives
-pub record LawfulRun (p : Plan) (rs : Releases) : Type 0 where
-  pub plan : LawfulPlan p
-  pub few : rs .count ≤ 1000
-  pub none-bad : firstUnlawful p (releasesOf rs) ≡ 0
 
 pub runCheck-lawful : (p : Plan) (rs : Releases) → runCheck p rs ≡ Lawful → LawfulRun p rs
 unfolding runCheck releasesCheck

@@ -1,6 +1,5 @@
 -- The digits of a number, one at a time: the last digit is the remainder by 10, and the digits before it are those of the quotient.
 --     tens k                1 followed by k zeros
--- Assumes nothing.
 use Prim.Native.Nat.{ℕ, zero, suc, _+_, _-_, _*_, _/_, _%_, _^_, _≤_, _<_}
 use mathlib.Core.Path.{_≡_, sym, ap, _∙_}
 use mathlib.Core.List.{List, [], _∷_, _++_, append-assoc}

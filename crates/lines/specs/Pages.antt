@@ -2,12 +2,11 @@
 --     pageOf text           the page that holds a text
 --     textOf page           the text that a page holds
 --     Written page          the page holds its text and nothing else
--- Assumes nothing.
 use Prim.Native.Nat.{ℕ}
 use mathlib.Core.Path.{_≡_}
 use mathlib.Core.List.{List}
 use lib.ListN.{length, take}
-use Rattle.rules.specs.Text.{filled}
+use Rattle.lists.specs.Count.{filled}
 use Rattle.lines.specs.declared.Page.{Page}
 
 unfoldable pub pageOf : List ℕ → Page

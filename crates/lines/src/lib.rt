@@ -4,7 +4,6 @@ mod parts;
 
 use pages::blank;
 use parts::assign_line;
-pub use parts::fault_number;
 use parts::outcome_line;
 use parts::refused_line;
 use parts::verdict_line;

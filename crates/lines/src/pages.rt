@@ -1,8 +1,8 @@
 // A page of text that grows at its end.
 use super::Page;
 ghost use mathlib.Core.Path.{_≡_};
-ghost use mathlib.Core.List.{List, [], _++_};
-ghost use Prim.Native.Nat.{ℕ, _+_, _≤_};
+ghost use mathlib.Core.List.{[], _++_};
+ghost use Prim.Native.Nat.{_+_, _≤_};
 ghost use lib.ListN.{length};
 ghost use Rattle.rules.specs.Lines.{decimal};
 ghost use Rattle.lines.specs.Pages.{pageOf, textOf, Written};

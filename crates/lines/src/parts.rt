@@ -5,32 +5,16 @@ use super::pages::append_count;
 use super::pages::append_place;
 use days::Day;
 use days::Length;
+use faults::Fault;
+use faults::fault_number;
 use rules::Assign;
-use rules::Fault;
 use rules::Outcome;
 use rules::Verdict;
 ghost use mathlib.Core.Path.{_≡_};
 ghost use mathlib.Core.List.{_++_};
 ghost use Prim.Native.Nat.{_+_, _≤_};
-ghost use Rattle.rules.specs.Refusal.{faultNumber};
 ghost use Rattle.rules.specs.Lines.{refusedLine, verdictLine, assignLine, outcomeLine};
 ghost use Rattle.lines.specs.Pages.{pageOf, textOf, Written};
-
-// The number that document 01 gives a fault.
-pub fn fault_number(f: Fault) -> u32
-    ensures exact { λ r. ⌜ r ≡ faultNumber f ⌝ }
-{
-    match f {
-        Fault::TextTooLong => 1,
-        Fault::LineMalformed => 2,
-        Fault::FrameWrong => 3,
-        Fault::StringCount => 4,
-        Fault::OutOfBounds => 5,
-        Fault::MultipleOver => 6,
-        Fault::ReleaseTooMany => 7,
-        Fault::ReleaseUnlawful => 8,
-    }
-}
 
 pub(crate) fn refused_line(page: Page, fault: Fault, at: usize) -> Page
     requires { ⌜ Written page ⌝ }

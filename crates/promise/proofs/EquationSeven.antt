@@ -1,30 +1,27 @@
 -- With the source's equation 7 as printed, demand 3 is false: P5 passes under it at every interval, and P6, a lawful list for the same plan, misses.
 -- So the theorem could not be proved with C in the blocking limit.
--- Assumes nothing.
-use Prim.Native.Nat.{ℕ, zero, suc, _+_, _-_, _≤_, _<_}
-use mathlib.Core.Path.{_≡_, refl, sym, ap, _∙_}
-use mathlib.Core.Bool.{Bool, true, false, _&&_}
+use Prim.Native.Nat.{ℕ, suc, _+_, _-_, _≤_}
+use mathlib.Core.Path.{_≡_, refl, ap}
+use mathlib.Core.Bool.{Bool, true, false}
 use mathlib.Core.List.{List, [], _∷_}
 use native.Mathlib.Omega.{arith}
 use borrow.Author.Tests.{le-ltb, leb-true}
-use lib.Dec.{leb, ltb}
-use lib.ListN.{length, getD}
-use Rattle.days.specs.Days.{day}
+use lib.Dec.{leb}
+use lib.ListN.{getD}
 use Rattle.rules.specs.declared.Plan.{Plan}
 use Rattle.rules.specs.declared.Release.{Release}
-use Rattle.rules.specs.declared.Checked.the-variants.{Lawful}
-use Rattle.rules.specs.declared.Outcome.the-variants.{Miss}
-use Rattle.rules.specs.Count.{sumOf, largest, smallest, smallestWith, every, upFrom, leastFrom}
+use Rattle.faults.specs.declared.Checked.the-variants.{Lawful}
+use Rattle.rules.specs.Said.{miss, outcomeSays}
+use Rattle.lists.specs.Count.{sumOf, largest, smallest, smallestWith, every, upFrom, leastFrom}
 use Rattle.rules.specs.Plan.{stringLawful, commonMultiple, multipleOf, dMin, dMax}
 use Rattle.rules.specs.Demand.{movingCost, holdOf, jobs, need, demand, load, overloaded}
 use Rattle.rules.specs.Search.{permit, withSet}
-use Rattle.rules.specs.Release.{tooClose, outOfOrder, releaseLawful, unlawfulFrom, firstUnlawful}
-use Rattle.rules.specs.Refusal.{countCheck, numbersCheck, stringsCheck, multipleCheck, planCheck, releasesCheck, runCheck, runAnswer}
+use Rattle.rules.specs.Refusal.{countCheck, numbersCheck, stringsCheck, multipleCheck, planCheck, runAnswer}
 use Rattle.rules.proofs.Worked.{string, plan, release, releases, five, row, table, answered, worked}
 use Rattle.rules.proofs.Worked as page
-use Rattle.laws.proofs.Lists.{All, by-bool, every-all}
+use Rattle.lists.proofs.Lists.{by-bool, every-all}
 use Rattle.laws.proofs.Lawful.{planCheck-lawful}
-use Rattle.horizon.proofs.Order.{upFrom-all}
+use Rattle.lists.proofs.Order.{upFrom-all}
 use Rattle.horizon.proofs.Range.{range-suffices-for}
 use Rattle.promise.specs.Equation7.{blockerWork, printedLimit, PassesAsPrinted}
 
@@ -83,8 +80,8 @@ passes-as-printed = range-suffices-for p5 (planCheck-lawful p5 p5-lawful) (print
 
 -- ---- and P6 misses
 
-pub misses-all-the-same : runAnswer p5 (releases p6) ≡ Miss (day 8) 1
+pub misses-all-the-same : outcomeSays (runAnswer p5 (releases p6)) ≡ miss 8 1
 unfolding p5 p6 table row answered
 misses-all-the-same =
-    let e = ap (λ rows. getD rows 5 (page.Answer.written [])) worked in
+    let e = ap (λ rows. getD rows 6 (page.Answer.written [])) worked in
     cc

@@ -1,7 +1,9 @@
--- The user's demands, over the answers. UserWords: demand 2; ReadLawful, NeverMisses: demand 3; ShutOut, OnlyOne: what the promises rule out.
+-- The user's demands, of what the code answered. UserWords: demand 2. ReadLawful, NeverMisses: demand 3. ThreeLines: what a file's answer can hold.
+-- ShutOut, OnlyOne: what the contracts rule out. EquationSeven: what the source printed.
 pub mod UserWords
 pub mod ReadLawful
 pub mod NeverMisses
+pub mod ThreeLines
 pub mod ShutOut
 pub mod OnlyOne
 pub mod EquationSeven

@@ -1,111 +1,177 @@
--- Demand 3 over the answers: what said pass cannot say miss, by numbers and for a file, and each job has had its days.
--- The code's answers equal these definitions by their contracts, so this speaks of the code.
--- Assumes nothing.
-use Prim.Native.Nat.{ℕ, _+_, _-_, _≤_}
+-- Demand 3 of the code's own answers: what said pass cannot say miss, and each job has had its days. `Learnt` is what a function's contract says of its
+-- answer. By numbers; with a permission set; with the set that the search found; and for a text.
+use Prim.Native.Nat.{ℕ, _+_, _≤_}
 use mathlib.Core.Path.{_≡_, refl, sym, ap, _∙_}
-use mathlib.Core.Bool.{Bool, true, false, cond}
+use mathlib.Core.Bool.{true}
 use mathlib.Core.List.{List}
 use native.Mathlib.Omega.{arith}
-use lib.ListN.{length, getD}
-use Rattle.days.specs.declared.Day.{Day}
-use Rattle.days.specs.declared.Length.{Length}
-use Rattle.rules.specs.declared.Fault.{Fault}
+use native.Mathlib.Nat.{le-refl}
+use lib.ListN.{length}
+use contract.Lifetimes.{Lfts}
+use Rattle.days.specs.Days.{day}
+use Rattle.faults.specs.declared.Fault.{Fault}
+use Rattle.faults.specs.declared.Checked.{Checked}
+use Rattle.faults.specs.declared.Checked.the-variants as checked
 use Rattle.rules.specs.declared.Plan.{Plan}
-use Rattle.rules.specs.declared.Release.{Release}
 use Rattle.rules.specs.declared.Releases.{Releases}
-use Rattle.rules.specs.declared.Reading.{Reading}
-use Rattle.rules.specs.declared.Checked.{Checked}
-use Rattle.rules.specs.declared.Checked.the-variants as checked
 use Rattle.rules.specs.declared.Verdict.{Verdict}
-use Rattle.rules.specs.declared.Verdict.the-variants as verdict
+use Rattle.rules.specs.declared.Verdict.the-variants as verdict-is
 use Rattle.rules.specs.declared.Assign.{Assign}
 use Rattle.rules.specs.declared.Outcome.{Outcome}
-use Rattle.rules.specs.declared.Outcome.the-variants as outcome
+use Rattle.rules.specs.declared.Outcome.the-variants as outcome-is
 use Rattle.rules.specs.declared.Answer.{Answer}
-use Rattle.rules.specs.declared.Answer.the-variants as answer
-use Rattle.rules.specs.Plan.{stringAt}
-use Rattle.rules.specs.Demand.{Passes, movingCost}
+use Rattle.rules.specs.declared.Answer.the-variants as answer-is
+use Rattle.rules.specs.Demand.{Passes}
 use Rattle.rules.specs.Verdict.{verdictOf, isPass}
-use Rattle.rules.specs.Count.{countOf}
-use Rattle.rules.specs.Release.{releasesOf, noRelease}
-use Rattle.rules.specs.Run.{history, daysOf, isWork, isMove, isIdle}
-use Rattle.rules.specs.Refusal.{onVerdict, planCheck, runCheck, verdictAnswer, searchAnswer, runAnswer}
+use Rattle.rules.specs.Search.{withSet}
+use Rattle.rules.specs.Release.{releasesOf}
+use Rattle.rules.specs.Run.{daysOf, isWork, isMove, isIdle}
+use Rattle.rules.specs.Refusal.{onVerdict, planCheck, setCheck, runCheck, verdictAnswer, searchAnswer, runAnswer}
 use Rattle.rules.specs.Text.{readingOf}
 use Rattle.rules.specs.Answer.{answered, answerOf}
-use Rattle.laws.proofs.Lawful.{LawfulPlan, planCheck-lawful}
+use Rattle.rules.specs.Said.{pass, takers, miss, clean, verdictSays, assignSays, outcomeSays}
+use Rattle.laws.specs.Lawful.{LawfulRun}
+use Rattle.laws.proofs.Lawful.{planCheck-lawful}
 use Rattle.laws.proofs.Answers.{run-refused}
-use Rattle.laws.proofs.Releases.{LawfulRun, runCheck-lawful}
-use Rattle.horizon.proofs.Verdict.{pass-passes, passes-pass}
-use Rattle.sound.specs.Served.{worksFor, movesFor, paid}
+use Rattle.laws.proofs.Says.{says-pass, says-takers, says-miss}
+use Rattle.laws.proofs.Releases.{runCheck-lawful}
+use Rattle.horizon.proofs.Verdict.{pass-passes}
+use Rattle.sets.specs.BestSet.{BestSet}
+use Rattle.sound.specs.Served.{released, dueOf, Served}
 use Rattle.sound.proofs.Answers.{never-misses}
 use Rattle.sound.proofs.Served.{served}
+use Rattle.verdict.proofs.verdict.Reads as verdict
+use Rattle.verdict.proofs.verdict_with.Reads as verdict-with
+use Rattle.verdict.proofs.search.Reads as search-takers
+use Rattle.run.proofs.run.Reads as run
+use Rattle.answers.proofs.answer.Reads as answer
+use Rattle.promise.specs.NeverMiss.{NeverMiss}
 use Rattle.promise.proofs.ReadLawful.{read-lawful}
+use Rattle.promise.proofs.UserWords.{search-finds, verdict-with-is}
 
--- ---- A verdict of pass means the rule at every interval, and the other way round
+-- ---- A verdict that says pass means the rule at every interval
 
-passed : (c : Checked) (v : Verdict) (k : ℕ) → onVerdict c v ≡ verdict.Pass k → (c ≡ checked.Lawful) × (v ≡ verdict.Pass k)
+passed : (c : Checked) (v : Verdict) (k : ℕ) → onVerdict c v ≡ verdict-is.Pass k → (c ≡ checked.Lawful) × (v ≡ verdict-is.Pass k)
 passed checked.Lawful v k h = (refl, h)
 passed (checked.Refused f at) v k h =
     absurd
     (let z : _≡_ {A = ℕ} 0 1 = cc in
     omega arith)
 
-pub pass-means : (p : Plan) (k : ℕ) → verdictAnswer p ≡ verdict.Pass k → (planCheck p ≡ checked.Lawful) × Passes p
+pass-means : (p : Plan) (k : ℕ) → verdictSays (verdictAnswer p) ≡ pass k → Passes p
 unfolding verdictAnswer isPass
 pass-means p k h =
-    let both = passed (planCheck p) (verdictOf p) k h in
-    (both .0, pass-passes p (planCheck-lawful p (both .0)) (ap isPass (both .1)))
+    let both = passed (planCheck p) (verdictOf p) k (says-pass (verdictAnswer p) k h) in
+    pass-passes p (planCheck-lawful p (both .0)) (ap isPass (both .1))
+
+-- ---- A plan that passes, over any releases
+
+clean-no-miss : (o : Outcome) (t i w m d : ℕ) → outcomeSays o ≡ clean w m d → outcomeSays o ≡ miss t i → ⊥
+clean-no-miss o t i w m d h k =
+    let z : _≡_ {A = ℕ} 0 1 = cc in
+    omega arith
+
+refused-no-miss : (f : Fault) (at : ℕ) (o : Outcome) (t i : ℕ) → o ≡ outcome-is.Refused f at → outcomeSays o ≡ miss t i → ⊥
+refused-no-miss f at o t i h k =
+    let said = ap outcomeSays h in
+    let z : _≡_ {A = ℕ} 0 1 = cc in
+    omega arith
+
+rule-never-misses : (p : Plan) → Passes p → NeverMiss p
+rule-never-misses p passes κs rs e o ran t i said = go (runCheck p rs) refl
+  where
+    go : (c : Checked) → runCheck p rs ≡ c → ⊥
+    go checked.Lawful lawful = clean-no-miss o t i _ _ _ (ap outcomeSays (ran ∙ never-misses p rs lawful passes)) said
+    go (checked.Refused f at) is = refused-no-miss f at o t i (ran ∙ run-refused p rs f at is) said
 
 -- ---- By numbers
 
-module _ (p : Plan) (rs : Releases) (k : ℕ) (said : verdictAnswer p ≡ verdict.Pass k) (lawful : runCheck p rs ≡ checked.Lawful) where
-  pub numbers-never-miss : runAnswer p rs ≡ outcome.Clean (daysOf p (releasesOf rs) isWork) (daysOf p (releasesOf rs) isMove) (daysOf p (releasesOf rs) isIdle)
-  numbers-never-miss = never-misses p rs lawful (pass-means p k said .1)
+module _ (κs : Lfts 0) (p : Plan) (e : _) (v : Verdict) (answered-is : verdict.Learnt κs (p, tt) v e) (k : ℕ) (said : verdictSays v ≡ pass k) where
+  rule : Passes p
+  rule = pass-means p k (ap verdictSays (sym answered-is) ∙ said)
 
-  -- the i-th release has had all its work, and any moving it caused, before its deadline, the day e or an earlier one
-  pub numbers-served : (i e : ℕ) → 1 ≤ i → i ≤ length (releasesOf rs) → getD (releasesOf rs) (i - 1) noRelease .day .0 + stringAt p (getD (releasesOf rs) (i - 1) noRelease .place) .d .0 ≤ e → (countOf (worksFor i) (history p (releasesOf rs) e) ≡ getD (releasesOf rs) (i - 1) noRelease .need .0) × (countOf (movesFor i) (history p (releasesOf rs) e) ≡ cond (paid p (releasesOf rs) i) (movingCost p (stringAt p (getD (releasesOf rs) (i - 1) noRelease .place))) 0)
-  numbers-served i e low high due =
-      let run = runCheck-lawful p rs lawful in
-      served p (releasesOf rs) (run .plan) (run .none-bad) (pass-means p k said .1) i e low high due
+  -- what said pass never says miss, whatever is released
+  pub pass-never-misses : NeverMiss p
+  pass-never-misses = rule-never-misses p rule
 
--- what said pass by its contract cannot say miss by its contract
-clean-no-miss : (w m d : Length) (t : Day) (i : ℕ) → outcome.Clean w m d ≡ outcome.Miss t i → ⊥
-clean-no-miss w m d t i h =
-    let z : _≡_ {A = ℕ} 0 1 = cc in
-    omega arith
+  -- over lawful releases the run ends clean
+  pub pass-runs-clean : (rs : Releases) (f : _) (o : Outcome) → run.Learnt κs (p, (rs, tt)) o f → runCheck p rs ≡ checked.Lawful
+      → (w : ℕ) × ((m : ℕ) × ((i : ℕ) × (outcomeSays o ≡ clean w m i)))
+  pass-runs-clean rs f o ran lawful = (_, (_, (_, ap outcomeSays (ran ∙ never-misses p rs lawful rule))))
 
-refused-no-miss : (f : Fault) (at : ℕ) (t : Day) (i : ℕ) → outcome.Refused f at ≡ outcome.Miss t i → ⊥
-refused-no-miss f at t i h =
-    let z : _≡_ {A = ℕ} 0 1 = cc in
-    omega arith
+  module _ (rs : Releases) (lawful : runCheck p rs ≡ checked.Lawful) (i : ℕ) (low : 1 ≤ i) (high : i ≤ length (releasesOf rs)) where
+    -- the i-th release has had all its work, and any moving it caused, before its deadline, and no other day later
+    pub pass-served : (d : ℕ) → dueOf p (released (releasesOf rs) i) ≤ d → Served p (releasesOf rs) i d
+    pass-served d due =
+        let run-is = runCheck-lawful p rs lawful in
+        served p (releasesOf rs) (run-is .plan) (run-is .none-bad) rule i d low high due
 
-pub answers-never-miss : (p : Plan) (rs : Releases) (v : Verdict) (o : Outcome) → v ≡ verdictAnswer p → o ≡ runAnswer p rs → (k : ℕ) → v ≡ verdict.Pass k → (t : Day) (i : ℕ) → o ≡ outcome.Miss t i → ⊥
-answers-never-miss p rs v o ev eo k pass t i miss = go (runCheck p rs) refl
-  where
-    go : (c : Checked) → runCheck p rs ≡ c → ⊥
-    go checked.Lawful e = clean-no-miss _ _ _ t i (sym (numbers-never-miss p rs k (sym ev ∙ pass) e) ∙ sym eo ∙ miss)
-    go (checked.Refused f at) e = refused-no-miss f at t i (sym (run-refused p rs f at e) ∙ sym eo ∙ miss)
+    -- in the user's words: each job whose deadline is day N or earlier has had them in the run, before its deadline
+    pub pass-served-in-run : dueOf p (released (releasesOf rs) i) ≤ p .run .0
+        → Served p (releasesOf rs) i (dueOf p (released (releasesOf rs) i)) × Served p (releasesOf rs) i (p .run .0)
+    pass-served-in-run due = (pass-served (dueOf p (released (releasesOf rs) i)) (le-refl _), pass-served (p .run .0) due)
 
--- ---- For a file
+-- ---- With a permission set, given or found
 
-refused-not-answered : (f : Fault) (at : ℕ) (v : Verdict) (a : Assign) (o : Outcome) → answer.Refused f at ≡ answer.Answered v a o → ⊥
+pub set-never-misses : (κs : Lfts 0) (p : Plan) (m : ℕ) (e : _) (v : Verdict) → verdict-with.Learnt κs (p, (m, tt)) v e → setCheck p m ≡ checked.Lawful
+    → (k : ℕ) → verdictSays v ≡ pass k → NeverMiss (withSet p m)
+set-never-misses κs p m e v answered-is ok k said =
+    rule-never-misses (withSet p m) (pass-means (withSet p m) k (ap verdictSays (sym (verdict-with-is κs p m e v answered-is ok)) ∙ said))
+
+pub found-never-misses : (κs : Lfts 0) (p : Plan) (e : _) (a : Assign) → search-takers.Learnt κs (p, tt) a e → planCheck p ≡ checked.Lawful
+    → (m : ℕ) → assignSays a ≡ takers m → NeverMiss (withSet p m)
+found-never-misses κs p e a answered-is ok m said =
+    rule-never-misses (withSet p m) (search-finds κs p e a answered-is ok m .0 said .passes)
+
+-- ---- For a text
+
+refused-not-answered : (f : Fault) (at : ℕ) (v : Verdict) (a : Assign) (o : Outcome) → answer-is.Refused f at ≡ answer-is.Answered v a o → ⊥
 refused-not-answered f at v a o h =
     let z : _≡_ {A = ℕ} 0 1 = cc in
     omega arith
 
 -- an answer with three lines comes of a reading that is lawful, and each line is that entry's
-pub answered-parts : (text : List ℕ) (v : Verdict) (a : Assign) (o : Outcome) → answerOf text ≡ answer.Answered v a o → (readingOf text .checked ≡ checked.Lawful) × (verdictAnswer (readingOf text .plan) ≡ v) × (searchAnswer (readingOf text .plan) ≡ a) × (runAnswer (readingOf text .plan) (readingOf text .releases) ≡ o)
+pub record Parts (text : List ℕ) (v : Verdict) (a : Assign) (o : Outcome) : Type 0 where
+  pub lawful : readingOf text .checked ≡ checked.Lawful
+  pub verdict-is : verdictAnswer (readingOf text .plan) ≡ v
+  pub assign-is : searchAnswer (readingOf text .plan) ≡ a
+  pub outcome-is : runAnswer (readingOf text .plan) (readingOf text .releases) ≡ o
+
+pub answered-parts : (text : List ℕ) (v : Verdict) (a : Assign) (o : Outcome) → answerOf text ≡ answer-is.Answered v a o → Parts text v a o
 unfolding answerOf answered
 answered-parts text v a o h = go (readingOf text .checked) refl
   where
-    go : (c : Checked) → readingOf text .checked ≡ c → (readingOf text .checked ≡ checked.Lawful) × (verdictAnswer (readingOf text .plan) ≡ v) × (searchAnswer (readingOf text .plan) ≡ a) × (runAnswer (readingOf text .plan) (readingOf text .releases) ≡ o)
+    go : (c : Checked) → readingOf text .checked ≡ c → Parts text v a o
     go checked.Lawful e =
         let same = sym (ap (λ c. answered c (readingOf text)) e) ∙ h in
-        (e, cc, cc, cc)
+        record { lawful = e; verdict-is = cc; assign-is = cc; outcome-is = cc }
     go (checked.Refused f at) e = absurd (refused-not-answered f at v a o (sym (ap (λ c. answered c (readingOf text)) e) ∙ h))
 
--- a file whose first line says pass has a clean run
-pub file-never-misses : (text : List ℕ) (k : ℕ) (a : Assign) (o : Outcome) → answerOf text ≡ answer.Answered (verdict.Pass k) a o → o ≡ outcome.Clean (daysOf (readingOf text .plan) (releasesOf (readingOf text .releases)) isWork) (daysOf (readingOf text .plan) (releasesOf (readingOf text .releases)) isMove) (daysOf (readingOf text .plan) (releasesOf (readingOf text .releases)) isIdle)
-file-never-misses text k a o h =
-    let parts = answered-parts text (verdict.Pass k) a o h in
-    sym (parts .3) ∙ numbers-never-miss (readingOf text .plan) (readingOf text .releases) k (parts .1) (read-lawful text (parts .0))
+-- the code answered a text with three lines, of which the first says pass
+module _ (κs : Lfts 1) (lent : _) (e : _) (r : Answer) (answered-is : answer.Learnt κs lent r e) (v : Verdict) (a : Assign) (o : Outcome)
+    (three : r ≡ answer-is.Answered v a o) (k : ℕ) (said : verdictSays v ≡ pass k) where
+  -- what the text writes
+  abbrev pub planOf : Plan
+  planOf = readingOf (lent .0 .now) .plan
+
+  abbrev pub listOf : Releases
+  listOf = readingOf (lent .0 .now) .releases
+
+  parts : Parts (lent .0 .now) v a o
+  parts = answered-parts (lent .0 .now) v a o (sym (answered-is .0) ∙ three)
+
+  file-rule : Passes planOf
+  file-rule = pass-means planOf k (ap verdictSays (parts .verdict-is) ∙ said)
+
+  run-is : LawfulRun planOf listOf
+  run-is = runCheck-lawful planOf listOf (read-lawful (lent .0 .now) (parts .lawful))
+
+  -- its third line says clean
+  pub file-never-misses : (w : ℕ) × ((m : ℕ) × ((i : ℕ) × (outcomeSays o ≡ clean w m i)))
+  file-never-misses =
+      (_, (_, (_, ap outcomeSays (sym (parts .outcome-is) ∙ never-misses planOf listOf (read-lawful (lent .0 .now) (parts .lawful)) file-rule))))
+
+  -- and each of its releases has had all its work, and any moving it caused, before its deadline
+  pub file-served : (i d : ℕ) → 1 ≤ i → i ≤ length (releasesOf listOf) → dueOf planOf (released (releasesOf listOf) i) ≤ d
+      → Served planOf (releasesOf listOf) i d
+  file-served i d low high due = served planOf (releasesOf listOf) (run-is .plan) (run-is .none-bad) file-rule i d low high due

@@ -1,100 +1,98 @@
--- Every public function allows one result: two results that meet its contract are equal. A contract says `r ≡ definition arguments`, so one law
--- serves for all; the list names each function beside its definition. No public function is lent memory that it can write.
--- Assumes nothing.
-use Prim.Native.Nat.{ℕ}
+-- Every public function allows one result: two results that meet its own contract are equal, and so is what it leaves of lent memory. `Learnt` is what
+-- the `ensures` clauses of a function say of its result, so a clause that is weakened or gone is refused here. The test command asks for a line to each.
+--     κs the lifetimes of what is lent; a the arguments; e, f what holds at the return; r, s two results
 use mathlib.Core.Path.{_≡_, sym, _∙_}
-use mathlib.Core.Bool.{Bool}
-use mathlib.Core.List.{List}
-use lib.Dec.{ltb}
-use Rattle.days.specs.declared.Day.{Day}
-use Rattle.days.specs.declared.Length.{Length}
+use contract.Lifetimes.{Lfts}
 use Rattle.days.specs.declared.Later.{Later}
 use Rattle.days.specs.declared.Gap.{Gap}
-use Rattle.days.specs.Days.{laterOf, gapOf}
-use Rattle.rules.specs.declared.BatteryString.{BatteryString}
-use Rattle.rules.specs.declared.Plan.{Plan}
-use Rattle.rules.specs.declared.Releases.{Releases}
-use Rattle.rules.specs.declared.Fault.{Fault}
-use Rattle.rules.specs.declared.Checked.{Checked}
+use mathlib.Core.Bool.{Bool}
+use Prim.Native.Nat.{ℕ}
+use Rattle.faults.specs.declared.Checked.{Checked}
 use Rattle.rules.specs.declared.Reading.{Reading}
 use Rattle.rules.specs.declared.Verdict.{Verdict}
 use Rattle.rules.specs.declared.Assign.{Assign}
 use Rattle.rules.specs.declared.Outcome.{Outcome}
+use Rattle.lines.specs.declared.Page.{Page}
 use Rattle.rules.specs.declared.Answer.{Answer}
-use Rattle.rules.specs.Plan.{stringLawful, multipleOf}
-use Rattle.rules.specs.Release.{releasesOf, firstUnlawful}
-use Rattle.rules.specs.Refusal.{faultNumber, planCheck, setCheck, runCheck, verdictAnswer, setAnswer, searchAnswer, runAnswer}
-use Rattle.rules.specs.Text.{readingOf}
-use Rattle.rules.specs.Answer.{answerOf}
-use Rattle.rules.specs.Lines.{linesFor}
-
-pub only-one {ℓ} : {X : Type ℓ} {r s v : X} → r ≡ v → s ≡ v → r ≡ s
-only-one p q = p ∙ sym q
-
--- what a contract `r ≡ v` of a function allows
-abbrev pub One {ℓ} : {X : Type ℓ} → X → Type ℓ
-One {X = X} v = (r s : X) → r ≡ v → s ≡ v → r ≡ s
-
-one {ℓ} : {X : Type ℓ} (v : X) → One v
-one v r s p q = only-one p q
+use Rattle.days.proofs.Day.plus.Reads as Day-plus
+use Rattle.days.proofs.Day.since.Reads as Day-since
+use Rattle.days.proofs.Day.before.Reads as Day-before
+use Rattle.days.proofs.Length.shorter.Reads as Length-shorter
+use Rattle.faults.proofs.fault_number.Reads as fault-number
+use Rattle.bounds.proofs.string_lawful.Reads as string-lawful
+use Rattle.bounds.proofs.multiple.Reads as multiple
+use Rattle.bounds.proofs.first_unlawful.Reads as first-unlawful
+use Rattle.bounds.proofs.plan_check.Reads as plan-check
+use Rattle.bounds.proofs.set_check.Reads as set-check
+use Rattle.bounds.proofs.run_check.Reads as run-check
+use Rattle.reading.proofs.read.Reads as read
+use Rattle.verdict.proofs.verdict.Reads as verdict
+use Rattle.verdict.proofs.verdict_with.Reads as verdict-with
+use Rattle.verdict.proofs.search.Reads as search-takers
+use Rattle.run.proofs.run.Reads as run
+use Rattle.lines.proofs.written.Reads as written
+use Rattle.answers.proofs.answer.Reads as answer
 
 -- days
-pub Day-plus : (t : Day) (n : Length) → One (laterOf t n)
-Day-plus t n = one (laterOf t n)
+pub one-Day-plus : (κs : Lfts 0) (a : _) (e f : _) (r s : Later) → Day-plus.Learnt κs a r e → Day-plus.Learnt κs a s f → r ≡ s
+one-Day-plus κs a e f r s h k = h ∙ sym k
 
-pub Day-since : (t s : Day) → One (gapOf t s)
-Day-since t s = one (gapOf t s)
+pub one-Day-since : (κs : Lfts 0) (a : _) (e f : _) (r s : Gap) → Day-since.Learnt κs a r e → Day-since.Learnt κs a s f → r ≡ s
+one-Day-since κs a e f r s h k = h ∙ sym k
 
-pub Day-before : (t s : Day) → One (ltb (t .0) (s .0))
-Day-before t s = one (ltb (t .0) (s .0))
+pub one-Day-before : (κs : Lfts 0) (a : _) (e f : _) (r s : Bool) → Day-before.Learnt κs a r e → Day-before.Learnt κs a s f → r ≡ s
+one-Day-before κs a e f r s h k = h ∙ sym k
 
-pub Length-shorter : (m n : Length) → One (ltb (m .0) (n .0))
-Length-shorter m n = one (ltb (m .0) (n .0))
+pub one-Length-shorter : (κs : Lfts 0) (a : _) (e f : _) (r s : Bool) → Length-shorter.Learnt κs a r e → Length-shorter.Learnt κs a s f → r ≡ s
+one-Length-shorter κs a e f r s h k = h ∙ sym k
+
+-- faults
+pub one-fault-number : (κs : Lfts 0) (a : _) (e f : _) (r s : ℕ) → fault-number.Learnt κs a r e → fault-number.Learnt κs a s f → r ≡ s
+one-fault-number κs a e f r s h k = h ∙ sym k
 
 -- bounds
-pub string-lawful : (s : BatteryString) → One (stringLawful s)
-string-lawful s = one (stringLawful s)
+pub one-string-lawful : (κs : Lfts 0) (a : _) (e f : _) (r s : Bool) → string-lawful.Learnt κs a r e → string-lawful.Learnt κs a s f → r ≡ s
+one-string-lawful κs a e f r s h k = h ∙ sym k
 
-pub multiple : (p : Plan) → One (multipleOf p)
-multiple p = one (multipleOf p)
+pub one-multiple : (κs : Lfts 0) (a : _) (e f : _) (r s : ℕ) → multiple.Learnt κs a r e → multiple.Learnt κs a s f → r ≡ s
+one-multiple κs a e f r s h k = h ∙ sym k
 
-pub first-unlawful : (p : Plan) (rs : Releases) → One (firstUnlawful p (releasesOf rs))
-first-unlawful p rs = one (firstUnlawful p (releasesOf rs))
+pub one-first-unlawful : (κs : Lfts 0) (a : _) (e f : _) (r s : ℕ) → first-unlawful.Learnt κs a r e → first-unlawful.Learnt κs a s f → r ≡ s
+one-first-unlawful κs a e f r s h k = h ∙ sym k
 
-pub plan-check : (p : Plan) → One (planCheck p)
-plan-check p = one (planCheck p)
+pub one-plan-check : (κs : Lfts 0) (a : _) (e f : _) (r s : Checked) → plan-check.Learnt κs a r e → plan-check.Learnt κs a s f → r ≡ s
+one-plan-check κs a e f r s h k = h ∙ sym k
 
-pub set-check : (p : Plan) (m : ℕ) → One (setCheck p m)
-set-check p m = one (setCheck p m)
+pub one-set-check : (κs : Lfts 0) (a : _) (e f : _) (r s : Checked) → set-check.Learnt κs a r e → set-check.Learnt κs a s f → r ≡ s
+one-set-check κs a e f r s h k = h ∙ sym k
 
-pub run-check : (p : Plan) (rs : Releases) → One (runCheck p rs)
-run-check p rs = one (runCheck p rs)
+pub one-run-check : (κs : Lfts 0) (a : _) (e f : _) (r s : Checked) → run-check.Learnt κs a r e → run-check.Learnt κs a s f → r ≡ s
+one-run-check κs a e f r s h k = h ∙ sym k
 
 -- reading
-pub read : (text : List ℕ) → One (readingOf text)
-read text = one (readingOf text)
+pub one-read : (κs : Lfts 1) (a : _) (e f : _) (r s : Reading) → read.Learnt κs a r e → read.Learnt κs a s f
+    → (r ≡ s) × (e .0 .now ≡ f .0 .now)
+one-read κs a e f r s h k = (h .0 ∙ sym (k .0), h .1 ∙ sym (k .1))
 
 -- verdict
-pub verdict : (p : Plan) → One (verdictAnswer p)
-verdict p = one (verdictAnswer p)
+pub one-verdict : (κs : Lfts 0) (a : _) (e f : _) (r s : Verdict) → verdict.Learnt κs a r e → verdict.Learnt κs a s f → r ≡ s
+one-verdict κs a e f r s h k = h ∙ sym k
 
-pub verdict-with : (p : Plan) (m : ℕ) → One (setAnswer p m)
-verdict-with p m = one (setAnswer p m)
+pub one-verdict-with : (κs : Lfts 0) (a : _) (e f : _) (r s : Verdict) → verdict-with.Learnt κs a r e → verdict-with.Learnt κs a s f → r ≡ s
+one-verdict-with κs a e f r s h k = h ∙ sym k
 
-pub search-takers : (p : Plan) → One (searchAnswer p)
-search-takers p = one (searchAnswer p)
+pub one-search : (κs : Lfts 0) (a : _) (e f : _) (r s : Assign) → search-takers.Learnt κs a r e → search-takers.Learnt κs a s f → r ≡ s
+one-search κs a e f r s h k = h ∙ sym k
 
 -- run
-pub run : (p : Plan) (rs : Releases) → One (runAnswer p rs)
-run p rs = one (runAnswer p rs)
+pub one-run : (κs : Lfts 0) (a : _) (e f : _) (r s : Outcome) → run.Learnt κs a r e → run.Learnt κs a s f → r ≡ s
+one-run κs a e f r s h k = h ∙ sym k
 
--- lines, answers
-pub fault-number : (f : Fault) → One (faultNumber f)
-fault-number f = one (faultNumber f)
+-- lines
+pub one-written : (κs : Lfts 0) (a : _) (e f : _) (r s : Page) → written.Learnt κs a r e → written.Learnt κs a s f → r ≡ s
+one-written κs a e f r s h k = h .0 ∙ sym (k .0)
 
--- the page that holds the lines is a function of their text
-pub written {ℓ} : {X : Type ℓ} (page : List ℕ → X) (a : Answer) → One (page (linesFor a))
-written page a = one (page (linesFor a))
-
-pub answer : (text : List ℕ) → One (answerOf text)
-answer text = one (answerOf text)
+-- answers
+pub one-answer : (κs : Lfts 1) (a : _) (e f : _) (r s : Answer) → answer.Learnt κs a r e → answer.Learnt κs a s f
+    → (r ≡ s) × (e .0 .now ≡ f .0 .now)
+one-answer κs a e f r s h k = (h .0 ∙ sym (k .0), h .1 ∙ sym (k .1))

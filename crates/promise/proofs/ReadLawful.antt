@@ -1,30 +1,27 @@
 -- A text that is read is lawful by numbers too: its plan and its releases pass the checks of the entries that take numbers.
 -- So none of the three answers for it is a refusal.
--- Assumes nothing.
-use Prim.Native.Nat.{ℕ, zero, suc, _+_, _-_, _≤_, _<_}
-use mathlib.Core.Path.{_≡_, refl, sym, ap, ap₂, _∙_}
-use mathlib.Core.Bool.{Bool, true, false, not, cond, _&&_}
-use mathlib.Core.List.{List, [], _∷_, _++_, map}
+use Prim.Native.Nat.{ℕ, zero, suc, _+_, _-_, _≤_}
+use mathlib.Core.Path.{_≡_, refl, ap, _∙_}
+use mathlib.Core.Bool.{true, not, _&&_}
+use mathlib.Core.List.{List, [], _∷_, map}
 use native.Mathlib.Omega.{arith}
-use borrow.Author.Tests.{le-ltb, ltb-false, not-false}
+use borrow.Author.Tests.{ltb-false, not-false}
 use lib.Dec.{ltb, eqb}
 use lib.ListN.{length, take, drop, length-map}
 use lib.Seq.{take-at}
-use Rattle.rules.specs.declared.BatteryString.{BatteryString}
 use Rattle.rules.specs.declared.Plan.{Plan}
 use Rattle.rules.specs.declared.Release.{Release}
-use Rattle.rules.specs.declared.Releases.{Releases}
-use Rattle.rules.specs.declared.Reading.{Reading}
-use Rattle.rules.specs.declared.Fault.{Fault}
-use Rattle.rules.specs.declared.Fault.the-variants.{TextTooLong, LineMalformed, FrameWrong, StringCount, OutOfBounds, MultipleOver, ReleaseTooMany, ReleaseUnlawful}
-use Rattle.rules.specs.declared.Checked.{Checked}
-use Rattle.rules.specs.declared.Checked.the-variants.{Lawful, Refused}
-use Rattle.rules.specs.Plan.{stringsOf, inBounds, stringLawful, multipleOf, noString}
-use Rattle.rules.specs.Release.{releasesOf, releaseLawful, unlawfulFrom, firstUnlawful, noRelease}
-use Rattle.rules.specs.Refusal.{then, refuseIf, countCheck, numbersCheck, stringsCheck, multipleCheck, planCheck, releasesCheck, runCheck}
-use Rattle.rules.specs.Text.{Line, linesOf, frameOf, fieldAt, nIn, aIn, runIn, stringOf, releaseOf, filled, planIn, releasesIn, frameCheck, headerCheck, stringLineCheck, stringLinesCheck, releaseLineCheck, releaseLinesCheck, bodyCheck, linesCheck, textCheck, lawfulReading, readingOf}
-use Rattle.laws.proofs.Lists.{by-bool, and-left, and-right, true-not-false}
-use Rattle.laws.proofs.Lawful.{refused-not-lawful, then-first, then-second, then-lawful, refuseIf-not, inBounds-low, inBounds-high, countCheck-good, numbersCheck-good, multipleCheck-good}
+use Rattle.faults.specs.declared.Fault.the-variants.{TextTooLong, FrameWrong, StringCount, OutOfBounds, MultipleOver, ReleaseTooMany, ReleaseUnlawful}
+use Rattle.faults.specs.declared.Checked.{Checked}
+use Rattle.faults.specs.declared.Checked.the-variants.{Lawful, Refused}
+use Rattle.rules.specs.Plan.{stringsOf, stringLawful, multipleOf}
+use Rattle.faults.specs.Checks.{inBounds, then, refuseIf}
+use Rattle.faults.proofs.Checks.{refused-not-lawful, then-first, then-second, then-lawful, refuseIf-not, inBounds-low, inBounds-high}
+use Rattle.rules.specs.Release.{releasesOf, releaseLawful, unlawfulFrom, firstUnlawful}
+use Rattle.rules.specs.Refusal.{headCheck, stringsCheck, planCheck, runCheck}
+use Rattle.rules.specs.Text.{Line, linesOf, frameOf, fieldAt, nIn, aIn, runIn, stringOf, releaseOf, planIn, releasesIn, frameCheck, headerCheck, stringLineCheck, stringLinesCheck, releaseLineCheck, releaseLinesCheck, bodyCheck, linesCheck, textCheck, lawfulReading, readingOf}
+use Rattle.lists.proofs.Lists.{and-left, and-right}
+use Rattle.laws.proofs.Lawful.{headCheck-good, multipleCheck-good}
 use Rattle.laws.proofs.Releases.{releasesCheck-good}
 
 -- ---- The string lines
@@ -139,13 +136,11 @@ module _ (header : Line) (lines : List Line) (h : linesCheck (header ∷ lines) 
       take-at (map stringOf (take (nIn header) lines)) _ (nIn header)
       (length-map (take (nIn header) lines) stringOf ∙ strings-many 2 (nIn header) lines strings-lawful)
 
-  count-lawful : countCheck (planIn (header ∷ lines)) ≡ Lawful
+  head-lawful : headCheck 0 (planIn (header ∷ lines) .n) (planIn (header ∷ lines) .a .0) (planIn (header ∷ lines) .run .0) ≡ Lawful
   unfolding planIn
-  count-lawful = countCheck-good (planIn (header ∷ lines)) (said .nLow) (said .nHigh)
-
-  numbers-lawful : numbersCheck (planIn (header ∷ lines)) ≡ Lawful
-  unfolding planIn
-  numbers-lawful = numbersCheck-good (planIn (header ∷ lines)) (said .aHigh) (said .runLow) (said .runHigh)
+  head-lawful =
+      headCheck-good 0 _ _ _
+      (record { nPos = said .nLow; nMax = said .nHigh; aMax = said .aHigh; runPos = said .runLow; runMax = said .runHigh })
 
   small : multipleOf (planIn (header ∷ lines)) ≤ 100000
   unfolding multiple
@@ -157,10 +152,9 @@ module _ (header : Line) (lines : List Line) (h : linesCheck (header ∷ lines) 
   unfolding planCheck
   plan-lawful =
       let p = planIn (header ∷ lines) in
-      then-lawful (countCheck p) _ count-lawful
-      ∙ then-lawful (numbersCheck p) _ numbers-lawful
+      then-lawful _ _ head-lawful
       ∙ then-lawful (stringsCheck 1 (stringsOf p)) _ (ap (stringsCheck 1) strings-are ∙ strings-good 2 1 (nIn header) lines strings-lawful)
-      ∙ multipleCheck-good p small
+      ∙ multipleCheck-good 0 p small
 
   releases-lawful : releaseLinesCheck (planIn (header ∷ lines)) (planIn (header ∷ lines) .n + 2) 1 [] (drop (nIn header) lines) ≡ Lawful
   unfolding releases planIn

@@ -1,112 +1,235 @@
--- The wrong programs of document 01, "What the promises have to say": no program with such answers meets the contracts.
--- Each falls to a row of the worked table. A program is a function of its input; `meets` says that its contract holds for every input.
--- Assumes nothing.
-use Prim.Native.Nat.{ℕ, _+_, _-_}
-use mathlib.Core.Path.{_≡_, refl, sym, ap, _∙_}
+-- The wrong programs of document 01, "What the promises have to say": no program with such answers meets the contracts. A program is a function of its
+-- input; `after` is what it leaves at its return, and `meets` says that the function's own contract (`Learnt`) holds for every input.
+use Prim.Native.Nat.{ℕ, _≤_}
+use mathlib.Core.Path.{_≡_, refl, sym, ap, _∙_, subst}
 use mathlib.Core.List.{List, [], _∷_, map}
 use native.Mathlib.Omega.{arith}
-use lib.ListN.{getD}
-use Rattle.days.specs.Days.{days}
+use lib.ListN.{length, getD}
+use contract.Lifetimes.{Lfts}
+use Rattle.faults.specs.declared.Checked.{Checked}
+use Rattle.faults.specs.declared.Checked.the-variants.{Lawful, Refused}
 use Rattle.rules.specs.declared.Plan.{Plan}
 use Rattle.rules.specs.declared.Releases.{Releases}
-use Rattle.rules.specs.declared.Fault.{Fault}
+use Rattle.rules.specs.declared.Reading.{Reading}
 use Rattle.rules.specs.declared.Verdict.{Verdict}
-use Rattle.rules.specs.declared.Verdict.the-variants as verdict
 use Rattle.rules.specs.declared.Assign.{Assign}
-use Rattle.rules.specs.declared.Assign.the-variants as assign
 use Rattle.rules.specs.declared.Outcome.{Outcome}
-use Rattle.rules.specs.declared.Outcome.the-variants as outcome
+use Rattle.rules.specs.declared.Answer.{Answer}
+use Rattle.rules.specs.declared.Answer.the-variants as answer-is
+use Rattle.rules.specs.Verdict.{allPairs, compared}
 use Rattle.rules.specs.Search.{withSet}
-use Rattle.rules.specs.Refusal.{setAnswer, searchAnswer, runAnswer}
-use Rattle.rules.proofs.Worked.{Answer, Row, answered, table, row, fails, clean, release, releases, two, eight, level, worked}
-use Rattle.rules.proofs.Worked as worked-rows
+use Rattle.rules.specs.Refusal.{onVerdict, onAssign, onOutcome, planCheck, setCheck, runCheck, verdictAnswer, setAnswer, searchAnswer, runAnswer}
+use Rattle.rules.specs.Text.{readingOf}
+use Rattle.rules.specs.Answer.{answered, answerOf}
+use Rattle.rules.specs.Said.{Said, lawful, fail, pass, takers, clean, checkedSays, verdictSays, assignSays, outcomeSays}
+use Rattle.rules.proofs.Worked.{table, row, release, releases, two, eight, level, sample, worked}
+use Rattle.rules.proofs.Worked as page
+use Rattle.laws.proofs.Says.{says-lawful}
+use Rattle.sets.proofs.Permissions.{set-is-plan}
+use Rattle.reading.proofs.read.Reads as read
+use Rattle.verdict.proofs.verdict.Reads as verdict
+use Rattle.verdict.proofs.verdict_with.Reads as verdict-with
+use Rattle.verdict.proofs.search.Reads as search-takers
+use Rattle.run.proofs.run.Reads as run
+use Rattle.answers.proofs.answer.Reads as answer
+use Rattle.promise.specs.Wrong.{Refuses, SaysPass, SaysFail, fails, overloads, WorksAtMost, misses, ends}
+use Rattle.promise.proofs.UserWords.{verdict-counts, verdict-fails}
 
--- the i-th row of the table, as the page says it
-at : (i : ℕ) → getD (map (λ r. answered (r .asked)) table) i (worked-rows.Answer.written []) ≡ getD (map (λ r. r .said) table) i (worked-rows.Answer.written [])
-at i = ap (λ rows. getD rows i (worked-rows.Answer.written [])) worked
+-- ---- Rows of the worked table
 
--- P1 passes with 44 pairs, P3 fails, P8 is searched to 1, and a run of two jobs works for 8 days
-p1 : setAnswer two 1 ≡ verdict.Pass 44
-unfolding table row answered
-p1 =
+-- the i-th row, as the page says it
+at : (i : ℕ) → getD (map (λ r. page.answered (r .asked)) table) i (page.Answer.written []) ≡ getD (map (λ r. r .said) table) i (page.Answer.written [])
+at i = ap (λ rows. getD rows i (page.Answer.written [])) worked
+
+p1-with : verdictSays (setAnswer two 1) ≡ pass 44
+unfolding table row page.answered
+p1-with =
     let e = at 0 in
     cc
 
-p3 : setAnswer two 0 ≡ verdict.Fail (days 5) (days 3) (days 6) 8
-unfolding table row answered fails
-p3 =
-    let e = at 2 in
+p3-with : verdictSays (setAnswer two 0) ≡ fail 5 3 6 8
+unfolding table row page.answered
+p3-with =
+    let e = at 3 in
     cc
 
-p8 : searchAnswer eight ≡ assign.Takers 1
-unfolding table row answered
+p8 : assignSays (searchAnswer eight) ≡ takers 1
+unfolding table row page.answered
 p8 =
-    let e = at 7 in
+    let e = at 8 in
     cc
 
-worked-run : runAnswer (withSet level 2) (releases (release 0 1 5 ∷ release 1 2 3 ∷ [])) ≡ outcome.Clean (days 8) (days 0) (days 12)
-unfolding table row answered clean
-worked-run =
-    let e = at 14 in
+abbrev list : Releases
+list = releases (release 0 1 5 ∷ release 1 2 3 ∷ [])
+
+run-of-eight : outcomeSays (runAnswer (withSet level 2) list) ≡ clean 8 0 12
+unfolding table row page.answered
+run-of-eight =
+    let e = at 16 in
     cc
 
--- ---- A verdict
+sample-read : readingOf sample .checked ≡ Lawful
+sample-read = says-lawful (readingOf sample .checked) said
+  where
+    said : checkedSays (readingOf sample .checked) ≡ lawful
+    said = unfold table row page.answered in
+        let e = at 12 in
+        cc
 
-module _ (program : Plan → ℕ → Verdict) (meets : (p : Plan) (m : ℕ) → program p m ≡ setAnswer p m) where
+-- ---- What is not refused was lawful
+
+never : _≡_ {A = ℕ} 0 1 → ⊥
+never z = omega arith
+
+set-was-lawful : (c : Checked) (v : Verdict) (s : Said) → verdictSays (onVerdict c v) ≡ s → (Refuses s → ⊥) → c ≡ Lawful
+set-was-lawful Lawful v s h not = refl
+set-was-lawful (Refused f at) v s h not = absurd (not (_, (_, sym h)))
+
+assign-was-lawful : (c : Checked) (a : Assign) (s : Said) → assignSays (onAssign c a) ≡ s → (Refuses s → ⊥) → c ≡ Lawful
+assign-was-lawful Lawful a s h not = refl
+assign-was-lawful (Refused f at) a s h not = absurd (not (_, (_, sym h)))
+
+run-was-lawful : (c : Checked) (o : Outcome) (s : Said) → outcomeSays (onOutcome c o) ≡ s → (Refuses s → ⊥) → c ≡ Lawful
+run-was-lawful Lawful o s h not = refl
+run-was-lawful (Refused f at) o s h not = absurd (not (_, (_, sym h)))
+
+pass-not-refused : (k : ℕ) → Refuses (pass k) → ⊥
+pass-not-refused k (n, (at, h)) = never (cc)
+
+fail-not-refused : (l b d k : ℕ) → Refuses (fail l b d k) → ⊥
+fail-not-refused l b d k (n, (at, h)) = never (cc)
+
+takers-not-refused : (m : ℕ) → Refuses (takers m) → ⊥
+takers-not-refused m (n, (at, h)) = never (cc)
+
+clean-not-refused : (w m i : ℕ) → Refuses (clean w m i) → ⊥
+clean-not-refused w m i (n, (at, h)) = never (cc)
+
+p1-set : setCheck two 1 ≡ Lawful
+unfolding setAnswer
+p1-set = set-was-lawful (setCheck two 1) _ (pass 44) p1-with (pass-not-refused 44)
+
+p3-set : setCheck two 0 ≡ Lawful
+unfolding setAnswer
+p3-set = set-was-lawful (setCheck two 0) _ (fail 5 3 6 8) p3-with (fail-not-refused 5 3 6 8)
+
+-- the same plans with the set in their X
+p1 : verdictSays (verdictAnswer (withSet two 1)) ≡ pass 44
+p1 = ap verdictSays (sym (set-is-plan two 1 p1-set)) ∙ p1-with
+
+p3 : verdictSays (verdictAnswer (withSet two 0)) ≡ fail 5 3 6 8
+p3 = ap verdictSays (sym (set-is-plan two 0 p3-set)) ∙ p3-with
+
+p1-lawful : planCheck (withSet two 1) ≡ Lawful
+unfolding verdictAnswer
+p1-lawful = set-was-lawful (planCheck (withSet two 1)) _ (pass 44) p1 (pass-not-refused 44)
+
+p3-lawful : planCheck (withSet two 0) ≡ Lawful
+unfolding verdictAnswer
+p3-lawful = set-was-lawful (planCheck (withSet two 0)) _ (fail 5 3 6 8) p3 (fail-not-refused 5 3 6 8)
+
+p8-lawful : planCheck eight ≡ Lawful
+unfolding searchAnswer
+p8-lawful = assign-was-lawful (planCheck eight) _ (takers 1) p8 (takers-not-refused 1)
+
+run-lawful : runCheck (withSet level 2) list ≡ Lawful
+unfolding runAnswer
+run-lawful = run-was-lawful (runCheck (withSet level 2) list) _ (clean 8 0 12) run-of-eight (clean-not-refused 8 0 12)
+
+pass-no-fail : (k : ℕ) (s : Said) → s ≡ pass k → SaysFail s → ⊥
+pass-no-fail k s h (fails l b d j) = never (cc)
+pass-no-fail k s h (overloads j) = never (cc)
+
+-- ---- `verdict`
+
+module _ (κs : Lfts 0) (program : Plan → Verdict) (after : Plan → _) (meets : (p : Plan) → verdict.Learnt κs (p, tt) (program p) (after p)) where
   -- refuses every plan
-  pub refusing-all : ((p : Plan) (m : ℕ) → (f : Fault) × ((k : ℕ) × (program p m ≡ verdict.Refused f k))) → ⊥
-  refusing-all refuses =
-      let r = refuses two 1 in
-      let said = sym (r .1 .1) ∙ meets two 1 ∙ p1 in
-      let z : _≡_ {A = ℕ} 0 1 = cc in
-      omega arith
+  pub verdict-refusing-all : ((p : Plan) → Refuses (verdictSays (program p))) → ⊥
+  verdict-refusing-all wrong =
+      pass-not-refused 44 (subst Refuses (ap verdictSays (meets (withSet two 1)) ∙ p1) (wrong (withSet two 1)))
 
-  -- says pass of every plan
-  pub passing-all : ((p : Plan) (m : ℕ) → (k : ℕ) × (program p m ≡ verdict.Pass k)) → ⊥
-  passing-all passes =
-      let r = passes two 0 in
-      let said = sym (r .1) ∙ meets two 0 ∙ p3 in
-      let z : _≡_ {A = ℕ} 0 1 = cc in
-      omega arith
+  -- says pass of every lawful plan, whatever it does with the others
+  pub verdict-passing-all : ((p : Plan) → planCheck p ≡ Lawful → SaysPass (verdictSays (program p))) → ⊥
+  verdict-passing-all wrong =
+      let said = wrong (withSet two 0) p3-lawful in
+      let is = sym (said .1) ∙ ap verdictSays (meets (withSet two 0)) ∙ p3 in
+      never (cc)
 
-  -- gives a pair count of its own
-  pub counting-otherwise : (k : ℕ) → program two 1 ≡ verdict.Pass k → k ≡ 44
-  counting-otherwise k e =
-      let said = sym e ∙ meets two 1 ∙ p1 in
-      cc
+  -- fails every lawful plan
+  pub verdict-failing-all : ((p : Plan) → planCheck p ≡ Lawful → SaysFail (verdictSays (program p))) → ⊥
+  verdict-failing-all wrong =
+      pass-no-fail 44 (verdictSays (program (withSet two 1))) (ap verdictSays (meets (withSet two 1)) ∙ p1) (wrong (withSet two 1) p1-lawful)
 
--- ---- A search
+  -- gives no pair count but the defined one, of any lawful plan
+  pub verdict-count-of-pass : (p : Plan) → planCheck p ≡ Lawful → (k : ℕ) → verdictSays (program p) ≡ pass k → k ≡ length (allPairs p)
+  verdict-count-of-pass p ok k said = verdict-counts κs p (after p) (program p) (meets p) ok k said
 
-module _ (program : Plan → Assign) (meets : (p : Plan) → program p ≡ searchAnswer p) where
-  -- always answers set 0
-  pub always-nobody-takes : ((p : Plan) → program p ≡ assign.Takers 0) → ⊥
-  always-nobody-takes zero-set =
-      let said = sym (zero-set eight) ∙ meets eight ∙ p8 in
-      let z : _≡_ {A = ℕ} 0 1 = cc in
-      omega arith
+  pub verdict-count-of-fail : (p : Plan) → planCheck p ≡ Lawful → (l b d k : ℕ) → verdictSays (program p) ≡ fail l b d k
+      → k ≡ length (compared p (allPairs p))
+  verdict-count-of-fail p ok l b d k said = verdict-fails κs p (after p) (program p) (meets p) ok l b d k .0 said .3
 
--- ---- A run
+-- ---- `verdict_with`
 
-module _ (program : Plan → Releases → Outcome) (meets : (p : Plan) (rs : Releases) → program p rs ≡ runAnswer p rs) where
-  days-worked : (w m i : ℕ) → program (withSet level 2) (releases (release 0 1 5 ∷ release 1 2 3 ∷ [])) ≡ outcome.Clean (days w) (days m) (days i) → w ≡ 8
-  days-worked w m i e =
-      let said = sym e ∙ meets (withSet level 2) (releases (release 0 1 5 ∷ release 1 2 3 ∷ [])) ∙ worked-run in
-      let same : days w ≡ days 8 = cc in
-      ap (λ n. n .0) same
+module _ (κs : Lfts 0) (program : Plan → ℕ → Verdict) (after : Plan → ℕ → _)
+    (meets : (p : Plan) (m : ℕ) → verdict-with.Learnt κs (p, (m, tt)) (program p m) (after p m)) where
+  pub with-refusing-all : ((p : Plan) (m : ℕ) → Refuses (verdictSays (program p m))) → ⊥
+  with-refusing-all wrong = pass-not-refused 44 (subst Refuses (ap verdictSays (meets two 1) ∙ p1-with) (wrong two 1))
 
-  -- does nothing
-  pub always-idle : ((p : Plan) (rs : Releases) → program p rs ≡ outcome.Clean (days 0) (days 0) (p .run)) → ⊥
-  always-idle idles = never (days-worked 0 0 20 (twenty (idles (withSet level 2) (releases (release 0 1 5 ∷ release 1 2 3 ∷ [])))))
+  pub with-passing-all : ((p : Plan) (m : ℕ) → setCheck p m ≡ Lawful → SaysPass (verdictSays (program p m))) → ⊥
+  with-passing-all wrong =
+      let said = wrong two 0 p3-set in
+      let is = sym (said .1) ∙ ap verdictSays (meets two 0) ∙ p3-with in
+      never (cc)
+
+  pub with-failing-all : ((p : Plan) (m : ℕ) → setCheck p m ≡ Lawful → SaysFail (verdictSays (program p m))) → ⊥
+  with-failing-all wrong =
+      pass-no-fail 44 (verdictSays (program two 1)) (ap verdictSays (meets two 1) ∙ p1-with) (wrong two 1 p1-set)
+
+-- ---- `search`
+
+module _ (κs : Lfts 0) (program : Plan → Assign) (after : Plan → _) (meets : (p : Plan) → search-takers.Learnt κs (p, tt) (program p) (after p)) where
+  pub search-refusing-all : ((p : Plan) → Refuses (assignSays (program p))) → ⊥
+  search-refusing-all wrong = takers-not-refused 1 (subst Refuses (ap assignSays (meets eight) ∙ p8) (wrong eight))
+
+  -- answers set 0 for every lawful plan
+  pub search-nobody-takes : ((p : Plan) → planCheck p ≡ Lawful → assignSays (program p) ≡ takers 0) → ⊥
+  search-nobody-takes wrong =
+      let is = sym (wrong eight p8-lawful) ∙ ap assignSays (meets eight) ∙ p8 in
+      never (cc)
+
+-- ---- `run`
+
+module _ (κs : Lfts 0) (program : Plan → Releases → Outcome) (after : Plan → Releases → _)
+    (meets : (p : Plan) (rs : Releases) → run.Learnt κs (p, (rs, tt)) (program p rs) (after p rs)) where
+  pub run-refusing-all : ((p : Plan) (rs : Releases) → Refuses (outcomeSays (program p rs))) → ⊥
+  run-refusing-all wrong =
+      clean-not-refused 8 0 12 (subst Refuses (ap outcomeSays (meets (withSet level 2) list) ∙ run-of-eight) (wrong (withSet level 2) list))
+
+  -- idles every day, or works one day and then idles, and reports what it likes: a miss, or a clean run with at most a day of work
+  pub run-idling : ((p : Plan) (rs : Releases) → runCheck p rs ≡ Lawful → WorksAtMost 1 (outcomeSays (program p rs))) → ⊥
+  run-idling wrong =
+      idles (outcomeSays (program (withSet level 2) list)) (ap outcomeSays (meets (withSet level 2) list) ∙ run-of-eight)
+      (wrong (withSet level 2) list run-lawful)
     where
-      never : _≡_ {A = ℕ} 0 8 → ⊥
-      never e = omega arith
+      idles : (s : Said) → s ≡ clean 8 0 12 → WorksAtMost 1 s → ⊥
+      idles s h (misses t i) = never (cc)
+      idles s h (ends w m i few) =
+          let eight-days : w ≡ 8 = cc in
+          omega arith
 
-      twenty : program (withSet level 2) (releases (release 0 1 5 ∷ release 1 2 3 ∷ [])) ≡ outcome.Clean (days 0) (days 0) (withSet level 2 .run) → program (withSet level 2) (releases (release 0 1 5 ∷ release 1 2 3 ∷ [])) ≡ outcome.Clean (days 0) (days 0) (days 20)
-      twenty e = unfold withSet level worked-rows.plan in e
+-- ---- `read` and `answer`: a call with the sample file's text
 
-  -- works the first day and then only idles
-  pub one-day-only : ((p : Plan) (rs : Releases) → program p rs ≡ outcome.Clean (days 1) (days 0) (days (p .run .0 - 1))) → ⊥
-  one-day-only idles = never (days-worked 1 0 _ (idles (withSet level 2) (releases (release 0 1 5 ∷ release 1 2 3 ∷ []))))
-    where
-      never : _≡_ {A = ℕ} 1 8 → ⊥
-      never e = omega arith
+pub read-refusing-all : (κs : Lfts 1) (lent : _) (e : _) (r : Reading) → read.Learnt κs lent r e → lent .0 .now ≡ sample
+    → Refuses (checkedSays (r .checked)) → ⊥
+read-refusing-all κs lent e r meets text wrong =
+    let is : r .checked ≡ Lawful = ap (λ s. s .checked) (meets .0) ∙ ap (λ t. readingOf t .checked) text ∙ sample-read in
+    let said = wrong .1 .1 in
+    let spoken = ap checkedSays is in
+    never (cc)
+
+-- `answer` does not refuse it either: it gives the three answers
+pub answer-refusing-all : (κs : Lfts 1) (lent : _) (e : _) (r : Answer) → answer.Learnt κs lent r e → lent .0 .now ≡ sample
+    → (v : Verdict) × ((a : Assign) × ((o : Outcome) × (r ≡ answer-is.Answered v a o)))
+unfolding answerOf answered
+answer-refusing-all κs lent e r meets text =
+    (_, (_, (_, meets .0 ∙ ap answerOf text ∙ ap (λ c. answered c (readingOf sample)) sample-read)))

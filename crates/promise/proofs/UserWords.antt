@@ -1,73 +1,122 @@
--- What the promises of `verdict`, `verdict_with` and `search` say in the user's words, of a plan that meets its bounds:
---     a verdict is Pass exactly where the demand is at most l for every whole l ≥ 1 and every blocking; there is no upper end
---     it is Overload exactly where the plan is overloaded, and a Fail names the first break, the demand there and the pairs compared
---     the search gives a set exactly if the plan passes with it, with no set of fewer ones, and with no smaller one of as many ones
---     it gives none exactly if the plan passes with none of the 2^n sets
---     BestSet p m           m is such a set
--- Assumes nothing.
-use Prim.Native.Nat.{ℕ, _^_, _≤_, _<_}
+-- Demand 2 in the user's words, of what the code answered: `Learnt` is what a function's own contract says of its answer. Of a plan within its bounds:
+--     the verdict says pass, with all pairs, exactly where the demand is at most l for every whole l ≥ 1 and every blocking; there is no upper end
+--     it says overload, with pair count 0, exactly where the plan is overloaded
+--     it says fail exactly with the first break, the demand there and the pairs compared
+--     the search says a set exactly if it is the best one, and none exactly if the plan passes with none of the 2^n sets; X plays no part
+--     the days of a clean run count its history, and their sum is N
+use Prim.Native.Nat.{ℕ, _+_, _^_, _<_}
 use mathlib.Core.Path.{_≡_, sym, ap, _∙_}
 use mathlib.Core.Logic.{_↔_}
-use mathlib.Core.Bool.{true}
-use lib.Count.{ones}
+use mathlib.Core.Bool.{Bool, true, false}
+use native.Mathlib.Omega.{arith}
 use lib.ListN.{length}
-use Rattle.days.specs.declared.Length.{Length}
+use contract.Lifetimes.{Lfts}
+use Rattle.lists.specs.Count.{countOf}
+use Rattle.lists.proofs.Lists.{by-bool, true-not-false}
 use Rattle.days.specs.Days.{days}
+use Rattle.faults.specs.declared.Checked.{Checked}
+use Rattle.faults.specs.declared.Checked.the-variants.{Lawful, Refused}
 use Rattle.rules.specs.declared.Plan.{Plan}
-use Rattle.rules.specs.declared.Checked.the-variants.{Lawful}
+use Rattle.rules.specs.declared.Release.{Release}
+use Rattle.rules.specs.declared.Releases.{Releases}
+use Rattle.rules.specs.declared.Use.{Use}
 use Rattle.rules.specs.declared.Verdict.{Verdict}
-use Rattle.rules.specs.declared.Verdict.the-variants.{Overload, Fail, Pass}
+use Rattle.rules.specs.declared.Verdict.the-variants as verdict-is
 use Rattle.rules.specs.declared.Assign.{Assign}
-use Rattle.rules.specs.declared.Assign.the-variants.{Takers, Nobody}
+use Rattle.rules.specs.declared.Outcome.{Outcome}
+use Rattle.rules.specs.declared.Outcome.the-variants as outcome-is
 use Rattle.rules.specs.Demand.{Passes, demand, overloaded}
 use Rattle.rules.specs.Verdict.{allPairs, compared, isPass}
 use Rattle.rules.specs.Search.{withSet, setPasses}
-use Rattle.rules.specs.Refusal.{planCheck, setCheck, verdictAnswer, setAnswer, searchAnswer}
-use Rattle.laws.proofs.Lists.{by-bool, true-not-false}
+use Rattle.rules.specs.Release.{releasesOf}
+use Rattle.rules.specs.Run.{history, daysOf, isWork, isMove, isIdle, missDay, runOf}
+use Rattle.rules.specs.Refusal.{planCheck, setCheck, runCheck, verdictAnswer, setAnswer, runAnswer}
+use Rattle.rules.specs.Said.{overload, fail, pass, takers, none, clean, verdictSays, assignSays, outcomeSays}
 use Rattle.laws.proofs.Lawful.{planCheck-lawful}
+use Rattle.laws.proofs.LawfulChecked.{lawful-checked}
+use Rattle.laws.proofs.Answers.{verdict-lawful, set-plan, search-lawful, run-lawful, run-refused}
+use Rattle.laws.proofs.Says.{says-pass, says-overload, says-fail, says-takers, says-none, says-clean}
+use Rattle.horizon.specs.FirstBreak.{FirstBreak}
 use Rattle.horizon.proofs.Sets.{withSet-lawful}
-use Rattle.horizon.proofs.Verdict.{pass-exactly, pass-count, overload-exactly, FirstBreak, fail-names}
+use Rattle.horizon.proofs.Verdict.{pass-exactly, pass-count, overload-exactly, fail-names, fail-not-overloaded, break-fails}
+use Rattle.sets.specs.BestSet.{BestSet}
 use Rattle.sets.proofs.Search.{setPasses-exactly, Best, search-best, best-search, search-none, none-search}
-use Rattle.laws.proofs.Answers.{verdict-lawful, set-lawful, set-plan, search-lawful}
+use Rattle.sets.proofs.Permissions.{set-is-plan, search-blind-to-x}
+use Rattle.sound.proofs.History.{kinds-add-up}
+use Rattle.sound.proofs.Answers.{answer-clean-days}
+use Rattle.verdict.proofs.verdict.Reads as verdict
+use Rattle.verdict.proofs.verdict_with.Reads as verdict-with
+use Rattle.verdict.proofs.search.Reads as search-takers
+use Rattle.run.proofs.run.Reads as run
 
 -- ---- The verdict
 
+-- over the answer's definition; the contracts below cite these
 module _ (p : Plan) (ok : planCheck p ≡ Lawful) where
-  pub verdict-passes : (isPass (verdictAnswer p) ≡ true) ↔ Passes p
-  verdict-passes =
-      let same = ap isPass (verdict-lawful p ok) in
-      let rule = pass-exactly p (planCheck-lawful p ok) in
-      (λ h. rule .0 (sym same ∙ h), λ h. same ∙ rule .1 h)
+  answer-passes : (verdictSays (verdictAnswer p) ≡ pass (length (allPairs p))) ↔ Passes p
+  unfolding isPass
+  answer-passes =
+      let same = verdict-lawful p ok in
+      let rule = pass-exactly p (planCheck-lawful p ok) in (
+        λ h. rule .0 (ap isPass (sym same ∙ says-pass (verdictAnswer p) _ h)),
+        λ h. ap verdictSays (same ∙ pass-count p (rule .1 h)),
+      )
 
-  -- a pass counts all pairs to Dmax + H − 1
-  pub verdict-counts : isPass (verdictAnswer p) ≡ true → verdictAnswer p ≡ Pass (length (allPairs p))
-  verdict-counts h = verdict-lawful p ok ∙ pass-count p (sym (ap isPass (verdict-lawful p ok)) ∙ h)
+  answer-overload : (verdictSays (verdictAnswer p) ≡ overload 0) ↔ (overloaded p ≡ true)
+  answer-overload =
+      let same = verdict-lawful p ok in
+      let over = overload-exactly p in (
+        λ h. over .0 (sym same ∙ says-overload (verdictAnswer p) 0 h),
+        λ h. ap verdictSays (same ∙ over .1 h),
+      )
 
-  pub verdict-overload : (verdictAnswer p ≡ Overload) ↔ (overloaded p ≡ true)
-  verdict-overload =
-      let over = overload-exactly p in
-      (λ h. over .0 (sym (verdict-lawful p ok) ∙ h), λ h. verdict-lawful p ok ∙ over .1 h)
+  answer-fails : (l b d k : ℕ)
+      → (verdictSays (verdictAnswer p) ≡ fail l b d k)
+      ↔ ((overloaded p ≡ false) × FirstBreak p l b × (d ≡ demand p l b) × (k ≡ length (compared p (allPairs p))))
+  answer-fails l b d k =
+      let same = verdict-lawful p ok in (
+        λ h.
+            let fails = sym same ∙ says-fail (verdictAnswer p) l b d k h in
+            let named = fail-names p (days l) (days b) (days d) k fails in
+            (fail-not-overloaded p (days l) (days b) (days d) k fails, named .0, ap (λ n. n .0) (named .1), named .2),
+        λ h. ap verdictSays (same ∙ break-fails p l b (h .0) (h .1)) ∙ rw (h .2, h .3),
+      )
 
-  pub verdict-fails :
-      (l b d : Length) (k : ℕ) → verdictAnswer p ≡ Fail l b d k
-      → FirstBreak p (l .0) (b .0) × (d ≡ days (demand p (l .0) (b .0))) × (k ≡ length (compared p (allPairs p)))
-  verdict-fails l b d k h = fail-names p l b d k (sym (verdict-lawful p ok) ∙ h)
+module _ (κs : Lfts 0) (p : Plan) (e : _) (v : Verdict) (answered : verdict.Learnt κs (p, tt) v e) (ok : planCheck p ≡ Lawful) where
+  pub verdict-passes : (verdictSays v ≡ pass (length (allPairs p))) ↔ Passes p
+  verdict-passes = rw answered (answer-passes p ok)
 
-pub verdict-with-passes : (p : Plan) (m : ℕ) → setCheck p m ≡ Lawful → (isPass (setAnswer p m) ≡ true) ↔ Passes (withSet p m)
-verdict-with-passes p m ok =
-    let same = ap isPass (set-lawful p m ok) in
-    let rule = pass-exactly (withSet p m) (withSet-lawful p m (planCheck-lawful p (set-plan p m ok))) in
-    (λ h. rule .0 (sym same ∙ h), λ h. same ∙ rule .1 h)
+  -- a pass has that count and no other
+  pub verdict-counts : (k : ℕ) → verdictSays v ≡ pass k → k ≡ length (allPairs p)
+  verdict-counts k h = counted (ap verdictSays (sym answered) ∙ h)
+    where
+      counted : verdictSays (verdictAnswer p) ≡ pass k → k ≡ length (allPairs p)
+      counted says = unfold isPass in
+          let is = sym (verdict-lawful p ok) ∙ says-pass (verdictAnswer p) k says in
+          let all = sym is ∙ pass-count p (ap isPass is) in
+          cc
+
+  pub verdict-overload : (verdictSays v ≡ overload 0) ↔ (overloaded p ≡ true)
+  verdict-overload = rw answered (answer-overload p ok)
+
+  pub verdict-fails : (l b d k : ℕ)
+      → (verdictSays v ≡ fail l b d k)
+      ↔ ((overloaded p ≡ false) × FirstBreak p l b × (d ≡ demand p l b) × (k ≡ length (compared p (allPairs p))))
+  verdict-fails l b d k = rw answered (answer-fails p ok l b d k)
+
+-- with a lawful set, the verdict is that of the plan with the set: all of the above holds of it
+module _ (κs : Lfts 0) (p : Plan) (m : ℕ) (e : _) (v : Verdict) (answered : verdict-with.Learnt κs (p, (m, tt)) v e) (ok : setCheck p m ≡ Lawful) where
+  pub verdict-with-is : v ≡ verdictAnswer (withSet p m)
+  verdict-with-is = answered ∙ set-is-plan p m ok
+
+  pub verdict-with-passes : (verdictSays v ≡ pass (length (allPairs (withSet p m)))) ↔ Passes (withSet p m)
+  verdict-with-passes =
+      let lawful = lawful-checked (withSet p m) (withSet-lawful p m (planCheck-lawful p (set-plan p m ok))) in
+      rw verdict-with-is (answer-passes (withSet p m) lawful)
 
 -- ---- The search
 
-pub record BestSet (p : Plan) (m : ℕ) : Type 0 where
-  pub below : m < 2 ^ p .n
-  pub passes : Passes (withSet p m)
-  pub fewest : (k : ℕ) → k < 2 ^ p .n → Passes (withSet p k) → ones m ≤ ones k
-  pub smallest : (k : ℕ) → k < 2 ^ p .n → Passes (withSet p k) → ones k ≡ ones m → m ≤ k
-
-module _ (p : Plan) (ok : planCheck p ≡ Lawful) where
+module _ (κs : Lfts 0) (p : Plan) (e : _) (a : Assign) (answered : search-takers.Learnt κs (p, tt) a e) (ok : planCheck p ≡ Lawful) where
   rule : (k : ℕ) → (setPasses p k ≡ true) ↔ Passes (withSet p k)
   rule k = setPasses-exactly p (planCheck-lawful p ok) k
 
@@ -89,14 +138,42 @@ module _ (p : Plan) (ok : planCheck p ≡ Lawful) where
         smallest = λ k h t e. best .smallest k h (rule k .0 t) e;
       }
 
-  pub search-finds : (m : ℕ) → (searchAnswer p ≡ Takers m) ↔ BestSet p m
+  pub search-finds : (m : ℕ) → (assignSays a ≡ takers m) ↔ BestSet p m
   search-finds m = (
-    λ h. best-rule m (search-best p m (sym (search-lawful p ok) ∙ h)),
-    λ best. search-lawful p ok ∙ best-search p m (rule-best m best),
+    λ h. best-rule m (search-best p m (sym (search-lawful p ok) ∙ sym answered ∙ says-takers a m h)),
+    λ best. ap assignSays (answered ∙ search-lawful p ok ∙ best-search p m (rule-best m best)),
   )
 
-  pub search-nobody : (searchAnswer p ≡ Nobody) ↔ ((k : ℕ) → k < 2 ^ p .n → Passes (withSet p k) → ⊥)
+  pub search-nobody : (assignSays a ≡ none) ↔ ((k : ℕ) → k < 2 ^ p .n → Passes (withSet p k) → ⊥)
   search-nobody = (
-    λ h k below passes. true-not-false (sym (rule k .1 passes) ∙ search-none p (sym (search-lawful p ok) ∙ h) k below),
-    λ nobody. search-lawful p ok ∙ none-search p (λ k below. by-bool (setPasses p k) (λ t. absurd (nobody k below (rule k .0 t))) (λ e. e)),
+    λ h k below passes. true-not-false (sym (rule k .1 passes) ∙ search-none p (sym (search-lawful p ok) ∙ sym answered ∙ says-none a h) k below),
+    λ nobody.
+        ap assignSays
+        (answered ∙ search-lawful p ok ∙ none-search p (λ k below. by-bool (setPasses p k) (λ t. absurd (nobody k below (rule k .0 t))) (λ f. f))),
   )
+
+  -- the X of the plan plays no part: another lawful plan that differs in X alone is answered alike
+  pub search-ignores-x : (q : Plan) (f : _) (b : Assign) → search-takers.Learnt κs (q, tt) b f → planCheck q ≡ Lawful → withSet p 0 ≡ withSet q 0
+      → a ≡ b
+  search-ignores-x q f b also okQ same = answered ∙ search-blind-to-x p q ok okQ same ∙ sym also
+
+-- ---- The run
+
+module _ (κs : Lfts 0) (p : Plan) (rs : Releases) (e : _) (o : Outcome) (answered : run.Learnt κs (p, (rs, tt)) o e) (w m i : ℕ)
+    (said : outcomeSays o ≡ clean w m i) where
+  -- how many days of the run's history are of a kind
+  abbrev pub counted : (Use → Bool) → ℕ
+  counted kind = countOf kind (history p (releasesOf rs) (p .run .0))
+
+  days-are : outcome-is.Clean (daysOf p (releasesOf rs) isWork) (daysOf p (releasesOf rs) isMove) (daysOf p (releasesOf rs) isIdle)
+      ≡ outcome-is.Clean (days w) (days m) (days i)
+  days-are = answer-clean-days p (days w) (days m) (days i) rs (sym answered ∙ says-clean o w m i said)
+
+  pub clean-counts : (w ≡ counted isWork) × (m ≡ counted isMove) × (i ≡ counted isIdle)
+  unfolding daysOf
+  clean-counts =
+      let same = ap outcomeSays days-are in
+      (cc, cc, cc)
+
+  pub clean-sum : w + m + i ≡ p .run .0
+  clean-sum = omega (arith, clean-counts, kinds-add-up p (releasesOf rs) (p .run .0))

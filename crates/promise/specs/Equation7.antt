@@ -1,13 +1,13 @@
 -- The blocking limit as the source prints it (equation 7), with C where document 01 has E.
 --     printedLimit p l          the limit with C
 --     PassesAsPrinted p         the demand rule under that limit
--- Nothing of the desk uses these; they say what a planner who takes equation 7 as printed believes. Assumes nothing.
+-- Nothing of the desk uses these; they say what a planner who takes equation 7 as printed believes.
 use Prim.Native.Nat.{ℕ, _≤_, min}
 use mathlib.Core.Bool.{cond, _&&_}
 use lib.Dec.{leb, ltb}
 use Rattle.rules.specs.declared.BatteryString.{BatteryString}
 use Rattle.rules.specs.declared.Plan.{Plan}
-use Rattle.rules.specs.Count.{largest}
+use Rattle.lists.specs.Count.{largest}
 use Rattle.rules.specs.Plan.{stringsOf, dMin, dMax}
 use Rattle.rules.specs.Demand.{demand}
 

@@ -1,1 +1,3 @@
 pub mod Equation7
+pub mod NeverMiss
+pub mod Wrong

@@ -1,15 +1,13 @@
 -- The numbers of a frame, by places of the text: two digits to a byte, high byte first.
--- Assumes nothing.
-use Prim.Native.Nat.{ℕ, zero, suc, _+_, _*_, _/_, _%_, _≤_, _<_}
-use mathlib.Core.Path.{_≡_, refl, sym, ap, ap₂, _∙_}
-use mathlib.Core.Bool.{Bool, true, false, cond}
+use Prim.Native.Nat.{ℕ, zero, suc, _+_, _*_, _/_, _<_}
+use mathlib.Core.Path.{_≡_, refl, ap, _∙_}
 use mathlib.Core.List.{List, [], _∷_}
 use native.Mathlib.Omega.{arith}
 use native.Mathlib.Numerals.{add-one}
 use native.Mathlib.Nat.{not-suc-le-zero}
 use lib.ListN.{length, take, drop, getD}
 use lib.Seq.{drop-cons, getD-drop, getD-take, length-take-le}
-use Rattle.rules.specs.Text.{Line, digitOf, pairsOf, frameOf, numberFrom, fieldAt}
+use Rattle.rules.specs.Text.{digitOf, pairsOf, frameOf, numberFrom, fieldAt}
 use Rattle.reading.specs.Place.{digitRun, byteIn, pairIn, quadIn}
 use Rattle.reading.proofs.Lines.{digitLine, digitRun-fits, digitRun-digit}
 

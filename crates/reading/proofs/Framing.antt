@@ -1,21 +1,18 @@
 -- A line as a frame: what the code finds at a place of the text decides `frameCheck`, and a frame that is not refused stands where it should.
--- Assumes nothing.
 use Prim.Native.Nat.{ℕ, zero, suc, _+_, _*_, _/_, _%_, _≤_, _<_}
-use mathlib.Core.Path.{_≡_, refl, sym, ap, _∙_}
-use mathlib.Core.Bool.{Bool, true, false, not, cond, _&&_}
-use mathlib.Core.List.{List, [], _∷_}
+use mathlib.Core.Path.{_≡_, sym, ap, _∙_}
+use mathlib.Core.Bool.{true, false}
+use mathlib.Core.List.{List, _∷_}
 use native.Mathlib.Omega.{arith}
 use native.Mathlib.Decide.{decLe, ℕ-discrete}
-use borrow.Author.Tests.{eq-eqb, ne-eqb, eqb-true}
-use lib.Dec.{eqb}
+use borrow.Author.Tests.{eq-eqb, ne-eqb}
 use lib.ListN.{length, drop, getD, length-drop}
-use Rattle.rules.specs.declared.Fault.the-variants.{LineMalformed, FrameWrong}
-use Rattle.rules.specs.declared.Checked.the-variants.{Lawful, Refused}
+use Rattle.faults.specs.declared.Fault.the-variants.{LineMalformed, FrameWrong}
+use Rattle.faults.specs.declared.Checked.the-variants.{Lawful, Refused}
 use Rattle.rules.specs.Text.{Line, linesOf, wellFormed, frameOf, fieldAt, frameCheck}
-use Rattle.laws.proofs.Lists.{by-bool, and-left, and-right, true-not-false}
-use Rattle.laws.proofs.Lawful.{refused-not-lawful, then-first, then-second, refuseIf-not}
+use Rattle.faults.proofs.Checks.{refused-not-lawful}
 use Rattle.reading.specs.Place.{digitRun, lineAt, byteIn, Frame}
-use Rattle.reading.proofs.Lines.{digitLine, digitRun-fits, wellFormed-none, wellFormed-odd, wellFormed-even, lineAt-digits, lineAt-other, linesOf-next}
+use Rattle.reading.proofs.Lines.{digitLine, wellFormed-none, wellFormed-odd, wellFormed-even, lineAt-digits, lineAt-other, linesOf-next}
 use Rattle.reading.proofs.Fields.{twice, frame-length, field-one}
 
 -- ---- What decides a frame

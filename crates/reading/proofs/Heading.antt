@@ -1,18 +1,15 @@
 -- The order of faults in a header that is a frame: its version, then n, then A and N.
--- Assumes nothing.
-use Prim.Native.Nat.{ℕ, _≤_}
-use mathlib.Core.Path.{_≡_, refl, sym, ap, _∙_}
-use mathlib.Core.Bool.{Bool, true, false, not, _&&_}
+use Prim.Native.Nat.{_≤_}
+use mathlib.Core.Path.{_≡_, refl}
+use mathlib.Core.Bool.{not, _&&_}
 use native.Mathlib.Omega.{arith}
-use borrow.Author.Tests.{eq-eqb, ne-eqb, eqb-true, not-false}
+use borrow.Author.Tests.{eq-eqb, ne-eqb, not-false}
 use lib.Dec.{eqb}
-use Rattle.rules.specs.declared.Fault.the-variants.{FrameWrong, StringCount, OutOfBounds}
-use Rattle.rules.specs.declared.Checked.the-variants.{Lawful, Refused}
-use Rattle.rules.specs.Plan.{inBounds}
-use Rattle.rules.specs.Refusal.{then, refuseIf}
+use Rattle.faults.specs.declared.Fault.the-variants.{FrameWrong, StringCount, OutOfBounds}
+use Rattle.faults.specs.declared.Checked.the-variants.{Lawful, Refused}
+use Rattle.faults.specs.Checks.{inBounds, then, refuseIf}
+use Rattle.faults.proofs.Checks.{inBounds-low, inBounds-high, inBounds-yes, inBounds-not, then-first, then-second, refuseIf-not}
 use Rattle.rules.specs.Text.{Line, frameOf, fieldAt, nIn, aIn, runIn, frameCheck, headerCheck}
-use Rattle.laws.proofs.Lists.{by-bool, and-left, and-right}
-use Rattle.laws.proofs.Lawful.{inBounds-low, inBounds-high, inBounds-yes, inBounds-not, then-first, then-second, refuseIf-not}
 use Rattle.reading.specs.Place.{numbersOfHeader}
 
 module _ (line : Line) where

@@ -1,16 +1,15 @@
 -- Laws of a digit and of the numbers that two, four and eight digits write.
--- Assumes nothing.
-use Prim.Native.Nat.{ℕ, _+_, _-_, _*_, _≤_, _<_}
+use Prim.Native.Nat.{ℕ, _+_, _-_, _≤_, _<_}
 use mathlib.Core.Path.{_≡_}
 use mathlib.Core.List.{List}
 use native.Mathlib.Omega.{arith}
 use native.Mathlib.Nat.{le-refl}
 use lib.ListN.{getD}
-use Rattle.rules.specs.Plan.{inBounds}
+use Rattle.faults.specs.Checks.{inBounds}
+use Rattle.faults.proofs.Checks.{inBounds-high, inBounds-yes, inBounds-not}
 use Rattle.rules.specs.Text.{digitOf}
-use Rattle.laws.proofs.Lists.{by-bool}
-use Rattle.laws.proofs.Lawful.{inBounds-low, inBounds-high, inBounds-yes, inBounds-not}
-use Rattle.reading.specs.Place.{byteIn, pairIn, quadIn}
+use Rattle.lists.proofs.Lists.{by-bool}
+use Rattle.reading.specs.Place.{byteIn, pairIn}
 
 pub digitOf-number : (b : ℕ) → 48 ≤ b → b ≤ 57 → digitOf b ≡ b - 48
 unfolding digitOf

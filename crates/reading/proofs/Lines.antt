@@ -1,21 +1,20 @@
 -- A text from a place on: the digits in a row at its head decide its first line.
 --     isDigit b             b is a hexadecimal digit
--- Assumes nothing.
 use Prim.Native.Nat.{ℕ, zero, suc, _+_, _-_, _%_, _≤_, _<_}
-use mathlib.Core.Path.{_≡_, refl, sym, ap, _∙_, subst}
+use mathlib.Core.Path.{_≡_, refl, sym, ap, _∙_}
 use mathlib.Core.Logic.{_⊎_, inl, inr}
-use mathlib.Core.Bool.{Bool, true, false, cond, _&&_}
+use mathlib.Core.Bool.{Bool, true, false, _&&_}
 use mathlib.Core.List.{List, [], _∷_}
 use native.Mathlib.Omega.{arith}
 use native.Mathlib.Numerals.{add-one}
 use native.Mathlib.Nat.{not-suc-le-zero}
-use borrow.Author.Tests.{lt-ltb, le-ltb, ltb-true, ltb-false, eq-eqb, ne-eqb, eqb-true}
+use borrow.Author.Tests.{lt-ltb, ltb-true, eq-eqb, ne-eqb, eqb-true}
 use lib.Dec.{ltb, eqb}
 use lib.ListN.{length, take, drop, getD, length-drop}
-use lib.Seq.{drop-drop, getD-drop, getD-take, length-take-le}
-use Rattle.rules.specs.Count.{every}
+use lib.Seq.{drop-drop, getD-drop, length-take-le}
+use Rattle.lists.specs.Count.{every}
 use Rattle.rules.specs.Text.{Line, before, linesOf, digitOf, wellFormed}
-use Rattle.laws.proofs.Lists.{by-bool, true-not-false, and-both}
+use Rattle.lists.proofs.Lists.{by-bool, true-not-false}
 use Rattle.reading.specs.Place.{digitRun, headLine, lineAt}
 
 abbrev pub isDigit : ℕ → Bool

@@ -1,16 +1,12 @@
 -- What frames say, by places of the text: the header at 0, a string or a release at any place.
--- Assumes nothing.
-use Prim.Native.Nat.{ℕ, suc, _+_, _*_, _≤_, _<_}
-use mathlib.Core.Path.{_≡_, refl, sym, ap, _∙_}
+use Prim.Native.Nat.{ℕ, suc, _+_, _*_, _<_}
+use mathlib.Core.Path.{_≡_}
 use mathlib.Core.List.{List}
 use native.Mathlib.Omega.{arith}
-use lib.ListN.{drop, getD}
+use lib.ListN.{getD}
 use Rattle.days.specs.Days.{day, days}
-use Rattle.rules.specs.declared.BatteryString.{BatteryString}
-use Rattle.rules.specs.declared.Release.{Release}
-use Rattle.rules.specs.Text.{Line, digitOf, frameOf, fieldAt, nIn, aIn, runIn, stringOf, releaseOf}
-use Rattle.reading.specs.Place.{digitRun, lineAt, Frame, byteIn, pairIn, quadIn}
-use Rattle.reading.proofs.Lines.{digitLine}
+use Rattle.rules.specs.Text.{digitOf, frameOf, fieldAt, nIn, aIn, runIn, stringOf, releaseOf}
+use Rattle.reading.specs.Place.{lineAt, Frame, byteIn, pairIn, quadIn}
 use Rattle.reading.proofs.Fields.{twice, twice-is, field-one, field-two, field-four, digit-small}
 use Rattle.reading.proofs.Framing.{frame-line}
 

@@ -1,31 +1,27 @@
 -- The release lines: frames first, then the releases that they write. Together these decide as line after line does.
 --     decided k j u end     the answer, where release u of the list (0: none) is the first unlawful one, the line of the first has
 --                           number k, j releases stand ahead of it, and `end` is what ended the frames
--- Assumes nothing.
-use Prim.Native.Nat.{ℕ, zero, suc, _+_, _-_, _*_, _≤_, _<_}
-use mathlib.Core.Path.{_≡_, refl, sym, ap, ap₂, _∙_}
-use mathlib.Core.Bool.{Bool, true, false, not, cond}
-use mathlib.Core.List.{List, [], _∷_, map, tail-eq-of-cons-eq, head-eq-of-cons-eq}
+use Prim.Native.Nat.{ℕ, suc, _+_, _-_, _≤_, _<_}
+use mathlib.Core.Path.{_≡_, refl, sym, ap, _∙_}
+use mathlib.Core.Bool.{true, false, cond}
+use mathlib.Core.List.{List, [], _∷_, map}
 use native.Mathlib.Omega.{arith}
 use native.Mathlib.Decide.{decLe}
-use native.Mathlib.Nat.{not-suc-le-zero}
 use borrow.Author.Tests.{lt-ltb, le-ltb}
 use lib.Dec.{ltb}
-use lib.ListN.{length, take, drop}
+use lib.ListN.{take}
 use Rattle.rules.specs.declared.Plan.{Plan}
 use Rattle.rules.specs.declared.Release.{Release}
-use Rattle.rules.specs.declared.Fault.{Fault}
-use Rattle.rules.specs.declared.Fault.the-variants.{ReleaseTooMany, ReleaseUnlawful}
-use Rattle.rules.specs.declared.Checked.{Checked}
-use Rattle.rules.specs.declared.Checked.the-variants.{Lawful, Refused}
+use Rattle.faults.specs.declared.Fault.{Fault}
+use Rattle.faults.specs.declared.Fault.the-variants.{ReleaseTooMany, ReleaseUnlawful}
+use Rattle.faults.specs.declared.Checked.{Checked}
+use Rattle.faults.specs.declared.Checked.the-variants.{Lawful, Refused}
 use Rattle.rules.specs.Release.{releaseLawful, unlawfulFrom}
-use Rattle.rules.specs.Text.{Line, linesOf, releaseOf, frameCheck, releaseLineCheck, releaseLinesCheck}
-use Rattle.laws.proofs.Lists.{by-bool}
-use Rattle.laws.proofs.Lawful.{then-lawful, then-refused}
+use Rattle.rules.specs.Text.{Line, releaseOf, frameCheck, releaseLineCheck, releaseLinesCheck}
+use Rattle.lists.proofs.Lists.{by-bool}
+use Rattle.faults.proofs.Checks.{then-lawful, then-refused}
 use Rattle.reading.specs.declared.Framed.{Framed}
-use Rattle.reading.specs.Place.{lineAt, Frame, framedOr, framesFrom, releasesBy}
-use Rattle.reading.proofs.Framing.{frameCheck-frame, frame-next}
-use Rattle.reading.proofs.StringLines.{line-here, lines-none}
+use Rattle.reading.specs.Place.{framesFrom}
 
 -- ---- framesFrom, line after line
 

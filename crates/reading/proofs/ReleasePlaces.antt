@@ -1,17 +1,14 @@
 -- The release lines by places of the text: where the frames stand, and what they write.
--- Assumes nothing.
 use Prim.Native.Nat.{ℕ, zero, suc, _+_, _-_, _*_, _≤_, _<_}
-use mathlib.Core.Path.{_≡_, refl, sym, ap, _∙_}
-use mathlib.Core.List.{List, [], _∷_, map, tail-eq-of-cons-eq, head-eq-of-cons-eq}
+use mathlib.Core.Path.{_≡_, sym, ap, _∙_}
+use mathlib.Core.List.{List, [], _∷_, map, tail-eq-of-cons-eq}
 use native.Mathlib.Omega.{arith}
-use native.Mathlib.Nat.{not-suc-le-zero}
 use lib.ListN.{length, take, drop}
-use Rattle.rules.specs.declared.Fault.{Fault}
-use Rattle.rules.specs.declared.Fault.the-variants.{ReleaseTooMany}
-use Rattle.rules.specs.declared.Checked.{Checked}
-use Rattle.rules.specs.declared.Checked.the-variants.{Lawful, Refused}
+use Rattle.faults.specs.declared.Fault.{Fault}
+use Rattle.faults.specs.declared.Fault.the-variants.{ReleaseTooMany}
+use Rattle.faults.specs.declared.Checked.the-variants.{Lawful, Refused}
 use Rattle.rules.specs.Text.{Line, linesOf, releaseOf, frameCheck}
-use Rattle.laws.proofs.Lawful.{refused-not-lawful}
+use Rattle.faults.proofs.Checks.{refused-not-lawful}
 use Rattle.reading.specs.declared.Framed.{Framed}
 use Rattle.reading.specs.Place.{headLine, lineAt, Frame, framesFrom, releasesBy}
 use Rattle.reading.proofs.Framing.{frameCheck-frame, frame-next}

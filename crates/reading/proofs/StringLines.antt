@@ -1,22 +1,21 @@
 -- The string lines by places of the text, one after the other, and what they give where none is refused.
--- Assumes nothing.
 use Prim.Native.Nat.{ℕ, zero, suc, _+_, _-_, _*_, _≤_, _<_}
-use mathlib.Core.Path.{_≡_, refl, sym, ap, ap₂, _∙_}
-use mathlib.Core.Bool.{Bool, true, false, cond}
+use mathlib.Core.Path.{_≡_, refl, sym, ap, _∙_}
+use mathlib.Core.Bool.{true, false}
 use mathlib.Core.List.{List, [], _∷_, map}
 use native.Mathlib.Omega.{arith}
 use native.Mathlib.Decide.{decLe}
 use native.Mathlib.Nat.{not-suc-le-zero}
 use lib.Dec.{eqb}
 use lib.ListN.{length, take, drop, drop-of-length-le, length-drop}
-use Rattle.rules.specs.declared.Fault.{Fault}
-use Rattle.rules.specs.declared.Fault.the-variants.{FrameWrong, OutOfBounds}
-use Rattle.rules.specs.declared.Checked.{Checked}
-use Rattle.rules.specs.declared.Checked.the-variants.{Lawful, Refused}
+use Rattle.faults.specs.declared.Fault.{Fault}
+use Rattle.faults.specs.declared.Fault.the-variants.{FrameWrong, OutOfBounds}
+use Rattle.faults.specs.declared.Checked.{Checked}
+use Rattle.faults.specs.declared.Checked.the-variants.{Lawful, Refused}
 use Rattle.rules.specs.Plan.{stringLawful}
 use Rattle.rules.specs.Text.{Line, before, linesOf, stringOf, frameCheck, stringLineCheck, stringLinesCheck}
-use Rattle.laws.proofs.Lists.{by-bool}
-use Rattle.laws.proofs.Lawful.{then-lawful, then-refused, then-first, then-second, refused-not-lawful}
+use Rattle.lists.proofs.Lists.{by-bool}
+use Rattle.faults.proofs.Checks.{then-lawful, then-refused, then-first, refused-not-lawful}
 use Rattle.reading.specs.Place.{headLine, lineAt, Frame, stringsBy}
 use Rattle.reading.proofs.Framing.{frameCheck-frame, frame-next}
 

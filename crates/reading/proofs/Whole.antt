@@ -1,32 +1,24 @@
 -- The whole text: its parts, read one after the other, decide as the definition does.
--- Assumes nothing.
-use Prim.Native.Nat.{ℕ, zero, suc, _+_, _-_, _*_, _≤_, _<_}
-use mathlib.Core.Path.{_≡_, refl, sym, ap, ap₂, _∙_}
-use mathlib.Core.Bool.{Bool, true, false, cond}
+use Prim.Native.Nat.{ℕ, _+_, _-_, _*_, _≤_, _<_}
+use mathlib.Core.Path.{_≡_, refl, sym, ap, _∙_}
 use mathlib.Core.List.{List, [], _∷_, map}
 use native.Mathlib.Omega.{arith}
 use borrow.Author.Tests.{lt-ltb, le-ltb}
-use lib.Dec.{ltb}
 use lib.ListN.{length, take, drop}
 use lib.Seq.{take-at, take-all}
-use Rattle.days.specs.Days.{days}
 use Rattle.rules.specs.declared.Plan.{Plan}
-use Rattle.rules.specs.declared.Release.{Release}
-use Rattle.rules.specs.declared.Releases.{Releases}
-use Rattle.rules.specs.declared.Reading.{Reading}
-use Rattle.rules.specs.declared.Fault.{Fault}
-use Rattle.rules.specs.declared.Fault.the-variants.{TextTooLong, FrameWrong, MultipleOver, ReleaseUnlawful}
-use Rattle.rules.specs.declared.Checked.{Checked}
-use Rattle.rules.specs.declared.Checked.the-variants.{Lawful, Refused}
-use Rattle.rules.specs.Plan.{multipleOf, noString}
-use Rattle.rules.specs.Release.{releasesOf, noRelease, firstUnlawful, unlawfulFrom}
-use Rattle.rules.specs.Text.{Line, linesOf, nIn, aIn, runIn, stringOf, releaseOf, filled, planIn, releasesIn, headerCheck, stringLinesCheck, releaseLinesCheck, bodyCheck, linesCheck, textCheck, lawfulReading, readingOf}
-use Rattle.laws.proofs.Lawful.{then-lawful, then-refused}
+use Rattle.faults.specs.declared.Fault.{Fault}
+use Rattle.faults.specs.declared.Fault.the-variants.{TextTooLong, FrameWrong, MultipleOver, ReleaseUnlawful}
+use Rattle.faults.specs.declared.Checked.the-variants.{Lawful, Refused}
+use Rattle.rules.specs.Plan.{multipleOf}
+use Rattle.rules.specs.Release.{releasesOf, firstUnlawful}
+use Rattle.rules.specs.Text.{Line, linesOf, nIn, releaseOf, planIn, releasesIn, headerCheck, stringLinesCheck, releaseLinesCheck, bodyCheck, linesCheck, textCheck, lawfulReading, readingOf}
+use Rattle.faults.proofs.Checks.{then-lawful}
 use Rattle.laws.proofs.Releases.{firstUnlawful-le}
 use Rattle.reading.specs.declared.Framed.{Framed}
-use Rattle.reading.specs.Place.{lineAt, Frame, HeaderRead, StringsRead, stringsBy, planBy, releasesBy, releaseListBy, framesFrom, restCheck, restReading, bodyReading, refusedReading}
+use Rattle.reading.specs.Place.{lineAt, Frame, HeaderRead, StringsRead, planBy, releasesBy, releaseListBy, framesFrom, restCheck, restReading, bodyReading, refusedReading}
 use Rattle.reading.proofs.Framing.{frame-next}
-use Rattle.reading.proofs.Numbers.{n-is, a-is, run-is}
+use Rattle.reading.proofs.Numbers.{a-is, run-is}
 use Rattle.reading.proofs.Heading.{lawful-n}
 use Rattle.reading.proofs.StringLines.{Strings, strings-given, line-here, lines-none}
 use Rattle.reading.proofs.Filling.{releasesBy-length}

@@ -10,10 +10,9 @@
 --     framesFrom k j lines  release lines from number k on, after j releases: how many are frames, and the fault that ends them, if one does
 --     refusedReading f at   what a refusal gives
 --     restReading text p, bodyReading text    what reading gives once the strings, once the header have been read
--- Assumes nothing.
 use Prim.Native.Nat.{ℕ, zero, suc, _+_, _*_, _<_}
 use mathlib.Core.Path.{_≡_}
-use mathlib.Core.Bool.{Bool, false, not, cond, _&&_}
+use mathlib.Core.Bool.{false, not, cond, _&&_}
 use mathlib.Core.List.{List, [], _∷_}
 use lib.Dec.{ltb, eqb}
 use lib.ListN.{length, getD, drop}
@@ -22,15 +21,16 @@ use Rattle.rules.specs.declared.BatteryString.{BatteryString}
 use Rattle.rules.specs.declared.Plan.{Plan}
 use Rattle.rules.specs.declared.Release.{Release}
 use Rattle.rules.specs.declared.Releases.{Releases}
-use Rattle.rules.specs.declared.Fault.{Fault}
-use Rattle.rules.specs.declared.Fault.the-variants.{FrameWrong, StringCount, OutOfBounds, MultipleOver, ReleaseTooMany}
-use Rattle.rules.specs.declared.Checked.{Checked}
-use Rattle.rules.specs.declared.Checked.the-variants.{Lawful, Refused}
+use Rattle.faults.specs.declared.Fault.{Fault}
+use Rattle.faults.specs.declared.Fault.the-variants.{FrameWrong, StringCount, OutOfBounds, MultipleOver, ReleaseTooMany}
+use Rattle.faults.specs.declared.Checked.{Checked}
+use Rattle.faults.specs.declared.Checked.the-variants.{Lawful, Refused}
 use Rattle.rules.specs.declared.Reading.{Reading}
-use Rattle.rules.specs.Plan.{inBounds, noString, multipleOf}
+use Rattle.rules.specs.Plan.{noString, multipleOf}
+use Rattle.faults.specs.Checks.{inBounds, then, refuseIf}
 use Rattle.rules.specs.Release.{noRelease}
-use Rattle.rules.specs.Refusal.{then, refuseIf}
-use Rattle.rules.specs.Text.{Line, linesOf, digitOf, frameOf, fieldAt, nIn, aIn, runIn, stringOf, releaseOf, filled, noPlan, noReleases, planIn, frameCheck, stringLinesCheck, releaseLinesCheck, bodyCheck, lawfulReading}
+use Rattle.lists.specs.Count.{filled}
+use Rattle.rules.specs.Text.{Line, linesOf, digitOf, frameOf, fieldAt, nIn, aIn, runIn, stringOf, releaseOf, noPlan, noReleases, planIn, frameCheck, stringLinesCheck, releaseLinesCheck, bodyCheck, lawfulReading}
 use Rattle.reading.specs.declared.Framed.{Framed}
 
 unfoldable pub digitRun : List ℕ → ℕ

@@ -1,8 +1,8 @@
 // One line of the text: is it well formed, and is it the frame that is wanted?
 use super::digits::byte_at;
 use super::digits::digit_run;
-use rules::Checked;
-use rules::Fault;
+use faults::Checked;
+use faults::Fault;
 ghost use mathlib.Core.Path.{_≡_};
 ghost use Prim.Native.Nat.{_≤_};
 ghost use lib.ListN.{length};

@@ -10,12 +10,12 @@ mod strings;
 use days::Day;
 use days::Length;
 use digits::byte_at;
+use faults::Checked;
+use faults::Fault;
 use header::header_check;
 use releases::release_frames;
 use releases::releases_in;
 use rules::BatteryString;
-use rules::Checked;
-use rules::Fault;
 use rules::Plan;
 use rules::Reading;
 use rules::Release;
@@ -23,10 +23,9 @@ use rules::Releases;
 use strings::plan_in;
 use strings::string_lines_check;
 ghost use mathlib.Core.Path.{_≡_};
-ghost use Prim.Native.Nat.{_+_, _*_, _≤_};
-ghost use lib.ListN.{length, drop};
-ghost use Rattle.rules.specs.Text.{linesOf, planIn, stringLinesCheck, readingOf};
-ghost use Rattle.reading.specs.Place.{lineAt, Frame, HeaderRead, StringsRead, bodyReading, restReading, refusedReading};
+ghost use Prim.Native.Nat.{_+_, _*_};
+ghost use Rattle.rules.specs.Text.{readingOf};
+ghost use Rattle.reading.specs.Place.{HeaderRead, StringsRead, bodyReading, restReading, refusedReading};
 
 // Release lines that are frames, up to the first that is not or the end: how many, and the fault that ended them.
 pub struct Framed {

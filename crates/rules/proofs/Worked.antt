@@ -1,7 +1,6 @@
 -- Document 01's worked plans, P1 to P10, its sample file, and two runs on which planners go wrong: one table, one statement.
 -- Each row is a question and the answer that the page gives. `worked` has antt compute every answer from the definitions.
--- Assumes nothing.
-use Prim.Native.Nat.{ℕ, zero, suc, _+_, _*_, _/_, _%_, _-_}
+use Prim.Native.Nat.{ℕ, zero, suc, _+_, _/_, _%_, _-_}
 use mathlib.Core.Path.{_≡_, refl}
 use mathlib.Core.Bool.{cond}
 use mathlib.Core.List.{List, [], _∷_, _++_, map, flatMap}
@@ -13,16 +12,7 @@ use Rattle.rules.specs.declared.BatteryString.{BatteryString}
 use Rattle.rules.specs.declared.Plan.{Plan}
 use Rattle.rules.specs.declared.Release.{Release}
 use Rattle.rules.specs.declared.Releases.{Releases}
-use Rattle.rules.specs.declared.Fault.the-variants.{OutOfBounds}
-use Rattle.rules.specs.declared.Checked.{Checked}
-use Rattle.rules.specs.declared.Checked.the-variants as checked
-use Rattle.rules.specs.declared.Verdict.{Verdict}
-use Rattle.rules.specs.declared.Verdict.the-variants.{Overload, Fail, Pass}
-use Rattle.rules.specs.declared.Assign.{Assign}
-use Rattle.rules.specs.declared.Assign.the-variants.{Takers}
-use Rattle.rules.specs.declared.Outcome.{Outcome}
-use Rattle.rules.specs.declared.Outcome.the-variants.{Miss, Clean}
-use Rattle.rules.specs.Count.{sumOf, largest, smallest, smallestWith, every, keep, countOf, upFrom, leastFrom}
+use Rattle.lists.specs.Count.{sumOf, largest, smallest, smallestWith, every, keep, countOf, upFrom, leastFrom}
 use Rattle.rules.specs.Plan.{noString, stringLawful, commonMultiple, multipleOf, dMin, dMax}
 use Rattle.rules.specs.Demand.{movingCost, holdOf, jobs, blockerHold, blockLimit, need, demand, load, overloaded}
 use Rattle.rules.specs.Verdict.{pairsAt, allPairs, broken, firstBroken, compared, judged, verdictOf, isPass}
@@ -30,10 +20,12 @@ use Rattle.rules.specs.Search.{permit, withSet, setPasses, setsOf, order
 use Rattle.rules.specs.Release.{noRelease, tooClose, outOfOrder, releaseLawful, unlawfulFrom, firstUnlawful}
 use Rattle.rules.specs.Run.{chosen, lateAt, newSlot, joinFrom, joined, holder, payer, taken, nextUp, given, useOf, spent, morning, stateAt, useOn, lateOn, history, daysOf, missDay, runOf}
 use Rattle.rules.specs.Refusal.{countCheck, numbersCheck, stringsCheck, multipleCheck, planCheck, setCheck, releasesCheck, runCheck, verdictAnswer, setAnswer, searchAnswer, runAnswer}
+use Rattle.rules.specs.Said.{Said, lawful, overload, fail, pass, takers, miss, clean, checkedSays, verdictSays, assignSays, outcomeSays}
 use Rattle.rules.specs.Answer.{answerOf}
 use Rattle.rules.specs.Answer as answers
 use Rattle.rules.specs.Lines.{bytesOf, decimalIn, decimal, refusedLine, verdictLine, assignLine, outcomeLine, linesFor}
-use Rattle.rules.specs.Text.{Line, before, linesOf, digitOf, wellFormed, pairsOf, frameOf, numberFrom, fieldAt, nIn, aIn, runIn, stringOf, releaseOf, filled, planIn, releasesIn, frameCheck, headerCheck, stringLineCheck, stringLinesCheck, releaseLineCheck, releaseLinesCheck, bodyCheck, linesCheck, textCheck, lawfulReading, readingOf}
+use Rattle.lists.specs.Count.{filled}
+use Rattle.rules.specs.Text.{before, linesOf, digitOf, wellFormed, pairsOf, frameOf, numberFrom, fieldAt, nIn, aIn, runIn, stringOf, releaseOf, planIn, releasesIn, frameCheck, headerCheck, stringLineCheck, stringLinesCheck, releaseLineCheck, releaseLinesCheck, bodyCheck, linesCheck, textCheck, lawfulReading, readingOf}
 
 -- ---- Writing plans and texts down
 
@@ -106,12 +98,13 @@ pub data Question : Type 0 where
   verdict-with : Plan → ℕ → Question
   search : Plan → Question
   run-with : Plan → ℕ → List Release → Question
+  load-with : Plan → ℕ → Question
+  read-text : List ℕ → Question
   file : List ℕ → Question
 
 pub data Answer : Type 0 where
-  verdict : Verdict → Answer
-  assign : Assign → Answer
-  run : Outcome → Answer
+  says : Said → Answer
+  load-and-H : ℕ → ℕ → Answer
   written : List ℕ → Answer
 
 pub record Row : Type 0 where
@@ -119,46 +112,44 @@ pub record Row : Type 0 where
   pub said : Answer
 
 unfoldable pub answered : Question → Answer
-answered (verdict-with p m) = verdict (setAnswer p m)
-answered (search p) = assign (searchAnswer p)
-answered (run-with p m rs) = run (runAnswer (withSet p m) (releases rs))
+answered (verdict-with p m) = says (verdictSays (setAnswer p m))
+answered (search p) = says (assignSays (searchAnswer p))
+answered (run-with p m rs) = says (outcomeSays (runAnswer (withSet p m) (releases rs)))
+answered (load-with p m) = load-and-H (load (withSet p m)) (multipleOf (withSet p m))
+answered (read-text text) = says (checkedSays (readingOf text .checked))
 answered (file text) = written (linesFor (answerOf text))
-
-unfoldable pub fails : ℕ → ℕ → ℕ → ℕ → Answer
-fails l b d k = verdict (Fail (days l) (days b) (days d) k)
-
-unfoldable pub clean : ℕ → ℕ → ℕ → Answer
-clean w m i = run (Clean (days w) (days m) (days i))
 
 unfoldable pub row : Question → Answer → Row
 row q a = record { asked = q; said = a }
 
 unfoldable pub table : List Row
 table =
-    row (verdict-with two 1) (verdict (Pass 44))  -- P1
-    ∷ row (verdict-with two 3) (verdict (Pass 48))  -- P2: the load is exactly H
-    ∷ row (verdict-with two 0) (fails 5 3 6 8)  -- P3
-    ∷ row (search three) (assign (Takers 3))  -- P4
-    ∷ row (verdict-with five 2) (fails 6 4 7 10)  -- P5: passes by the source's equation 7
-    ∷ row (run-with five 2 (release 0 3 2 ∷ release 1 2 1 ∷ release 2 1 3 ∷ [])) (run (Miss (day 8) 1))  -- P6
-    ∷ row (search five) (assign (Takers 0))  -- P7
-    ∷ row (search eight) (assign (Takers 1))  -- P8
-    ∷ row (verdict-with nine 1) (verdict Overload)  -- P9
-    ∷ row (verdict-with nine 0) (verdict (Pass 3))  -- P9
-    ∷ row (verdict-with ten 0) (verdict (Pass 1))  -- P10
+    row (verdict-with two 1) (says (pass 44))  -- P1
+    ∷ row (verdict-with two 3) (says (pass 48))  -- P2
+    ∷ row (load-with two 3) (load-and-H 10 10)  -- P2: the load is exactly H
+    ∷ row (verdict-with two 0) (says (fail 5 3 6 8))  -- P3
+    ∷ row (search three) (says (takers 3))  -- P4
+    ∷ row (verdict-with five 2) (says (fail 6 4 7 10))  -- P5: passes by the source's equation 7
+    ∷ row (run-with five 2 (release 0 3 2 ∷ release 1 2 1 ∷ release 2 1 3 ∷ [])) (says (miss 8 1))  -- P6
+    ∷ row (search (withSet five 2)) (says (takers 0))  -- P7: P5 as it stands, with set 2
+    ∷ row (search eight) (says (takers 1))  -- P8
+    ∷ row (verdict-with nine 1) (says (overload 0))  -- P9
+    ∷ row (verdict-with nine 0) (says (pass 3))  -- P9
+    ∷ row (verdict-with ten 0) (says (pass 1))  -- P10
+    ∷ row (read-text sample) (says lawful)
     ∷ row (file sample) (written (bytesOf "verdict pass pairs 44\nassign 1\nrun clean work 8 move 1 idle 11\n"))
     -- its second string with T 1001
     ∷ row (file (line 18 0x010102000100000014 ++ line 16 0x0201000a00030005 ++ line 16 0x020003e90005000a)) (written (bytesOf "refused 5 line 3\n"))
     ∷ row (file []) (written (bytesOf "refused 3 line 1\n"))
     -- equal deadlines never take the bank
-    ∷ row (run-with level 2 (release 0 1 5 ∷ release 1 2 3 ∷ [])) (clean 8 0 12)
+    ∷ row (run-with level 2 (release 0 1 5 ∷ release 1 2 3 ∷ [])) (says (clean 8 0 12))
     -- all releases of a day join before the bank is given: the later one in the list is due first
-    ∷ row (run-with two 0 (release 0 2 5 ∷ release 0 1 3 ∷ [])) (clean 8 0 12)
+    ∷ row (run-with two 0 (release 0 2 5 ∷ release 0 1 3 ∷ [])) (says (clean 8 0 12))
     ∷ []
 
 pub worked : map (λ r. answered (r .asked)) table ≡ map (λ r. r .said) table
 unfolding
-    answered fails clean row table string plan release releases char digits line two three five eight nine ten level sample
+    answered row table string plan release releases char digits line two three five eight nine ten level sample
     ones onesIn flatMap
     sumOf largest smallest smallestWith every keep countOf upFrom leastFrom
     stringLawful commonMultiple multipleOf dMin dMax

@@ -1,10 +1,10 @@
 -- All that is answered for a plan file (document 01, "Frames of the plan file"): its refusal, or verdict, search and run.
 --     answerOf text         the answer for a text
--- The verdict and the run use the X in the plan, not the set found; all three answers are given whatever the verdict is. Assumes nothing.
+-- The verdict and the run use the X in the plan, not the set found; all three answers are given whatever the verdict is.
 use Prim.Native.Nat.{ℕ}
 use mathlib.Core.List.{List}
-use Rattle.rules.specs.declared.Checked.{Checked}
-use Rattle.rules.specs.declared.Checked.the-variants as checked
+use Rattle.faults.specs.declared.Checked.{Checked}
+use Rattle.faults.specs.declared.Checked.the-variants as checked
 use Rattle.rules.specs.declared.Reading.{Reading}
 use Rattle.rules.specs.declared.Answer.{Answer}
 use Rattle.rules.specs.declared.Answer.the-variants.{Refused, Answered}

@@ -8,13 +8,12 @@
 --     Passes p              demand ≤ l for every whole l ≥ 1 and every b ≤ B: no upper end
 --     load p                the sum over strings of E × H / T
 --     overloaded p          the load exceeds H
--- Assumes nothing.
 use Prim.Native.Nat.{ℕ, _+_, _-_, _*_, _/_, _≤_, min}
 use mathlib.Core.Bool.{Bool, cond, _&&_}
 use lib.Dec.{leb, ltb, eqb}
 use Rattle.rules.specs.declared.BatteryString.{BatteryString}
 use Rattle.rules.specs.declared.Plan.{Plan}
-use Rattle.rules.specs.Count.{sumOf, largest}
+use Rattle.lists.specs.Count.{sumOf, largest}
 use Rattle.rules.specs.Plan.{stringsOf, multipleOf, dMin, dMax}
 
 unfoldable pub movingCost : Plan → BatteryString → ℕ

@@ -1,5 +1,4 @@
--- The rules of document 01, in its order. Read: Plan, Demand, Verdict, Search, Release, Run, Refusal, Text, Answer, Lines.
-pub mod Count
+-- The rules of document 01, in its order. Read: Plan, Demand, Verdict, Search, Release, Run, Refusal, Text, Answer, Said, Lines.
 pub mod Plan
 pub mod Demand
 pub mod Verdict
@@ -9,4 +8,5 @@ pub mod Run
 pub mod Refusal
 pub mod Text
 pub mod Answer
+pub mod Said
 pub mod Lines

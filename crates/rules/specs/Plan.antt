@@ -1,21 +1,20 @@
 -- A plan and the bounds on it (document 01, "What the desk plans", "Bounds on a plan").
 --     stringsOf p           the strings of p, by place
 --     stringAt p i          the string at place i, from 1
---     inBounds low v high   low ≤ v ≤ high
 --     commonMultiple ss h   every T of ss divides h
 --     multipleOf p          H, the least common multiple of all T; 100,001 stands for any H over 100,000
 --     dMin p, dMax p        the smallest and the largest D
 --     stringLawful s        T 1 to 1,000; D 1 to T; C 1 to D; X 0 or 1
--- Assumes nothing.
-use Prim.Native.Nat.{ℕ, _+_, _-_, _%_}
+use Prim.Native.Nat.{ℕ, _-_, _%_}
 use mathlib.Core.Bool.{Bool, _&&_}
 use mathlib.Core.List.{List}
-use lib.Dec.{leb, eqb}
+use lib.Dec.{eqb}
 use lib.ListN.{take, getD}
 use Rattle.days.specs.Days.{days}
+use Rattle.faults.specs.Checks.{inBounds}
 use Rattle.rules.specs.declared.BatteryString.{BatteryString}
 use Rattle.rules.specs.declared.Plan.{Plan}
-use Rattle.rules.specs.Count.{every, largest, smallest, leastFrom}
+use Rattle.lists.specs.Count.{every, largest, smallest, leastFrom}
 
 abbrev pub stringsOf : Plan → List BatteryString
 stringsOf p = take (p .n) (p .strings)
@@ -26,9 +25,6 @@ noString = record { t = days 0; c = days 0; d = days 0; x = 0 }
 
 abbrev pub stringAt : Plan → ℕ → BatteryString
 stringAt p i = getD (stringsOf p) (i - 1) noString
-
-abbrev pub inBounds : ℕ → ℕ → ℕ → Bool
-inBounds low v high = leb low v && leb v high
 
 unfoldable pub stringLawful : BatteryString → Bool
 stringLawful s =

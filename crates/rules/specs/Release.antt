@@ -4,7 +4,7 @@
 --     outOfOrder r seen     the day of r is before that of the release listed just ahead of it
 --     releaseLawful p seen r     r may stand after the releases seen
 --     firstUnlawful p rs    the place in the list, from 1, of the first that may not stand there; 0 where all may
--- Exactly T days apart is lawful. Assumes nothing.
+-- Exactly T days apart is lawful.
 use Prim.Native.Nat.{ℕ, suc, _+_}
 use mathlib.Core.Bool.{Bool, false, not, cond, _&&_}
 use mathlib.Core.List.{List, [], _∷_}
@@ -14,7 +14,8 @@ use Rattle.days.specs.Days.{day, days}
 use Rattle.rules.specs.declared.Plan.{Plan}
 use Rattle.rules.specs.declared.Release.{Release}
 use Rattle.rules.specs.declared.Releases.{Releases}
-use Rattle.rules.specs.Plan.{inBounds, stringAt}
+use Rattle.rules.specs.Plan.{stringAt}
+use Rattle.faults.specs.Checks.{inBounds}
 
 abbrev pub releasesOf : Releases → List Release
 releasesOf rs = take (rs .count) (rs .list)

@@ -13,7 +13,6 @@
 --     daysOf p rs kind      how many days of the run are of a kind
 --     missDay p rs          the first day, 0 to N, on which step 1 ends the run; N + 1 where none does
 --     runOf p rs            how the run ends, over lawful releases
--- Assumes nothing.
 use Prim.Native.Nat.{ℕ, zero, suc, _+_, _-_}
 use mathlib.Core.Bool.{Bool, true, false, cond, _&&_, _||_}
 use mathlib.Core.List.{List, [], _∷_, _++_, map}
@@ -31,7 +30,7 @@ use Rattle.rules.specs.declared.Use.{Use}
 use Rattle.rules.specs.declared.Use.the-variants.{Idle, Work, Move}
 use Rattle.rules.specs.declared.Outcome.{Outcome}
 use Rattle.rules.specs.declared.Outcome.the-variants.{Miss, Clean}
-use Rattle.rules.specs.Count.{countOf, leastFrom}
+use Rattle.lists.specs.Count.{countOf, leastFrom}
 use Rattle.rules.specs.Plan.{stringsOf, stringAt, noString}
 use Rattle.rules.specs.Demand.{movingCost}
 

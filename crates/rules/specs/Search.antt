@@ -5,7 +5,7 @@
 --     setsOf n k            the sets of n places with k ones, rising
 --     ordered n             all 2^n sets: fewer ones first, among equals the smaller number first
 --     searchOf p            the first set of that order that passes
--- The X of the plan plays no part in the answer. Assumes nothing.
+-- The X of the plan plays no part in the answer.
 use Prim.Native.Nat.{ℕ, suc, _/_, _%_, _^_}
 use mathlib.Core.Bool.{Bool, cond}
 use mathlib.Core.List.{List, [], _∷_, flatMap}
@@ -15,7 +15,7 @@ use Rattle.rules.specs.declared.BatteryString.{BatteryString}
 use Rattle.rules.specs.declared.Plan.{Plan}
 use Rattle.rules.specs.declared.Assign.{Assign}
 use Rattle.rules.specs.declared.Assign.the-variants.{Takers, Nobody}
-use Rattle.rules.specs.Count.{upFrom, keep}
+use Rattle.lists.specs.Count.{upFrom, keep}
 use Rattle.rules.specs.Verdict.{verdictOf, isPass}
 
 unfoldable pub permit : ℕ → List BatteryString → List BatteryString

@@ -9,25 +9,24 @@
 --     planIn lines, releasesIn lines    the plan and the releases that lines write, where they are lawful
 --     textCheck text        the first fault, with its line; the order of faults is document 01's
 --     readingOf text        what reading a text gives: on a refusal an empty plan and no releases
--- Assumes nothing.
 use Prim.Native.Nat.{ℕ, zero, suc, _+_, _-_, _*_, _%_}
 use mathlib.Core.Bool.{Bool, true, false, not, cond, _&&_}
-use mathlib.Core.List.{List, [], _∷_, _++_, map}
-use lib.Dec.{ltb, leb, eqb}
+use mathlib.Core.List.{List, [], _∷_, map}
+use lib.Dec.{ltb, eqb}
 use lib.ListN.{length, take, drop, replicate}
 use Rattle.days.specs.Days.{day, days}
 use Rattle.rules.specs.declared.BatteryString.{BatteryString}
 use Rattle.rules.specs.declared.Plan.{Plan}
 use Rattle.rules.specs.declared.Release.{Release}
 use Rattle.rules.specs.declared.Releases.{Releases}
-use Rattle.rules.specs.declared.Fault.the-variants.{TextTooLong, LineMalformed, FrameWrong, StringCount, OutOfBounds, MultipleOver, ReleaseTooMany, ReleaseUnlawful}
-use Rattle.rules.specs.declared.Checked.{Checked}
-use Rattle.rules.specs.declared.Checked.the-variants.{Lawful, Refused}
+use Rattle.faults.specs.declared.Fault.the-variants.{TextTooLong, LineMalformed, FrameWrong, StringCount, OutOfBounds, MultipleOver, ReleaseTooMany, ReleaseUnlawful}
+use Rattle.faults.specs.declared.Checked.{Checked}
+use Rattle.faults.specs.declared.Checked.the-variants.{Lawful, Refused}
 use Rattle.rules.specs.declared.Reading.{Reading}
-use Rattle.rules.specs.Count.{every}
-use Rattle.rules.specs.Plan.{inBounds, stringLawful, noString, multipleOf}
+use Rattle.lists.specs.Count.{every, filled}
+use Rattle.rules.specs.Plan.{stringLawful, noString, multipleOf}
+use Rattle.faults.specs.Checks.{inBounds, then, refuseIf}
 use Rattle.rules.specs.Release.{releaseLawful, noRelease}
-use Rattle.rules.specs.Refusal.{then, refuseIf}
 
 -- ---- Lines
 
@@ -98,10 +97,6 @@ releaseOf line =
     record { day = day (fieldAt f 2 4); place = fieldAt f 1 1; need = days (fieldAt f 6 2) }
 
 -- ---- The plan and the releases
-
--- xs, and z to fill k places
-abbrev pub filled {ℓ} : {A : Type ℓ} → ℕ → A → List A → List A
-filled k z xs = xs ++ replicate (k - length xs) z
 
 abbrev pub noPlan : Plan
 noPlan = record { n = 0; a = days 0; run = days 0; strings = replicate 10 noString }

@@ -2,6 +2,11 @@
 // Letters are document 01's: T, C, D and X of a string, n, A and N of a plan.
 use days::Day;
 use days::Length;
+use faults::Checked;
+use faults::Fault;
+ghost use mathlib.Core.Path.{_≡_};
+ghost use Rattle.days.specs.Days.{days};
+ghost use Rattle.rules.specs.Demand.{movingCost};
 
 // A battery string: least days between two releases, most working days of a job, days from release to deadline, and
 // whether its jobs may take the bank (1) or not (0).
@@ -20,6 +25,15 @@ pub struct Plan {
     pub strings: [BatteryString; 10],
 }
 
+impl Plan {
+    // What a job of the string pays for taking the bank.
+    pub fn moving_cost(self, s: BatteryString) -> Length
+        ensures exact { λ r. ⌜ r ≡ days (movingCost self s) ⌝ }
+    {
+        self.a
+    }
+}
+
 // A release: its day, the place of its string (from 1), and the working days it needs.
 pub struct Release {
     pub day: Day,
@@ -31,24 +45,6 @@ pub struct Release {
 pub struct Releases {
     pub count: usize,
     pub list: [Release; 1000],
-}
-
-// Why a plan, a text or a list is refused.
-pub enum Fault {
-    TextTooLong,
-    LineMalformed,
-    FrameWrong,
-    StringCount,
-    OutOfBounds,
-    MultipleOver,
-    ReleaseTooMany,
-    ReleaseUnlawful,
-}
-
-// Whether all rules were met; if not, the first fault, and where: a line, a place, or 0 for the whole.
-pub enum Checked {
-    Lawful,
-    Refused { fault: Fault, at: usize },
 }
 
 // What a text says: whether it is lawful and, where it is, the plan and the releases.

@@ -1,5 +1,4 @@
 -- Laws of `chosen`: what the next place makes of the choice so far, and that only the places looked at matter.
--- Assumes nothing.
 use Prim.Native.Nat.{ℕ, zero, suc, _-_, _≤_}
 use mathlib.Core.Path.{_≡_, refl, _∙_}
 use mathlib.Core.Bool.{Bool, true, false}
@@ -13,7 +12,7 @@ use lib.ListN.{length, getD, take}
 use lib.Seq.{getD-take, length-take-le}
 use Rattle.rules.specs.declared.Slot.{Slot}
 use Rattle.rules.specs.Run.{chosen, noSlot, slotAt}
-use Rattle.laws.proofs.Lists.{by-bool}
+use Rattle.lists.proofs.Lists.{by-bool}
 
 module _ (ok : Slot → Bool) (ahead : Slot → Slot → Bool) (ss : List Slot) where
   pub chosen-none : chosen ok ahead ss 0 ≡ 0

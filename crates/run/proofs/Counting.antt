@@ -1,5 +1,4 @@
 -- The tally of a run's days: a day more adds to the kind of that day, and no kind has more days than have passed.
--- Assumes nothing.
 use Prim.Native.Nat.{ℕ, zero, suc, _+_, _≤_}
 use mathlib.Core.Path.{_≡_, refl, _∙_}
 use mathlib.Core.Bool.{Bool, cond}
@@ -11,9 +10,9 @@ use Rattle.rules.specs.declared.Plan.{Plan}
 use Rattle.rules.specs.declared.Release.{Release}
 use Rattle.rules.specs.declared.Use.{Use}
 use Rattle.rules.specs.declared.Use.the-variants.{Idle, Work, Move}
-use Rattle.rules.specs.Count.{countOf}
+use Rattle.lists.specs.Count.{countOf}
 use Rattle.rules.specs.Run.{useOn, history, isWork, isMove, isIdle}
-use Rattle.laws.proofs.Lists.{by-bool}
+use Rattle.lists.proofs.Lists.{by-bool}
 use Rattle.run.specs.Tally.{addedTo, tallyOf, Under}
 
 countOf-end : (f : Use → Bool) (us : List Use) (u : Use) → countOf f (us ++ (u ∷ [])) ≡ countOf f us + cond (f u) 1 0

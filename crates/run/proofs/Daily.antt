@@ -4,7 +4,6 @@
 --     Joining p rs t from slots next        in step 2 of day t: with the releases from next on still to join, the slots become those
 --                                           that step 2 makes; where none has joined since from, they are those of the morning
 --     Joined p rs t from slots next         after step 2
--- Assumes nothing.
 use Prim.Native.Nat.{ℕ, _+_, _-_, _≤_, _<_}
 use mathlib.Core.Path.{_≡_, sym, ap, _∙_}
 use mathlib.Core.List.{List, map}

@@ -1,5 +1,4 @@
 -- How a run ends: at the first day on which step 1 finds a job, or clean where it finds none.
--- Assumes nothing.
 use Prim.Native.Nat.{ℕ, suc, _≤_, _<_}
 use mathlib.Core.Path.{_≡_}
 use mathlib.Core.List.{List}
@@ -11,7 +10,7 @@ use Rattle.rules.specs.declared.Plan.{Plan}
 use Rattle.rules.specs.declared.Release.{Release}
 use Rattle.rules.specs.declared.Outcome.the-variants.{Miss, Clean}
 use Rattle.rules.specs.Run.{lateOn, missDay, daysOf, runOf}
-use Rattle.laws.proofs.Least.{leastFrom-unique, leastFrom-none}
+use Rattle.lists.proofs.Least.{leastFrom-unique, leastFrom-none}
 use Rattle.run.specs.Tally.{tallyOf}
 
 module _ (p : Plan) (rs : List Release) where

@@ -1,6 +1,5 @@
 -- Step 2 over a part of the list: releases of other days change nothing, so it is enough to join those of today that follow
 -- each other from the first that has not joined.
--- Assumes nothing.
 use Prim.Native.Nat.{ℕ, zero, suc, _+_, _-_, _<_}
 use mathlib.Core.Path.{_≡_, refl, ap, _∙_}
 use mathlib.Core.List.{List, [], _∷_}
@@ -15,7 +14,7 @@ use Rattle.rules.specs.declared.Release.{Release}
 use Rattle.rules.specs.declared.Slot.{Slot}
 use Rattle.rules.specs.Release.{noRelease}
 use Rattle.rules.specs.Run.{newSlot, joinFrom}
-use Rattle.laws.proofs.Lists.{by-bool, All}
+use Rattle.lists.proofs.Lists.{by-bool, All}
 use Rattle.run.proofs.Places.{all-set}
 
 abbrev pub dayAt : List Release → ℕ → ℕ

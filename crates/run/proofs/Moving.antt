@@ -1,5 +1,4 @@
 -- What each step does to the moving that is left: only the payer's grows, by one moving cost a day.
--- Assumes nothing.
 use Prim.Native.Nat.{ℕ, _+_, _-_, _≤_}
 use mathlib.Core.Path.{_≡_, refl, sym, ap, _∙_}
 use mathlib.Core.List.{List}
@@ -14,7 +13,7 @@ use Rattle.rules.specs.declared.Job.the-variants.{Empty, Waiting, OnBank}
 use Rattle.rules.specs.declared.Slot.{Slot}
 use Rattle.rules.specs.Demand.{movingCost}
 use Rattle.rules.specs.Run.{noSlot, slotAt, withJob, stopped, charged, seated, onOrGone, spentJob, stop}
-use Rattle.laws.proofs.Lists.{by-bool}
+use Rattle.lists.proofs.Lists.{by-bool}
 use Rattle.run.specs.Job.{movingLeft}
 use Rattle.run.specs.Day.{MovingWithin}
 use Rattle.run.proofs.Places.{slotAt-take, change-take, all-set, all-getD}

@@ -1,6 +1,5 @@
 -- Laws of slots by place: the first n slots of an array under a read and under a change at one of their places, and what
 -- holds of every job after a change.
--- Assumes nothing.
 use Prim.Native.Nat.{ℕ, zero, suc, _-_, _≤_}
 use mathlib.Core.Path.{_≡_, refl, ap}
 use mathlib.Core.List.{List, [], _∷_, map}
@@ -10,7 +9,7 @@ use lib.Seq.{getD-take, take-set-lt}
 use Rattle.rules.specs.declared.Job.{Job}
 use Rattle.rules.specs.declared.Slot.{Slot}
 use Rattle.rules.specs.Run.{noSlot, slotAt, withJob}
-use Rattle.laws.proofs.Lists.{All}
+use Rattle.lists.proofs.Lists.{All}
 
 -- ---- The first n slots
 

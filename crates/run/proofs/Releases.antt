@@ -1,5 +1,4 @@
 -- A lawful release may join: its string is one of the plan's, so its deadline is a day of the code.
--- Assumes nothing.
 use Prim.Native.Nat.{_-_, _<_}
 use mathlib.Core.Path.{_≡_}
 use native.Mathlib.Omega.{arith}
@@ -8,7 +7,7 @@ use lib.Seq.{length-take-le}
 use Rattle.rules.specs.declared.Plan.{Plan}
 use Rattle.rules.specs.declared.Release.{Release}
 use Rattle.rules.specs.Plan.{stringsOf, noString}
-use Rattle.laws.proofs.Lists.{all-at}
+use Rattle.lists.proofs.Lists.{all-at}
 use Rattle.laws.proofs.Lawful.{LawfulString, LawfulPlan}
 use Rattle.laws.proofs.ReleaseList.{LawfulRelease}
 use Rattle.run.specs.Join.{Joins}

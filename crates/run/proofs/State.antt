@@ -2,7 +2,6 @@
 -- slot with a job was released on an earlier day. So a day without a release has no taker, and step 3 changes nothing.
 --     withOwn s j           the slot s with the job j
 --     Old t s               s has no job, or was released before day t
--- Assumes nothing.
 use Prim.Native.Nat.{ℕ, zero, suc, _-_, _*_, _≤_, _<_}
 use mathlib.Core.Path.{_≡_, refl, ap, _∙_}
 use mathlib.Core.Logic.{_⊎_, inl, inr}
@@ -22,7 +21,7 @@ use Rattle.rules.specs.declared.Slot.{Slot}
 use Rattle.rules.specs.Plan.{stringsOf}
 use Rattle.rules.specs.Demand.{movingCost}
 use Rattle.rules.specs.Run.{emptySlot, noSlot, slotAt, withJob, waits, newSlot, joined, holder, mayTake, dueBefore, payer, stopped, charged, stop, taken, nextUp, seated, given, spentJob, spent, morning, stateAt}
-use Rattle.laws.proofs.Lists.{All, all-map, by-bool}
+use Rattle.lists.proofs.Lists.{All, all-map, by-bool}
 use Rattle.run.specs.Job.{movingLeft}
 use Rattle.run.specs.Day.{MovingWithin}
 use Rattle.run.proofs.Chosen.{chosen-nobody}

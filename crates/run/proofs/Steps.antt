@@ -1,5 +1,4 @@
 -- Laws of the steps of a day: each question asked of the first n slots of an array, and each step by its cases.
--- Assumes nothing.
 use Prim.Native.Nat.{ℕ, _≤_}
 use mathlib.Core.Path.{_≡_, refl, sym, ap, _∙_}
 use mathlib.Core.List.{List}

@@ -2,7 +2,6 @@
 --     MovingWithin k ss     no job of ss has more than k days of moving left, so that adding a moving cost fits
 --     Ended n slots e       the evening e is what step 5 makes of the first n slots
 --     EndedOn p t slots e   the evening e is what steps 3 to 5 of day t make of the slots of p's strings
--- Assumes nothing.
 use Prim.Native.Nat.{ℕ, _≤_}
 use mathlib.Core.Path.{_≡_}
 use mathlib.Core.List.{List}
@@ -10,7 +9,7 @@ use lib.ListN.{take}
 use Rattle.rules.specs.declared.Plan.{Plan}
 use Rattle.rules.specs.declared.Slot.{Slot}
 use Rattle.rules.specs.Run.{taken, given, useOf, spent}
-use Rattle.laws.proofs.Lists.{All}
+use Rattle.lists.proofs.Lists.{All}
 use Rattle.run.specs.declared.day.Evening.{Evening}
 use Rattle.run.specs.Job.{movingLeft}
 

@@ -1,7 +1,6 @@
 -- Parts of a job that the contracts of the code name.
 --     movingLeft job        the days of moving that are left
 --     lessOne n             a day less than n; of nothing, nothing
--- Assumes nothing.
 use Prim.Native.Nat.{ℕ, _-_}
 use Rattle.days.specs.declared.Length.{Length}
 use Rattle.days.specs.Days.{days}

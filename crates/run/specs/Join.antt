@@ -1,6 +1,5 @@
 -- What step 2 asks of a release.
 --     Joins p r             the place of r is one of p's strings, and its deadline is a day that the code can say
--- Assumes nothing.
 use Prim.Native.Nat.{_+_, _≤_, _<_, _^_}
 use Rattle.rules.specs.declared.Plan.{Plan}
 use Rattle.rules.specs.declared.Release.{Release}

@@ -1,7 +1,6 @@
 -- What is asked of the slots: the test and the order with which `chosen` answers each question of a day.
 --     okOf q s              the slot s passes
 --     aheadOf q s r         of two that pass, s is ahead of r
--- Assumes nothing.
 use mathlib.Core.Bool.{Bool, _&&_}
 use lib.Dec.{ltb, eqb}
 use Rattle.rules.specs.declared.Slot.{Slot}

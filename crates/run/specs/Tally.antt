@@ -2,7 +2,6 @@
 --     addedTo tally u       the tally with a day more, on which the bank did u
 --     tallyOf p rs k        the tally of the days 0 to k − 1
 --     Under k tally         no kind has more than k days, so that a day more fits
--- Assumes nothing.
 use Prim.Native.Nat.{ℕ, _+_, _≤_}
 use mathlib.Core.List.{List}
 use Rattle.days.specs.Days.{days}
@@ -10,7 +9,7 @@ use Rattle.rules.specs.declared.Plan.{Plan}
 use Rattle.rules.specs.declared.Release.{Release}
 use Rattle.rules.specs.declared.Use.{Use}
 use Rattle.rules.specs.declared.Use.the-variants.{Idle, Work, Move}
-use Rattle.rules.specs.Count.{countOf}
+use Rattle.lists.specs.Count.{countOf}
 use Rattle.rules.specs.Run.{history, isWork, isMove, isIdle}
 use Rattle.run.specs.declared.tally.Tally.{Tally}
 

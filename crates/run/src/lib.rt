@@ -10,9 +10,10 @@ use day::late_place;
 use day::rest_of_day;
 use days::Day;
 use days::Length;
+use faults::Checked;
+use release::day_after;
 use release::empty_slots;
 use release::join;
-use rules::Checked;
 use rules::Outcome;
 use rules::Plan;
 use rules::Releases;
@@ -43,7 +44,7 @@ fn run_days(p: Plan, rs: Releases) -> Outcome
     ensures exact { λ r. ⌜ r ≡ runOf p (releasesOf rs) ⌝ }
 {
     let n = p.n;
-    let end = p.run.0;
+    let end = day_after(Day(0), p.run);
     let strings = p.strings;
     let count = rs.count;
     let list = rs.list;
@@ -54,9 +55,8 @@ fn run_days(p: Plan, rs: Releases) -> Outcome
         idle: Length(0),
     };
     let mut next: usize = 0;
-    let mut t: u32 = 0;
-    while t < end {
-        let today = Day(t);
+    let mut today = Day(0);
+    while today.before(end) {
         let late = late_place(slots, n, today);
         if late != 0 {
             return Outcome::Miss {
@@ -67,7 +67,7 @@ fn run_days(p: Plan, rs: Releases) -> Outcome
         let first = next;
         while next < count {
             let r = list[next];
-            if r.day.0 != t {
+            if r.day.0 != today.0 {
                 break;
             }
             let joined = join(slots, p, r, next + 1);
@@ -79,13 +79,12 @@ fn run_days(p: Plan, rs: Releases) -> Outcome
         let used = evening.used;
         slots = after;
         tally = counted(tally, used);
-        t += 1;
+        today = day_after(today, Length(1));
     }
-    let last = Day(end);
-    let late = late_place(slots, n, last);
+    let late = late_place(slots, n, end);
     if late != 0 {
         return Outcome::Miss {
-            day: last,
+            day: end,
             place: late,
         };
     }

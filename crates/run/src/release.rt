@@ -16,7 +16,7 @@ ghost use Rattle.rules.specs.Run.{emptySlot, newSlot};
 ghost use Rattle.run.specs.Join.{Joins};
 
 // The day that lies `length` after `from`, where the code's numbers can say it.
-fn day_after(from: Day, length: Length) -> Day
+pub(crate) fn day_after(from: Day, length: Length) -> Day
     requires { ⌜ from .0 + length .0 < 2 ^ 32 ⌝ }
     ensures exact { λ r. ⌜ r ≡ day (from .0 + length .0) ⌝ }
 {

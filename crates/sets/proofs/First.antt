@@ -1,6 +1,5 @@
 -- The first passing set of a list, and what the search's list is: every set below 2^n, fewer ones first, then the smaller number.
 --     Sooner m k            the set m comes before k: fewer ones, or as many and a smaller number
--- Assumes nothing.
 use Prim.Native.Nat.{ℕ, suc, _^_, _<_, zero-le}
 use mathlib.Core.Path.{_≡_, refl, sym, _∙_}
 use mathlib.Core.Logic.{_⊎_, inl, inr}
@@ -12,11 +11,11 @@ use lib.Count.{ones, ones-le}
 use lib.Dec.{eqb}
 use Rattle.rules.specs.declared.Plan.{Plan}
 use Rattle.rules.specs.declared.Assign.the-variants.{Takers, Nobody}
-use Rattle.rules.specs.Count.{upFrom}
+use Rattle.lists.specs.Count.{upFrom}
 use Rattle.rules.specs.Search.{setPasses, setsOf, ordered, firstPassing}
-use Rattle.laws.proofs.Lists.{All, all-map, by-bool, true-not-false}
-use Rattle.horizon.proofs.Order.{Rising, all-keep, keep-all, all-flat, flat-all}
-use Rattle.horizon.proofs.Order.{all-upFrom, upFrom-all, rising-keep, rising-within, rising-flat, rising-upFrom}
+use Rattle.lists.proofs.Lists.{All, all-map, by-bool, true-not-false}
+use Rattle.lists.proofs.Order.{Rising, all-keep, keep-all, all-flat, flat-all}
+use Rattle.lists.proofs.Order.{all-upFrom, upFrom-all, rising-keep, rising-within, rising-flat, rising-upFrom}
 
 -- ---- The first passing set
 

@@ -2,3 +2,4 @@
 pub mod First
 pub mod Walk
 pub mod Search
+pub mod Permissions

@@ -1,7 +1,6 @@
 -- The search's definition means what document 01 says: the set found passes, none that passes has fewer ones, none with as many
 -- is smaller, and "none" is given exactly if no set below 2^n passes. It names one answer.
 --     Best p m              m passes, no passing set has fewer ones, and none with as many ones is smaller
--- Assumes nothing.
 use Prim.Native.Nat.{ℕ, _^_, _≤_, _<_}
 use mathlib.Core.Path.{_≡_, sym, ap, _∙_}
 use mathlib.Core.Logic.{_⊎_, inl, inr, _↔_}
@@ -13,7 +12,7 @@ use Rattle.rules.specs.declared.Plan.{Plan}
 use Rattle.rules.specs.declared.Assign.the-variants.{Takers, Nobody}
 use Rattle.rules.specs.Demand.{Passes}
 use Rattle.rules.specs.Search.{withSet, setPasses, ordered, searchOf}
-use Rattle.laws.proofs.Lists.{true-not-false}
+use Rattle.lists.proofs.Lists.{true-not-false}
 use Rattle.laws.proofs.Lawful.{LawfulPlan}
 use Rattle.horizon.proofs.Verdict.{pass-exactly}
 use Rattle.horizon.proofs.Sets.{withSet-lawful}

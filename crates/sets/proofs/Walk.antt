@@ -1,7 +1,7 @@
 -- The search as a walk meets its sets: for each count of ones, over all numbers below 2^n, past those with another count.
 --     setsFrom n k m        the sets of n places with k ones, from the number m on
 --     setRows n k           the sets of n places with k ones or more, in the search's order
--- The walk cites walk-row, walk-other, walk-fails, walk-found, walk-row-end and walk-end. Assumes nothing.
+-- The walk cites walk-row, walk-other, walk-fails, walk-found, walk-row-end and walk-end.
 use Prim.Native.Nat.{ℕ, suc, _+_, _-_, _^_, _≤_, _<_}
 use mathlib.Core.Path.{_≡_, ap, _∙_}
 use mathlib.Core.Bool.{true, false}
@@ -13,9 +13,9 @@ use lib.Count.{ones}
 use lib.Dec.{eqb}
 use Rattle.rules.specs.declared.Plan.{Plan}
 use Rattle.rules.specs.declared.Assign.the-variants.{Takers, Nobody}
-use Rattle.rules.specs.Count.{upFrom, keep}
+use Rattle.lists.specs.Count.{upFrom, keep}
 use Rattle.rules.specs.Search.{setPasses, setsOf, ordered, firstPassing, searchOf}
-use Rattle.horizon.proofs.Order.{keep-yes, keep-no}
+use Rattle.lists.proofs.Order.{keep-yes, keep-no}
 use Rattle.sets.proofs.First.{firstPassing-here, firstPassing-later, firstPassing-end}
 
 unfoldable pub setsFrom : ℕ → ℕ → ℕ → List ℕ

@@ -5,7 +5,6 @@
 --     asks t d s            1 if a near job came to the slot s on day t, else 0
 --     Span ..               the last of k near releases of a place since the start is T days after the one before, and so on
 --     Blocker ..            some string's job, not near, can have blocked for b days
--- Assumes nothing.
 use Prim.Native.Nat.{ℕ, suc, _+_, _*_, _≤_, _<_}
 use mathlib.Core.Path.{_≡_, refl, sym, ap, _∙_, subst}
 use mathlib.Core.Logic.{_⊎_, inl, inr}
@@ -24,11 +23,11 @@ use Rattle.rules.specs.Plan.{stringsOf}
 use Rattle.rules.specs.Release.{firstUnlawful}
 use Rattle.rules.specs.Demand.{holdOf}
 use Rattle.rules.specs.Run.{onBank, waits, left}
-use Rattle.laws.proofs.Lists.{true-not-false}
+use Rattle.lists.proofs.Lists.{true-not-false}
 use Rattle.sound.proofs.Chosen.{at, Choice}
 use Rattle.sound.proofs.Places.{holder-choice}
 use Rattle.laws.proofs.ReleaseList.{str, Released, released-apart}
-use Rattle.sound.proofs.Sums.{sumTo, sumTo-none, sumTo-part}
+use Rattle.lists.proofs.Sums.{sumTo, sumTo-none, sumTo-part}
 use Rattle.sound.proofs.Orderly.{Live, Orderly, on-held, live-if-on}
 
 -- ---- What is left in near jobs

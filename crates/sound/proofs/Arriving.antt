@@ -1,5 +1,4 @@
 -- Steps 2 and 3 keep the slots orderly, where nobody is late: a release joins an empty slot, since D ≤ T, and who pays came today.
--- Assumes nothing.
 use Prim.Native.Nat.{ℕ, suc, _+_, _≤_, _<_}
 use mathlib.Core.Path.{_≡_, refl, sym, ap, _∙_}
 use mathlib.Core.Logic.{inl, inr}
@@ -15,7 +14,7 @@ use Rattle.rules.specs.Plan.{stringsOf, stringAt, noString}
 use Rattle.rules.specs.Release.{noRelease, firstUnlawful}
 use Rattle.rules.specs.Demand.{movingCost, holdOf}
 use Rattle.rules.specs.Run.{onBank, waits, left, newSlot, joined, taken, lateAt}
-use Rattle.laws.proofs.Lists.{true-not-false, all-at}
+use Rattle.lists.proofs.Lists.{true-not-false, all-at}
 use Rattle.laws.proofs.Lawful.{LawfulPlan, LawfulString}
 use Rattle.sound.specs.Served.{payerIn}
 use Rattle.sound.proofs.Chosen.{at}

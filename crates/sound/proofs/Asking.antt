@@ -1,5 +1,4 @@
 -- What a morning adds to the account, by place: near jobs that came today, at most E each; the rest is as it was.
--- Assumes nothing.
 use Prim.Native.Nat.{ℕ, suc, _+_, _*_, _≤_, _<_}
 use mathlib.Core.Path.{_≡_, sym, ap, _∙_}
 use mathlib.Core.Logic.{inl, inr}
@@ -20,12 +19,12 @@ use Rattle.rules.specs.Plan.{stringsOf}
 use Rattle.rules.specs.Release.{noRelease, firstUnlawful}
 use Rattle.rules.specs.Demand.{holdOf}
 use Rattle.rules.specs.Run.{onBank, waits, left, stopped, newSlot, joined, taken, lateAt}
-use Rattle.laws.proofs.Lists.{by-bool, true-not-false, and-left, and-right}
+use Rattle.lists.proofs.Lists.{by-bool, true-not-false, and-left, and-right}
 use Rattle.laws.proofs.Lawful.{LawfulPlan}
 use Rattle.sound.proofs.Chosen.{at}
 use Rattle.sound.proofs.Places.{putJob}
 use Rattle.laws.proofs.ReleaseList.{str, Released, release-string}
-use Rattle.sound.proofs.Sums.{sumTo, sumTo-le, sumTo-add}
+use Rattle.lists.proofs.Sums.{sumTo, sumTo-le, sumTo-add}
 use Rattle.sound.proofs.Orderly.{Sits, Orderly, stopped-left, stopped-off, empty-not-waits, live-if-left}
 use Rattle.sound.proofs.Arriving.{morning-orderly}
 use Rattle.sound.proofs.Morning.{Morning, new, same, fee, morning-place}

@@ -1,6 +1,5 @@
 -- What `chosen` gives: nobody, and then nobody passes; or a place that passes and that nobody who passes is ahead of.
 --     at ss j               the slot with index j: the slot of place j + 1
--- Assumes nothing.
 use Prim.Native.Nat.{ℕ, zero, suc, _-_, _<_}
 use mathlib.Core.Path.{_≡_, refl, sym, ap, _∙_, subst}
 use mathlib.Core.Logic.{_⊎_, inl, inr}
@@ -13,7 +12,7 @@ use lib.Dec.{eqb}
 use lib.ListN.{getD}
 use Rattle.rules.specs.declared.Slot.{Slot}
 use Rattle.rules.specs.Run.{chosen, slotAt, noSlot}
-use Rattle.laws.proofs.Lists.{by-bool, true-not-false}
+use Rattle.lists.proofs.Lists.{by-bool, true-not-false}
 
 abbrev pub at : List Slot → ℕ → Slot
 at ss j = getD ss j noSlot

@@ -1,5 +1,4 @@
 -- A plan that passes never misses a deadline: on no day of the run is anybody late, and the run ends clean.
--- Assumes nothing.
 use Prim.Native.Nat.{ℕ, zero, suc, _≤_, _<_}
 use mathlib.Core.Path.{_≡_, ap, subst}
 use mathlib.Core.Logic.{inl}
@@ -19,7 +18,7 @@ use Rattle.laws.proofs.Lawful.{LawfulPlan}
 use Rattle.sound.proofs.Chosen.{at}
 use Rattle.sound.proofs.Places.{late-nobody}
 use Rattle.laws.proofs.ReleaseList.{str}
-use Rattle.sound.proofs.Sums.{sumTo-part, sumTo-none}
+use Rattle.lists.proofs.Sums.{sumTo-part, sumTo-none}
 use Rattle.sound.proofs.Orderly.{Orderly, empty-not-on}
 use Rattle.sound.proofs.Account.{nearLeft, nearLeft-near, nearLeft-some, backlog, Mode, opened}
 use Rattle.sound.proofs.Keeping.{day-orderly, day-mode}

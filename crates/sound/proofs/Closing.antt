@@ -1,5 +1,4 @@
 -- The account closes: on day d it is the demand rule at the interval since its start, so nothing due by d is left.
--- Assumes nothing.
 use Prim.Native.Nat.{ℕ, suc, _+_, _-_, _*_, _≤_, _<_, min}
 use mathlib.Core.Path.{_≡_, sym, ap, _∙_}
 use mathlib.Core.Logic.{_⊎_, inl, inr}
@@ -7,20 +6,19 @@ use mathlib.Core.List.{List}
 use native.Mathlib.Omega.{arith}
 use native.Mathlib.Decide.{ℕ-discrete, decLe}
 use native.Mathlib.Nat.{mul-le-mul-right, zero-mul}
-use borrow.Author.Tests.{eq-eqb, ne-eqb, le-leb, lt-ltb}
 use lib.ListN.{length}
 use Rattle.rules.specs.declared.Plan.{Plan}
 use Rattle.rules.specs.declared.Release.{Release}
 use Rattle.rules.specs.declared.Slot.{Slot}
-use Rattle.rules.specs.Count.{largest}
+use Rattle.lists.specs.Count.{largest}
 use Rattle.rules.specs.Plan.{stringsOf, noString, dMin, dMax}
 use Rattle.rules.specs.Demand.{holdOf, jobs, blockerHold, blockLimit, need, demand, Passes}
-use Rattle.laws.proofs.Lists.{all-at, largest-ge, smallest-le}
+use Rattle.lists.proofs.Lists.{all-at, largest-ge, smallest-le}
 use Rattle.laws.proofs.Lawful.{LawfulPlan, LawfulString}
 use Rattle.laws.proofs.Jobs.{jobs-window}
-use Rattle.sound.proofs.Sums.{sumTo, sumTo-some, sumTo-sumOf}
+use Rattle.lists.proofs.Sums.{sumTo, sumTo-some, sumTo-sumOf}
 use Rattle.laws.proofs.ReleaseList.{str}
-use Rattle.laws.proofs.Demand.{holdOf-other}
+use Rattle.laws.proofs.Demand.{holdOf-other, need-taker, need-keeper, blockLimit-between, blockerHold-hold}
 use Rattle.sound.proofs.Arriving.{lawful-str}
 use Rattle.sound.proofs.Account.{backlog, Span, Blocker, Account}
 
@@ -30,31 +28,26 @@ module _ (p : Plan) (l b : ℕ) where
   -- some D is within l and some D beyond it: the limit is that of the strings beyond
   limit-between : (i q : ℕ) → i < length (stringsOf p) → str p i .d .0 ≤ l → q < length (stringsOf p) → l < str p q .d .0
       → blockLimit p l ≡ min l (largest (blockerHold p l) (stringsOf p))
-  unfolding blockLimit dMin dMax
+  unfolding dMin dMax
   limit-between i q a short c long =
       let low = all-at _ (stringsOf p) noString (smallest-le (λ s. s .d .0) (stringsOf p)) i a in
       let high = all-at _ (stringsOf p) noString (largest-ge (λ s. s .d .0) (stringsOf p)) q c in
-      rw (le-leb (dMin p) l (omega arith), lt-ltb l (dMax p) (omega arith))
+      blockLimit-between p l (omega arith) (omega arith)
 
   -- what has blocked is within the limit
   pub blockLimit-reaches : (i : ℕ) → i < length (stringsOf p) → str p i .d .0 ≤ l → b ≤ l
       → (b ≡ 0) ⊎ ((q : ℕ) × (q < length (stringsOf p)) × (suc b ≤ holdOf p (str p q)) × (l < str p q .d .0)) → b ≤ blockLimit p l
-  unfolding blockerHold
   blockLimit-reaches i a short within (inl none) = omega arith
   blockLimit-reaches i a short within (inr q) =
-      let beyond : holdOf p (str p (q .0)) ≤ suc (blockerHold p l (str p (q .0))) = rw (lt-ltb l (str p (q .0) .d .0) (q .3)) (omega arith) in
+      let beyond = blockerHold-hold p l (str p (q .0)) (q .3) in
       let top = all-at _ (stringsOf p) noString (largest-ge (blockerHold p l) (stringsOf p)) (q .0) (q .1) in
       omega (arith, q .2, limit-between i (q .0) a short (q .1) (q .3))
 
 -- ---- What a place has asked is within what its string may ask
 
-need-taker : (p : Plan) (l b j : ℕ) → str p j .x ≡ 1 → need p l b (str p j) ≡ jobs (str p j) (l - b) * holdOf p (str p j)
-unfolding need
-need-taker p l b j x = rw (eq-eqb (str p j .x) 1 x)
-
 need-other : (p : Plan) (l b j : ℕ) → str p j .x ≡ 0 → need p l b (str p j) ≡ jobs (str p j) l * holdOf p (str p j)
-unfolding need
-need-other p l b j x = rw (ne-eqb (str p j .x) 1 (λ e. omega arith)) (ap (λ c. jobs (str p j) l * c) (sym (holdOf-other p (str p j) x)))
+need-other p l b j x =
+    need-keeper p l b (str p j) (λ e. omega arith) ∙ ap (λ c. jobs (str p j) l * c) (sym (holdOf-other p (str p j) x))
 
 span-need : (p : Plan) (rs : List Release) (d start b j k : ℕ) → LawfulString (str p j) → start + b ≤ d → Span p rs d d start b j k
     → k * holdOf p (str p j) ≤ need p (d - start) b (str p j)
@@ -67,7 +60,7 @@ span-need p rs d start b j k good within (inr s) =
           let from = s .fromTaker x in
           let many : k ≤ jobs (str p j) (d - start - b) =
           omega (arith, s .count, jobs-window (str p j) (s .earlier) (d - start - b) (good .tPos) (omega (arith, s .until))) in
-          omega (arith, need-taker p (d - start) b j x, mul-le-mul-right (holdOf p (str p j)) many)
+          omega (arith, need-taker p (d - start) b (str p j) x, mul-le-mul-right (holdOf p (str p j)) many)
       | no other ↦
           let many : k ≤ jobs (str p j) (d - start) =
           omega (arith, s .count, jobs-window (str p j) (s .earlier) (d - start) (good .tPos) (omega (arith, s .until, s .from))) in

@@ -1,5 +1,4 @@
 -- The days of a history add up, and a run on which no day is late is clean.
--- Assumes nothing.
 use Prim.Native.Nat.{ℕ, zero, suc, _+_, _≤_, _<_}
 use mathlib.Core.Path.{_≡_, refl, ap, _∙_}
 use mathlib.Core.Bool.{Bool, cond}
@@ -14,9 +13,9 @@ use Rattle.rules.specs.declared.Release.{Release}
 use Rattle.rules.specs.declared.Use.{Use}
 use Rattle.rules.specs.declared.Use.the-variants.{Idle, Work, Move}
 use Rattle.rules.specs.declared.Outcome.the-variants.{Clean, Miss}
-use Rattle.rules.specs.Count.{countOf}
+use Rattle.lists.specs.Count.{countOf}
 use Rattle.rules.specs.Run.{useOn, history, isWork, isMove, isIdle, daysOf, lateOn, missDay, runOf}
-use Rattle.laws.proofs.Least.{leastFrom-none, leastFrom-before, leastFrom-passes, leastFrom-unique}
+use Rattle.lists.proofs.Least.{leastFrom-none, leastFrom-before, leastFrom-passes, leastFrom-unique}
 
 -- ---- Counts
 

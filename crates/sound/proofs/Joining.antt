@@ -1,5 +1,4 @@
 -- Step 2 by place: a slot has a release of the day, the last listed, or it is as it was and the day has none for it.
--- Assumes nothing.
 use Prim.Native.Nat.{ℕ, zero, suc, _+_, _-_, _≤_, _<_}
 use mathlib.Core.Path.{_≡_, refl, ap, _∙_}
 use mathlib.Core.Logic.{_⊎_, inl, inr, _≢_}
@@ -16,7 +15,7 @@ use Rattle.rules.specs.declared.Release.{Release}
 use Rattle.rules.specs.declared.Slot.{Slot}
 use Rattle.rules.specs.Release.{noRelease, firstUnlawful}
 use Rattle.rules.specs.Run.{noSlot, newSlot, joinFrom, joined}
-use Rattle.laws.proofs.Lists.{All, all-by, by-bool}
+use Rattle.lists.proofs.Lists.{All, all-by, by-bool}
 use Rattle.sound.proofs.Chosen.{at}
 use Rattle.laws.proofs.ReleaseList.{release-lawful}
 

@@ -1,6 +1,5 @@
 -- A day keeps the account: whoever is on the bank in the phase without blocking is near, so what is left falls by one a day; and
 -- while a job that is not near blocks, b grows with the days and no near job that may take the bank has come.
--- Assumes nothing.
 use Prim.Native.Nat.{ℕ, suc, _+_, _*_, _≤_, _<_}
 use mathlib.Core.Path.{_≡_, sym, ap, _∙_}
 use mathlib.Core.Logic.{inl, inr}
@@ -18,11 +17,11 @@ use Rattle.rules.specs.Plan.{stringsOf}
 use Rattle.rules.specs.Release.{firstUnlawful}
 use Rattle.rules.specs.Demand.{holdOf}
 use Rattle.rules.specs.Run.{onBank, waits, left, given, spent, useOf, joined, taken, lateAt}
-use Rattle.laws.proofs.Lists.{by-bool, true-not-false}
+use Rattle.lists.proofs.Lists.{by-bool, true-not-false}
 use Rattle.laws.proofs.Lawful.{LawfulPlan}
 use Rattle.sound.proofs.Chosen.{at, Nobody}
 use Rattle.laws.proofs.ReleaseList.{str}
-use Rattle.sound.proofs.Sums.{sumTo, sumTo-grown, sumTo-some, sumTo-none}
+use Rattle.lists.proofs.Sums.{sumTo, sumTo-grown, sumTo-some, sumTo-none}
 use Rattle.sound.proofs.Using.{Using, idleDay, keptDay, givenDay, Used, spent-using, neither-empty, left-empty}
 use Rattle.sound.proofs.Orderly.{Live, Orderly, live-if-on, live-if-waits, used-within, using-orderly}
 use Rattle.sound.proofs.Arriving.{morning-orderly}

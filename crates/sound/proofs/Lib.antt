@@ -1,5 +1,4 @@
 -- A plan that passes never misses a deadline. Modules stand in the order in which they build on each other; the theorems are in Clean, Answers and Served.
-pub mod Sums
 pub mod History
 pub mod Chosen
 pub mod Places
@@ -19,3 +18,4 @@ pub mod Answers
 pub mod Parts
 pub mod Progress
 pub mod Served
+pub mod Naming

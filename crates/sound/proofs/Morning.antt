@@ -1,6 +1,5 @@
 -- Steps 2 and 3 by place: a slot has a new job, with what it pays, and was empty; or it is as it was, but for being stopped.
 --     fee p payer j         the moving days that the place with index j pays
--- Assumes nothing.
 use Prim.Native.Nat.{ℕ, suc, _+_, _≤_, _<_}
 use mathlib.Core.Path.{_≡_, sym, ap, _∙_, subst}
 use mathlib.Core.Logic.{_⊎_, inl, inr, _≢_}
@@ -20,7 +19,7 @@ use Rattle.rules.specs.Plan.{stringsOf, stringAt}
 use Rattle.rules.specs.Release.{noRelease, firstUnlawful}
 use Rattle.rules.specs.Demand.{movingCost}
 use Rattle.rules.specs.Run.{onBank, waits, stopped, newSlot, joined, taken, lateAt}
-use Rattle.laws.proofs.Lists.{true-not-false}
+use Rattle.lists.proofs.Lists.{true-not-false}
 use Rattle.laws.proofs.Lawful.{LawfulPlan}
 use Rattle.sound.specs.Served.{payerIn}
 use Rattle.sound.proofs.Chosen.{at}

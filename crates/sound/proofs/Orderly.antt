@@ -2,7 +2,6 @@
 -- is on the bank. Steps 3 to 5 keep it.
 --     Live p rs t j s       the slot s, with index j, has a job released before day t and not due before t
 --     Orderly p rs t ss     the slots ss stand so before day t
--- Assumes nothing.
 use Prim.Native.Nat.{ℕ, suc, _+_, _≤_, _<_}
 use mathlib.Core.Path.{_≡_, refl, sym, ap, _∙_, subst}
 use mathlib.Core.Logic.{_⊎_, inl, inr}
@@ -20,7 +19,7 @@ use Rattle.rules.specs.declared.Use.{Use}
 use Rattle.rules.specs.Plan.{stringsOf}
 use Rattle.rules.specs.Demand.{movingCost, holdOf}
 use Rattle.rules.specs.Run.{onBank, waits, left, stopped, charged, seated, spentJob}
-use Rattle.laws.proofs.Lists.{by-bool, true-not-false}
+use Rattle.lists.proofs.Lists.{by-bool, true-not-false}
 use Rattle.sound.proofs.Chosen.{at}
 use Rattle.sound.proofs.Places.{putJob}
 use Rattle.laws.proofs.ReleaseList.{str, Released}

@@ -1,7 +1,6 @@
 -- The days of work and of moving that are left in a job, apart: a day on the bank takes one of either off, and stopping and giving none.
 --     workOf job, movingOf job    the days of work and of moving that are left
 --     counted b                   1 for a day that is so used, else 0
--- Assumes nothing.
 use Prim.Native.Nat.{ℕ, _+_, _-_, _≤_, _<_}
 use mathlib.Core.Path.{_≡_, refl}
 use mathlib.Core.Logic.{_≢_}
@@ -14,7 +13,7 @@ use Rattle.days.specs.Days.{days}
 use Rattle.rules.specs.declared.Job.{Job}
 use Rattle.rules.specs.declared.Job.the-variants.{Empty, Waiting, OnBank}
 use Rattle.rules.specs.Run.{left, stopped, seated, spentJob, onOrGone, usedFor}
-use Rattle.laws.proofs.Lists.{by-bool}
+use Rattle.lists.proofs.Lists.{by-bool}
 use Rattle.sound.specs.Served.{worksFor, movesFor}
 
 abbrev pub workOf : Job → ℕ

@@ -1,6 +1,5 @@
 -- Who is late, who holds the bank, who pays and who is next, by place; and what `withJob` does to each place.
 --     putJob s j            the slot s with the job j
--- Assumes nothing.
 use Prim.Native.Nat.{ℕ, suc, _-_, _≤_, _<_}
 use mathlib.Core.Path.{_≡_, refl, sym, ap, _∙_}
 use mathlib.Core.Logic.{_⊎_, inl, inr, _≢_}
@@ -14,7 +13,7 @@ use lib.Seq.{getD-set-same, getD-set-other}
 use Rattle.rules.specs.declared.Slot.{Slot}
 use Rattle.rules.specs.declared.Job.{Job}
 use Rattle.rules.specs.Run.{slotAt, noSlot, noneAhead, onBank, waits, left, lateSlot, lateAt, holder, mayTake, dueBefore, payer, goesFirst, nextUp, withJob}
-use Rattle.laws.proofs.Lists.{by-bool, true-not-false, and-left, and-right, and-both}
+use Rattle.lists.proofs.Lists.{by-bool, true-not-false, and-left, and-right, and-both}
 use Rattle.sound.proofs.Chosen.{at, Choice, Order, chosen-choice}
 
 -- ---- The three orders

@@ -1,7 +1,6 @@
 -- How far the run has served one release: the days of work and of moving so far, with what is left in its slot, are its need and what
 -- it owes. A day keeps that.
 --     Progress ..           the release is still to come, or its slot serves it, or the slot has gone on to a later one
--- Assumes nothing.
 use Prim.Native.Nat.{ℕ, suc, _+_, _≤_, _<_}
 use mathlib.Core.Path.{_≡_, sym, ap, _∙_, subst}
 use mathlib.Core.Logic.{inl, inr, _≢_}

@@ -1,22 +1,20 @@
 -- Job by job: in a run of a plan that passes, each release has, by its deadline, exactly its need in days of work, and the moving cost
--- in moving days if it was the payer of its release day, else none; and no day is for it after.
--- Assumes nothing.
+-- in moving days if it was the payer of its release day, else none; no day is for it before its release, and none after its deadline.
 use Prim.Native.Nat.{ℕ, zero, suc, _+_, _-_, _≤_, _<_}
 use mathlib.Core.Path.{_≡_, refl, sym, ap, _∙_, subst}
-use mathlib.Core.Bool.{cond}
 use mathlib.Core.List.{List}
 use native.Mathlib.Omega.{arith}
 use native.Mathlib.Decide.{decLe}
 use lib.ListN.{length, getD}
 use Rattle.rules.specs.declared.Plan.{Plan}
 use Rattle.rules.specs.declared.Release.{Release}
-use Rattle.rules.specs.Count.{countOf}
-use Rattle.rules.specs.Plan.{stringsOf, stringAt}
+use Rattle.lists.specs.Count.{countOf}
+use Rattle.rules.specs.Plan.{stringsOf}
 use Rattle.rules.specs.Release.{noRelease, firstUnlawful}
-use Rattle.rules.specs.Demand.{movingCost, Passes}
+use Rattle.rules.specs.Demand.{Passes}
 use Rattle.rules.specs.Run.{left, given, spent, useOf, joined, taken, morning, stateAt, useOn, lateOn, history}
 use Rattle.laws.proofs.Lawful.{LawfulPlan}
-use Rattle.sound.specs.Served.{worksFor, movesFor, payerIn, payerOn, paid}
+use Rattle.sound.specs.Served.{released, dueOf, worksFor, movesFor, payerIn, payerOn, paid, movingCaused, Served, Untouched}
 use Rattle.sound.proofs.Chosen.{at}
 use Rattle.laws.proofs.ReleaseList.{str, release-lawful}
 use Rattle.sound.proofs.Using.{spent-using}
@@ -95,39 +93,54 @@ module _ (p : Plan) (rs : List Release) (lawful : LawfulPlan p) (listed : firstU
         (omega arith, omega arith)
     served-by e due (past before named w v) = (w, v)
 
--- what the k-th release pays, by its place
-paid-fee : (p : Plan) (rs : List Release) (m j : ℕ) → getD rs m noRelease .place ≡ suc j
-    → fee p (payerOn p rs (getD rs m noRelease .day .0)) j ≡ cond (paid p rs (suc m)) (movingCost p (str p j)) 0
-unfolding paid
-paid-fee p rs m j place =
-    let index : suc m - 1 ≡ m = omega arith in
-    rw (index, place)
+  -- before its release nothing is done for it
+  untouched-by : (e : ℕ) → e ≤ getD rs m noRelease .day .0 → Sofar e → (works e ≡ 0) × (moves e ≡ 0)
+  untouched-by e early (toCome before w v) = (w, v)
+  untouched-by e early (serving before named w v) = absurd (omega arith)
+  untouched-by e early (past before named w v) = absurd (omega arith)
 
-module _ (p : Plan) (rs : List Release) (lawful : LawfulPlan p) (listed : firstUnlawful p rs ≡ 0) (passes : Passes p) where
-  -- the release with index m
-  served-index : (m e : ℕ) → m < length rs → getD rs m noRelease .day .0 + stringAt p (getD rs m noRelease .place) .d .0 ≤ e
-      → (countOf (worksFor (suc m)) (history p rs e) ≡ getD rs m noRelease .need .0)
-      × (countOf (movesFor (suc m)) (history p rs e) ≡ cond (paid p rs (suc m)) (movingCost p (stringAt p (getD rs m noRelease .place))) 0)
-  served-index m e h due =
-      let r = getD rs m noRelease in
-      let j = r .place - 1 in
-      let place : r .place ≡ suc j = omega (arith, release-lawful p rs listed m h .placePos) in
-      let string-is : stringAt p (r .place) ≡ str p j = refl in
-      let so-far = progress-at p rs lawful listed m j h place e (punctual p rs lawful listed passes e) in
-      let done = served-by p rs lawful listed m j h place passes e due so-far in
-      (done .0, done .1 ∙ paid-fee p rs m j place)
+-- what the release with index m pays, by its place
+caused-fee : (p : Plan) (rs : List Release) (m j : ℕ) → getD rs m noRelease .place ≡ suc j
+    → fee p (payerOn p rs (getD rs m noRelease .day .0)) j ≡ movingCaused p rs (suc m)
+unfolding movingCaused paid
+caused-fee p rs m j place =
+    let number : suc m - 1 ≡ m = omega arith in
+    let index : suc j - 1 ≡ j = omega arith in
+    rw (number, place, index)
 
-  -- the k-th release, in the history up to any day e from its deadline on. Where e is at most N this is the history of the run; after it
-  -- the definition goes on with no further release.
-  pub served : (k e : ℕ) → 1 ≤ k → k ≤ length rs
-      → getD rs (k - 1) noRelease .day .0 + stringAt p (getD rs (k - 1) noRelease .place) .d .0 ≤ e
-      → (countOf (worksFor k) (history p rs e) ≡ getD rs (k - 1) noRelease .need .0)
-      × (countOf (movesFor k) (history p rs e) ≡ cond (paid p rs k) (movingCost p (stringAt p (getD rs (k - 1) noRelease .place))) 0)
-  served k e low high due =
+module _ (p : Plan) (rs : List Release) (lawful : LawfulPlan p) (listed : firstUnlawful p rs ≡ 0) where
+  -- the place of the release with index m
+  placed : (m : ℕ) → m < length rs → getD rs m noRelease .place ≡ suc (getD rs m noRelease .place - 1)
+  placed m h = omega (arith, release-lawful p rs listed m h .placePos)
+
+  -- ---- Before its release
+
+  untouched-index : (m e : ℕ) → m < length rs → Punctual p rs e → e ≤ getD rs m noRelease .day .0 → Untouched p rs (suc m) e
+  untouched-index m e h so-far early =
+      let j = getD rs m noRelease .place - 1 in
+      let none = untouched-by p rs lawful listed m j h (placed m h) e early (progress-at p rs lawful listed m j h (placed m h) e so-far) in
+      record { work = none .0; moving = none .1 }
+
+  -- no day of a job lies before its release, in any run that has not missed by then
+  pub untouched : (k e : ℕ) → 1 ≤ k → k ≤ length rs → Punctual p rs e → e ≤ released rs k .day .0 → Untouched p rs k e
+  untouched k e low high so-far early =
       let number : suc (k - 1) ≡ k = omega arith in
-      subst
-      (λ n.
-      (countOf (worksFor n) (history p rs e) ≡ getD rs (k - 1) noRelease .need .0)
-      × (countOf (movesFor n) (history p rs e) ≡ cond (paid p rs n) (movingCost p (stringAt p (getD rs (k - 1) noRelease .place))) 0))
-      number
-      (served-index (k - 1) e (omega arith) due)
+      subst (λ n. Untouched p rs n e) number (untouched-index (k - 1) e (omega arith) so-far early)
+
+  -- ---- By its deadline
+
+  module _ (passes : Passes p) where
+    served-index : (m e : ℕ) → m < length rs → dueOf p (getD rs m noRelease) ≤ e → Served p rs (suc m) e
+    served-index m e h due =
+        let j = getD rs m noRelease .place - 1 in
+        let so-far = progress-at p rs lawful listed m j h (placed m h) e (punctual p rs lawful listed passes e) in
+        let done = served-by p rs lawful listed m j h (placed m h) passes e due so-far in
+        let number : suc m - 1 ≡ m = omega arith in
+        record { work = rw number (done .0); moving = done .1 ∙ caused-fee p rs m j (placed m h) }
+
+    -- the k-th release, in the history up to any day e from its deadline on. Where e is at most N this is the history of the run; after it
+    -- the definition goes on with no further release.
+    pub served : (k e : ℕ) → 1 ≤ k → k ≤ length rs → dueOf p (released rs k) ≤ e → Served p rs k e
+    served k e low high due =
+        let number : suc (k - 1) ≡ k = omega arith in
+        subst (λ n. Served p rs n e) number (served-index (k - 1) e (omega arith) due)

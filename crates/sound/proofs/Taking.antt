@@ -1,5 +1,4 @@
 -- Step 3 by place: the bank is free, or its holder keeps it since nobody may take it, or the holder is stopped and the payer charged.
--- Assumes nothing.
 use Prim.Native.Nat.{ℕ, suc, _<_}
 use mathlib.Core.Path.{_≡_, sym, ap, _∙_, subst}
 use mathlib.Core.Logic.{inl, inr, _≢_}
@@ -15,7 +14,7 @@ use Rattle.rules.specs.declared.Job.{Job}
 use Rattle.rules.specs.declared.Job.the-variants.{Empty, Waiting, OnBank}
 use Rattle.rules.specs.Demand.{movingCost}
 use Rattle.rules.specs.Run.{slotAt, noneAhead, onBank, waits, holder, mayTake, dueBefore, payer, stopped, charged, stop, charge, taken}
-use Rattle.laws.proofs.Lists.{true-not-false, and-left, and-right}
+use Rattle.lists.proofs.Lists.{true-not-false, and-left, and-right}
 use Rattle.sound.specs.Served.{payerIn}
 use Rattle.sound.proofs.Chosen.{at, slotAt-suc, Nobody, One, Choice}
 use Rattle.sound.proofs.Places.{holder-choice, payer-choice, putJob, withJob-length, withJob-same, withJob-other}

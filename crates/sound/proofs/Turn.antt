@@ -1,5 +1,4 @@
 -- A day used by one job: what is left in near jobs does not grow, falls if the job is near, and who is on the bank after is that job.
--- Assumes nothing.
 use Prim.Native.Nat.{ℕ, suc, _≤_, _<_}
 use mathlib.Core.Path.{_≡_, sym, ap, _∙_, subst}
 use mathlib.Core.Bool.{true}
@@ -14,7 +13,7 @@ use Rattle.rules.specs.declared.Use.{Use}
 use Rattle.rules.specs.Plan.{stringsOf}
 use Rattle.rules.specs.Run.{onBank, left}
 use Rattle.sound.proofs.Chosen.{at}
-use Rattle.sound.proofs.Sums.{sumTo-le, sumTo-less}
+use Rattle.lists.proofs.Sums.{sumTo-le, sumTo-less}
 use Rattle.sound.proofs.Using.{Used, spent-left}
 use Rattle.sound.proofs.Orderly.{Live, Orderly}
 use Rattle.sound.proofs.Account.{nearLeft, nearLeft-near, nearLeft-far, backlog, Phase, flowing}

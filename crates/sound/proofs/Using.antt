@@ -1,6 +1,5 @@
 -- Steps 4 and 5 by place: all slots are empty and the day is idle; or one job uses it, which held the bank or is due first of those
 -- that wait.
--- Assumes nothing.
 use Prim.Native.Nat.{ℕ, suc, _+_, _-_, _≤_, _<_}
 use mathlib.Core.Path.{_≡_, refl, sym, ap, _∙_}
 use mathlib.Core.Logic.{_⊎_, inl, inr, _≢_}
@@ -19,7 +18,7 @@ use Rattle.rules.specs.declared.Job.the-variants.{Empty, Waiting, OnBank}
 use Rattle.rules.specs.declared.Use.{Use}
 use Rattle.rules.specs.declared.Use.the-variants.{Idle}
 use Rattle.rules.specs.Run.{slotAt, noneAhead, onBank, waits, left, holder, nextUp, goesFirst, seated, given, spentJob, onOrGone, spent, usedFor, useOf, withJob}
-use Rattle.laws.proofs.Lists.{by-bool, true-not-false}
+use Rattle.lists.proofs.Lists.{by-bool, true-not-false}
 use Rattle.sound.proofs.Chosen.{at, slotAt-suc, Nobody, One, Choice}
 use Rattle.sound.proofs.Places.{holder-choice, nextUp-choice, goesFirst-not, putJob, withJob-length, withJob-same, withJob-other}
 

@@ -1,7 +1,7 @@
 // Tries the reader on texts that users try, and writes what it answers. The expected answers are stored beside src/.
+use faults::Checked;
+use faults::fault_number;
 use libc::STDOUT_FILENO;
-use lines::fault_number;
-use rules::Checked;
 ghost use mathlib.Core.Path.{_≡_};
 ghost use lib.ListN.{length};
 
@@ -44,6 +44,16 @@ fn try_text(name: &[u8], text: &[u8]) {
     io::write_all(STDOUT_FILENO, name);
     io::write_all(STDOUT_FILENO, b": ");
     write_said(answer_to(text));
+}
+
+// H of the plan that a text writes, with the text's name.
+fn try_multiple(name: &[u8], text: &[u8]) {
+    let reading = reading::read(text);
+    let plan = reading.plan;
+    io::write_all(STDOUT_FILENO, name);
+    io::write_all(STDOUT_FILENO, b": H ");
+    write_number(bounds::multiple(plan) as u64);
+    io::write_all(STDOUT_FILENO, b"\n");
 }
 
 // The sample with another byte at a place.
@@ -147,6 +157,10 @@ fn try_strings() {
         b"010102000000000014\n020003e5000103e5\n020003df000103df\n",
     );
     try_text(
+        b"periods 7, 30, 90, 365",
+        b"010104000000000014\n0200000700010007\n0200001e0001001e\n0200005a0001005a\n0200016d0001016d\n",
+    );
+    try_multiple(
         b"periods 7, 30, 90, 365",
         b"010104000000000014\n0200000700010007\n0200001e0001001e\n0200005a0001005a\n0200016d0001016d\n",
     );

@@ -1,6 +1,5 @@
 -- Laws for loops over the strings of a plan that is ready: the string at a place is lawful, and a sum or an extreme from a place on
 -- takes it and those after it.
--- Assumes nothing.
 use Prim.Native.Nat.{ℕ, _+_, _≤_, _<_, min, max}
 use mathlib.Core.Path.{_≡_, refl, ap, _∙_}
 use mathlib.Core.List.{List, [], _∷_}
@@ -9,10 +8,10 @@ use lib.ListN.{length, drop, getD, drop-of-length-le}
 use lib.Seq.{length-take-le, getD-take}
 use Rattle.rules.specs.declared.BatteryString.{BatteryString}
 use Rattle.rules.specs.declared.Plan.{Plan}
-use Rattle.rules.specs.Count.{sumOf, largest, smallest, smallestWith}
+use Rattle.lists.specs.Count.{sumOf, largest, smallest, smallestWith}
 use Rattle.rules.specs.Plan.{stringsOf, noString}
-use Rattle.laws.proofs.Lists.{all-at, sumOf-drop, largest-drop, smallestWith-drop}
-use Rattle.laws.proofs.Lawful.{LawfulString}
+use Rattle.lists.proofs.Lists.{all-at, sumOf-drop, largest-drop, smallestWith-drop}
+use Rattle.laws.proofs.Lawful.{PlanString, plan-strings}
 use Rattle.verdict.specs.Asked.{Ready}
 
 -- a smallest starts from the first
@@ -30,10 +29,11 @@ module _ (p : Plan) (ready : Ready p) where
       let ten = ready .ten in
       length-take-le (p .n) (p .strings) (omega arith)
 
-  pub lawful-at : (i : ℕ) → i < p .n → LawfulString (getD (p .strings) i noString)
-  lawful-at i h =
+  pub string-at : (i : ℕ) → i < p .n → PlanString p (getD (p .strings) i noString)
+  string-at i h =
       let inside : i < length (stringsOf p) = omega (arith, strings-count) in
-      rw (getD-take (p .n) (p .strings) i noString h) at (all-at LawfulString (stringsOf p) noString (ready .lawful .each) i inside)
+      let there = all-at (PlanString p) (stringsOf p) noString (plan-strings p (ready .lawful)) i inside in
+      rw (getD-take (p .n) (p .strings) i noString h) at there
 
   pub sum-at :
       (f : BatteryString → ℕ) (i : ℕ) → i < p .n

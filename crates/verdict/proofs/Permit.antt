@@ -1,5 +1,4 @@
 -- Laws of a plan with a set, as a loop over the ten strings makes it: those done, and those left with what is left of the number.
--- Assumes nothing.
 use Prim.Native.Nat.{ℕ, suc, _+_, _/_, _%_, _≤_, _<_}
 use mathlib.Core.Path.{_≡_, refl, sym, ap, _∙_}
 use mathlib.Core.List.{List, [], _∷_, _++_, append-assoc, append-nil}

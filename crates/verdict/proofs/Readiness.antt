@@ -1,9 +1,8 @@
 -- When the loops of this crate may start.
--- Assumes nothing.
 use mathlib.Core.Path.{_≡_}
 use lib.ListN.{length}
 use Rattle.rules.specs.declared.Plan.{Plan}
-use Rattle.rules.specs.declared.Checked.the-variants.{Lawful}
+use Rattle.faults.specs.declared.Checked.the-variants.{Lawful}
 use Rattle.rules.specs.Refusal.{planCheck}
 use Rattle.laws.proofs.Lawful.{planCheck-lawful}
 use Rattle.verdict.specs.Asked.{Ready}

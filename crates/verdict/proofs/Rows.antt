@@ -2,7 +2,6 @@
 --     Latest p l takers     takers holds, at its remainder by 1,024, what the takers ask within w days, for the latest w before l
 --     Row p l top keepers takers
 --                           in the row of l: its blocking limit, what the keepers ask, what the takers ask within l days and fewer
--- Assumes nothing.
 use Prim.Native.Nat.{ℕ, _+_, _-_, _%_, _≤_, _<_}
 use mathlib.Core.Path.{_≡_, sym, ap, _∙_}
 use mathlib.Core.List.{List}

@@ -2,7 +2,7 @@
 --     Ready p               p is lawful and holds its ten strings: what the inner functions may rely on
 --     askedOf p x w s       what the jobs of s within w days ask where s has permission x, 0 where it has not
 --     askedBy p x w         the same of all strings of p
--- The strings with X 1 are asked about l − b days and the others about l: only the first changes with b. Assumes nothing.
+-- The strings with X 1 are asked about l − b days and the others about l: only the first changes with b.
 use Prim.Native.Nat.{ℕ, _*_}
 use mathlib.Core.Path.{_≡_}
 use mathlib.Core.Bool.{cond}
@@ -10,7 +10,7 @@ use lib.Dec.{eqb}
 use lib.ListN.{length}
 use Rattle.rules.specs.declared.BatteryString.{BatteryString}
 use Rattle.rules.specs.declared.Plan.{Plan}
-use Rattle.rules.specs.Count.{sumOf}
+use Rattle.lists.specs.Count.{sumOf}
 use Rattle.rules.specs.Plan.{stringsOf}
 use Rattle.rules.specs.Demand.{holdOf, jobs}
 use Rattle.laws.proofs.Lawful.{LawfulPlan}

@@ -1,15 +1,14 @@
 -- `bounds::run_check` meets its contract: the plan decides first, then the length of the list, then the first unlawful release.
--- Assumes nothing.
 use Prim.Native.Nat.{ℕ}
 use mathlib.Core.Path.{_≡_, sym, _∙_}
 use native.Mathlib.Omega.{arith}
 use borrow.Author.Needs.{needs}
 use Rattle.rules.specs.declared.Plan.{Plan}
 use Rattle.rules.specs.declared.Releases.{Releases}
-use Rattle.rules.specs.declared.Fault.{Fault}
-use Rattle.rules.specs.declared.Checked.the-variants.{Lawful, Refused}
+use Rattle.faults.specs.declared.Fault.{Fault}
+use Rattle.faults.specs.declared.Checked.the-variants.{Lawful, Refused}
 use Rattle.rules.specs.Refusal.{planCheck, releasesCheck, runCheck}
-use Rattle.laws.proofs.Lawful.{then-lawful, then-refused}
+use Rattle.faults.proofs.Checks.{then-lawful, then-refused}
 use Rattle.laws.proofs.Releases.{releasesCheck-many, releasesCheck-bad, releasesCheck-good}
 use Rattle.bounds.proofs.run_check.Statement.{statement}
 use Rattle.bounds.proofs.run_check.Tie as tie

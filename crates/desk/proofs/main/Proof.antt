@@ -1,5 +1,4 @@
 -- `desk::main` is safe and ends: the words that are left are one fewer with each turn.
--- Assumes nothing.
 use Prim.Native.Nat.{_-_, _≤_}
 use native.Mathlib.Omega.{arith}
 use Rattle.desk.proofs.main.Statement.{statement}

@@ -1,5 +1,4 @@
 -- `desk::write_page` is safe: the text lies within the page's bytes.
--- Assumes nothing.
 use mathlib.Core.Path.{sym}
 use lib.Seq.{length-take-le}
 use Rattle.desk.proofs.write_page.Statement.{statement}

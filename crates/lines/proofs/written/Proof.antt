@@ -1,5 +1,4 @@
 -- `lines::written` meets its contract: the lines of an answer, one behind the other on a blank page.
--- Assumes nothing.
 use mathlib.Core.Path.{_≡_}
 use mathlib.Core.List.{[]}
 use native.Mathlib.Omega.{arith}

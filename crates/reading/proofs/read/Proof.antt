@@ -1,12 +1,10 @@
 -- `reading::read` meets its contract: the length decides first, then the first line, then the body.
--- Assumes nothing.
-use Prim.Native.Nat.{_≤_}
-use mathlib.Core.Path.{_≡_, refl, sym, ap, _∙_}
+use mathlib.Core.Path.{_≡_, refl, sym, _∙_}
 use native.Mathlib.Omega.{arith}
 use borrow.Author.Needs.{needs}
-use Rattle.rules.specs.declared.Checked.the-variants.{Lawful}
+use Rattle.faults.specs.declared.Checked.the-variants.{Lawful}
 use Rattle.rules.specs.Text.{headerCheck, frameCheck}
-use Rattle.laws.proofs.Lawful.{then-first, then-second}
+use Rattle.faults.proofs.Checks.{then-first, then-second}
 use Rattle.reading.specs.Place.{lineAt, HeaderRead, numbersOfHeader}
 use Rattle.reading.proofs.Framing.{frameCheck-frame}
 use Rattle.reading.proofs.Heading.{header-parts}

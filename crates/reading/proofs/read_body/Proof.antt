@@ -1,12 +1,9 @@
 -- `reading::read_body` meets its contract: the strings decide first, then what follows them.
--- Assumes nothing.
-use Prim.Native.Nat.{ℕ, _≤_}
-use mathlib.Core.Path.{_≡_, refl, sym, ap, _∙_}
+use mathlib.Core.Path.{_≡_, sym, ap, _∙_}
 use native.Mathlib.Omega.{arith}
 use borrow.Author.Needs.{needs}
 use lib.ListN.{drop}
-use Rattle.rules.specs.declared.Checked.the-variants.{Lawful, Refused}
-use Rattle.rules.specs.declared.Fault.{Fault}
+use Rattle.faults.specs.declared.Checked.the-variants.{Lawful}
 use Rattle.rules.specs.Text.{linesOf, nIn, stringLinesCheck}
 use Rattle.reading.specs.Place.{lineAt, planBy, restReading}
 use Rattle.reading.proofs.Numbers.{n-is}

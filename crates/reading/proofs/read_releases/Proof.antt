@@ -1,18 +1,16 @@
 -- `reading::read_releases` meets its contract: H first, then frames, then the first unlawful release, each a law of the whole text.
--- Assumes nothing.
-use Prim.Native.Nat.{ℕ, _+_, _*_, _≤_, _<_}
-use mathlib.Core.Path.{_≡_, refl, sym, ap, _∙_}
+use Prim.Native.Nat.{_+_, _*_, _≤_}
+use mathlib.Core.Path.{_≡_, sym, ap, _∙_}
 use native.Mathlib.Omega.{arith}
 use borrow.Author.Needs.{needs}
 use Rattle.rules.specs.declared.Plan.{Plan}
 use Rattle.rules.specs.declared.Releases.{Releases}
 use Rattle.rules.specs.declared.Reading.{Reading}
-use Rattle.rules.specs.declared.Checked.the-variants.{Lawful}
+use Rattle.faults.specs.declared.Checked.the-variants.{Lawful}
 use Rattle.rules.specs.Release.{releasesOf, firstUnlawful}
-use Rattle.rules.specs.Plan.{multipleOf}
 use Rattle.reading.specs.declared.Framed.{Framed}
 use Rattle.reading.specs.Place.{releaseListBy}
-use Rattle.reading.proofs.Whole.{place, framed, unlawful, plan-n, place-inside, header-few, frames-each, frames-few, unlawful-few, rest-multiple, rest-unlawful, rest-refused, rest-lawful}
+use Rattle.reading.proofs.Whole.{framed, unlawful, plan-n, place-inside, header-few, frames-each, frames-few, unlawful-few, rest-multiple, rest-unlawful, rest-refused, rest-lawful}
 use Rattle.reading.proofs.read_releases.Statement.{statement}
 use Rattle.reading.proofs.read_releases.Tie as tie
 

@@ -1,7 +1,6 @@
 -- `run::run` meets its contract: the check decides, and what it finds lawful is run.
--- Assumes nothing.
 use mathlib.Core.Path.{_≡_, sym, _∙_}
-use Rattle.rules.specs.declared.Checked.the-variants.{Lawful}
+use Rattle.faults.specs.declared.Checked.the-variants.{Lawful}
 use Rattle.rules.specs.Refusal.{runCheck, runAnswer}
 use Rattle.laws.proofs.Releases.{runCheck-lawful}
 use borrow.Author.Needs.{needs}

@@ -1,10 +1,7 @@
 -- `trials::try_bytes` is safe and ends: a byte value is below 256.
--- Assumes nothing.
 use Prim.Native.Nat.{_-_, _≤_}
-use mathlib.Core.Path.{_≡_}
 use native.Mathlib.Omega.{arith}
 use borrow.Author.Needs.{needs}
-use lib.ListN.{length}
 use Rattle.trials.proofs.try_bytes.Statement.{statement}
 use Rattle.trials.proofs.try_bytes.Tie as tie
 

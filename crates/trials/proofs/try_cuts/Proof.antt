@@ -1,5 +1,4 @@
 -- `trials::try_cuts` is safe and ends: a cut is within the text.
--- Assumes nothing.
 use Prim.Native.Nat.{_-_, _≤_}
 use mathlib.Core.Path.{_≡_, sym}
 use native.Mathlib.Omega.{arith}

@@ -1,9 +1,8 @@
 -- `verdict::verdict` meets its contract: the check decides, then the rules.
--- Assumes nothing.
 use mathlib.Core.Path.{_≡_, sym, _∙_}
 use borrow.Author.Needs.{needs}
 use lib.ListN.{length-map}
-use Rattle.rules.specs.declared.Checked.the-variants.{Lawful}
+use Rattle.faults.specs.declared.Checked.the-variants.{Lawful}
 use Rattle.rules.specs.Refusal.{planCheck}
 use Rattle.laws.proofs.Answers.{verdict-lawful, verdict-refused}
 use Rattle.verdict.proofs.Readiness.{ready-plan}

@@ -1,9 +1,8 @@
 -- `verdict::verdict_with` meets its contract: the check decides, then the rules.
--- Assumes nothing.
 use mathlib.Core.Path.{_≡_, sym, ap, _∙_, subst}
 use borrow.Author.Needs.{needs}
 use lib.ListN.{length-map}
-use Rattle.rules.specs.declared.Checked.the-variants.{Lawful}
+use Rattle.faults.specs.declared.Checked.the-variants.{Lawful}
 use Rattle.rules.specs.Plan.{multipleOf}
 use Rattle.rules.specs.Verdict.{verdictOf}
 use Rattle.rules.specs.Refusal.{setCheck}

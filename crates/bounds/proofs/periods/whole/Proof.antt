@@ -1,5 +1,4 @@
 -- `bounds::periods::whole` meets its contract. By no days nothing is divided: antt's remainder is then the number itself.
--- Assumes nothing.
 use mathlib.Core.Path.{sym, ap, _∙_}
 use Prim.Native.Nat.{_%_}
 use native.Mathlib.Nat.{mod-zero}

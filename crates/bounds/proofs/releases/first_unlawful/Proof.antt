@@ -1,18 +1,16 @@
 -- `bounds::releases::first_unlawful` meets its contract: before each release the walk holds (`Walk`), and each way out is a law of it.
--- Assumes nothing.
-use Prim.Native.Nat.{ℕ, zero, suc, _+_, _-_, _≤_, _<_}
+use Prim.Native.Nat.{ℕ, zero, suc, _-_, _≤_}
 use mathlib.Core.Path.{_≡_, refl, sym, ap, _∙_}
 use mathlib.Core.Bool.{Bool, true}
-use mathlib.Core.List.{[], _∷_}
 use native.Mathlib.Omega.{arith}
 use borrow.Author.Needs.{needs}
 use borrow.Author.Tests.{not-true, not-false}
-use lib.ListN.{length, take, getD, length-map, replicate}
+use lib.ListN.{take, getD, length-map, replicate}
 use Rattle.rules.specs.declared.Release.{Release}
 use Rattle.rules.specs.Release.{firstUnlawful, releasesOf, noRelease}
+use Rattle.bounds.specs.declared.releases.Last.the-variants.{Never}
 use Rattle.bounds.specs.Seen.{rememberedOf, admits}
 use Rattle.bounds.proofs.ByPlace.{take-min}
-use Rattle.bounds.proofs.Seen.{remembered-small}
 use Rattle.bounds.proofs.Walk.{Walk, walk-start, walk-bad, walk-end, walk-low, walk-high, walk-next}
 use Rattle.bounds.proofs.releases.first_unlawful.Statement.{statement}
 use Rattle.bounds.proofs.releases.first_unlawful.Tie as tie
@@ -23,10 +21,10 @@ Inv-loop p list count end last₀ latest₀ i₀ last latest i = Walk p list end
 abbrev μ-loop : tie.MeasureT-loop
 μ-loop p list count end last₀ latest₀ i₀ last latest i = end - i
 
-zeros : (n k : ℕ) → _≡_ {A = ℕ} (getD (replicate n 0) k 0) 0
-zeros zero k = refl
-zeros (suc n) zero = refl
-zeros (suc n) (suc k) = zeros n k
+nevers : (n k : ℕ) → getD (replicate n Never) k Never ≡ Never
+nevers zero k = refl
+nevers (suc n) zero = refl
+nevers (suc n) (suc k) = nevers n k
 
 smaller-requires : tie.Need-smaller-requires Inv-loop μ-loop
 smaller-requires c κs = search needs
@@ -35,11 +33,11 @@ loop-holds : tie.Need-loop-holds Inv-loop μ-loop
 loop-holds c =
     let start = c .before .before in
     let g = start .args in
-    walk-start (g .p) (g .rs .list) (c .smaller .result) (replicate 10 0) (omega arith)
+    walk-start (g .p) (g .rs .list) (c .smaller .result) (replicate 10 Never) (omega arith)
     (simp length-map at (start .good .1 .0 .1 .1 .1 .0 .1 .0 .1))
     (simp length-map at (start .good .0 .1 .1 .1 .1 .1 .0 .1 .0 .1))
     refl
-    (zeros 10)
+    (nevers 10)
 
 mul-r : tie.Need-mul-r Inv-loop μ-loop
 mul-r c = omega arith
@@ -51,10 +49,7 @@ remembered-requires : tie.Need-remembered-requires Inv-loop μ-loop
 remembered-requires c κs = search needs
 
 admitted-requires : tie.Need-admitted-requires Inv-loop μ-loop
-admitted-requires c κs =
-    let at = c .before .before .before in
-    let place = getD (at .before .before .before .args .rs .list) (at .loop .i) noRelease .place in
-    omega (arith, c .remembered .ensures, remembered-small (at .loop .last) place 4294967296 (at .loop .inv .small))
+admitted-requires c κs = search needs
 
 add-result : tie.Need-add-result Inv-loop μ-loop
 add-result c = omega arith
@@ -72,47 +67,45 @@ reached c = getD (c .before .before .before .args .rs .list) (c .loop .i) noRele
 abbrev admitsHere : tie.At-loop Inv-loop μ-loop → Bool
 admitsHere c = admits (c .before .before .before .args .p) (c .loop .latest) (rememberedOf (c .loop .last) (reached c .place)) (reached c)
 
-said : (c : tie.After-admitted Inv-loop μ-loop) → c .admitted .result ≡ admitsHere (c .before .before .before .before)
+-- where the loop stands at the answer on a release
+abbrev turn : tie.After-admitted Inv-loop μ-loop → tie.At-loop Inv-loop μ-loop
+turn c = c .before .before .before .before .before
+
+said : (c : tie.After-admitted Inv-loop μ-loop) → c .admitted .result ≡ admitsHere (turn c)
 said c =
-    let at = c .before .before .before .before in
+    let at = turn c in
     c .admitted .ensures ∙ ap (λ v. admits (at .before .before .before .args .p) (at .loop .latest) v (reached at)) (c .before .remembered .ensures)
 
 returns : tie.Need-returns Inv-loop μ-loop
 returns c =
-    let at = c .before .before .before .before .before in
+    let at = turn (c .before) in
     let g = at .before .before .before .args in
     walk-bad (g .p) (g .rs .list) (at .before .smaller .result) (at .loop .last) (at .loop .latest) (at .loop .i) (at .loop .inv) (omega arith) (sym (said (c .before)) ∙ not-true _ (c .if1 .taken))
     ∙ ap (firstUnlawful (g .p)) (counted at)
 
-passed : (c : tie.Else1 Inv-loop μ-loop) → admitsHere (c .before .before .before .before .before) ≡ true
+passed : (c : tie.Else1 Inv-loop μ-loop) → admitsHere (turn (c .before)) ≡ true
 passed c = sym (said (c .before)) ∙ not-false _ (c .if1 .left)
 
-low : (c : tie.Else1 Inv-loop μ-loop) → 1 ≤ reached (c .before .before .before .before .before) .place
+low : (c : tie.Else1 Inv-loop μ-loop) → 1 ≤ reached (turn (c .before)) .place
 low c =
-    let at = c .before .before .before .before .before in
+    let at = turn (c .before) in
     let g = at .before .before .before .args in
     walk-low (g .p) (g .rs .list) (at .before .smaller .result) (at .loop .last) (at .loop .latest) (at .loop .i) (at .loop .inv) (passed c)
 
-high : (c : tie.Else1 Inv-loop μ-loop) → reached (c .before .before .before .before .before) .place ≤ 10
+high : (c : tie.Else1 Inv-loop μ-loop) → reached (turn (c .before)) .place ≤ 10
 high c =
-    let at = c .before .before .before .before .before in
+    let at = turn (c .before) in
     let g = at .before .before .before .args in
     walk-high (g .p) (g .rs .list) (at .before .smaller .result) (at .loop .last) (at .loop .latest) (at .loop .i) (at .loop .inv) (passed c)
 
-cast-last : tie.Need-cast-last Inv-loop μ-loop
-cast-last c = search needs
-
-add-last : tie.Need-add-last Inv-loop μ-loop
-add-last c = search needs
-
 sub-last : tie.Need-sub-last Inv-loop μ-loop
-sub-last c = low (c .before)
+sub-last c = low c
 
 mul-last : tie.Need-mul-last Inv-loop μ-loop
-mul-last c = omega (arith, high (c .before))
+mul-last c = omega (arith, high c)
 
-array-write-last : tie.Need-array-write-last Inv-loop μ-loop
-array-write-last c = omega (arith, low (c .before), high (c .before))
+array-set-from-last : tie.Need-array-set-from-last Inv-loop μ-loop
+array-set-from-last c = omega (arith, low c, high c)
 
 add-i : tie.Need-add-i Inv-loop μ-loop
 add-i c = omega arith
@@ -122,9 +115,9 @@ loop-less c = omega arith
 
 loop-again : tie.Need-loop-again Inv-loop μ-loop
 loop-again c =
-    let at = c .before .before .before .before .before .before in
+    let at = turn (c .before) in
     let g = at .before .before .before .args in
-    walk-next (g .p) (g .rs .list) (at .before .smaller .result) (at .loop .last) (at .loop .latest) (at .loop .i) (at .loop .inv) (omega arith) (passed (c .before)) (omega arith)
+    walk-next (g .p) (g .rs .list) (at .before .smaller .result) (at .loop .last) (at .loop .latest) (at .loop .i) (at .loop .inv) (omega arith) (passed c)
 
 returns-2 : tie.Need-returns-2 Inv-loop μ-loop
 returns-2 c =
@@ -147,11 +140,9 @@ first-unlawful-spec =
     admitted-requires
     add-result
     returns
-    cast-last
-    add-last
     sub-last
     mul-last
-    array-write-last
+    array-set-from-last
     add-i
     loop-less
     loop-again

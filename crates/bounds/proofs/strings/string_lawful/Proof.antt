@@ -1,5 +1,4 @@
 -- `bounds::strings::string_lawful` meets its contract: each test that ends it denies one bound, and all that pass are all the bounds.
--- Assumes nothing.
 use mathlib.Core.Path.{sym}
 use native.Mathlib.Omega.{arith}
 use Rattle.laws.proofs.Lawful.{stringLawful-yes, stringLawful-not}

@@ -1,5 +1,4 @@
 -- `days::Day::plus` meets its contract: the test says on which side of 2 ^ 32 the sum lies.
--- Assumes nothing.
 use mathlib.Core.Path.{sym}
 use borrow.Author.Needs.{needs}
 use native.Mathlib.Omega.{arith}

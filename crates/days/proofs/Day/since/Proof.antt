@@ -1,5 +1,4 @@
 -- `days::Day::since` meets its contract: at each `return` the test that led there says which case of `gapOf` holds.
--- Assumes nothing.
 use mathlib.Core.Path.{sym}
 use native.Mathlib.Omega.{arith}
 use Rattle.days.proofs.Days.{gapOf-ordered, gapOf-backwards}

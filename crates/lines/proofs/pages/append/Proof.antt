@@ -1,12 +1,11 @@
 -- `lines::pages::append` meets its contract: the page holds its text and what is copied so far.
--- Assumes nothing.
 use Prim.Native.Nat.{ℕ, _+_, _-_, _≤_, _<_}
 use mathlib.Core.Path.{_≡_, sym, ap, _∙_}
 use mathlib.Core.List.{List, [], _++_, append-nil}
 use native.Mathlib.Omega.{arith}
 use lib.ListN.{length, getD, take, set, length-append}
 use lib.Seq.{take-length}
-use Rattle.rules.specs.Text.{filled}
+use Rattle.lists.specs.Count.{filled}
 use Rattle.lines.specs.declared.Page.{Page}
 use Rattle.lines.specs.Pages.{pageOf, textOf, Written}
 use Rattle.lines.proofs.Growing.{stored, bytes-are, len-is}

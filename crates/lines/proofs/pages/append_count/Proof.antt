@@ -1,5 +1,4 @@
 -- `lines::pages::append_count` meets its contract: the word, then the number, and a u32 has at most 10 digits.
--- Assumes nothing.
 use mathlib.Core.List.{_++_}
 use native.Mathlib.Omega.{arith}
 use borrow.Author.Needs.{needs}

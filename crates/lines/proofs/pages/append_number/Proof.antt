@@ -1,5 +1,4 @@
 -- `lines::pages::append_number` meets its contract: the digits of what is left, and those stored, are the digits of the number.
--- Assumes nothing.
 use Prim.Native.Nat.{ℕ, _+_, _-_, _≤_, _<_}
 use mathlib.Core.Path.{_≡_, refl, sym, ap, _∙_}
 use mathlib.Core.List.{List, _++_, append-nil}

@@ -1,5 +1,4 @@
 -- `lines::pages::append_place` meets its contract: the word, then the number, and a usize has at most 20 digits.
--- Assumes nothing.
 use mathlib.Core.List.{_++_}
 use native.Mathlib.Omega.{arith}
 use borrow.Author.Needs.{needs}

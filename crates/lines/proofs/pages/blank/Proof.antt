@@ -1,5 +1,4 @@
 -- `lines::pages::blank` meets its contract: a page with no text is zeros.
--- Assumes nothing.
 use mathlib.Core.Path.{refl}
 use Rattle.lines.specs.Pages.{pageOf}
 use Rattle.lines.proofs.pages.blank.Statement.{statement}

@@ -1,5 +1,4 @@
 -- `lines::parts::assign_line` meets its contract: each arm writes the line of its answer.
--- Assumes nothing.
 use native.Mathlib.Omega.{arith}
 use borrow.Author.Needs.{needs}
 use Rattle.rules.specs.Lines.{bytesOf, assignLine}

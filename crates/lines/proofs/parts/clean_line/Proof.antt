@@ -1,5 +1,4 @@
 -- `lines::parts::clean_line` meets its contract: its words and numbers one behind the other are the line.
--- Assumes nothing.
 use native.Mathlib.Omega.{arith}
 use borrow.Author.Needs.{needs}
 use Rattle.rules.specs.Lines.{bytesOf, outcomeLine}

@@ -1,5 +1,4 @@
 -- `lines::parts::outcome_line` meets its contract: each arm writes the line of its outcome.
--- Assumes nothing.
 use borrow.Author.Needs.{needs}
 use Rattle.rules.specs.Lines.{outcomeLine}
 use Rattle.lines.proofs.parts.outcome_line.Statement.{statement}

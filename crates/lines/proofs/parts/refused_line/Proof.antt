@@ -1,5 +1,4 @@
 -- `lines::parts::refused_line` meets its contract: its words and numbers one behind the other are the line.
--- Assumes nothing.
 use mathlib.Core.Path.{ap, _∙_}
 use mathlib.Core.List.{_++_}
 use native.Mathlib.Omega.{arith}

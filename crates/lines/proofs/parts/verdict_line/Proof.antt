@@ -1,5 +1,4 @@
 -- `lines::parts::verdict_line` meets its contract: each arm writes the line of its verdict.
--- Assumes nothing.
 use native.Mathlib.Omega.{arith}
 use borrow.Author.Needs.{needs}
 use Rattle.rules.specs.Lines.{bytesOf, verdictLine}

@@ -1,5 +1,4 @@
 -- `reading::digits::byte_at` meets its contract: no digit is worth more than 16.
--- Assumes nothing.
 use native.Mathlib.Omega.{arith}
 use borrow.Author.Needs.{needs}
 use lib.ListN.{getD}

@@ -1,5 +1,4 @@
 -- `reading::digits::digit` meets its contract: the tests say between which bytes this one lies.
--- Assumes nothing.
 use mathlib.Core.Path.{sym}
 use native.Mathlib.Omega.{arith}
 use borrow.Author.Needs.{needs}

@@ -1,5 +1,4 @@
 -- `reading::digits::pair_at` meets its contract: no two digits are worth more than 272.
--- Assumes nothing.
 use native.Mathlib.Omega.{arith}
 use borrow.Author.Needs.{needs}
 use Prim.Native.Nat.{_+_}

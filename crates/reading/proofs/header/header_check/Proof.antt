@@ -1,10 +1,9 @@
 -- `reading::header::header_check` meets its contract: the frame decides first, then its numbers.
--- Assumes nothing.
 use mathlib.Core.Path.{_≡_, sym, _∙_}
 use borrow.Author.Needs.{needs}
-use Rattle.rules.specs.declared.Checked.the-variants.{Lawful}
+use Rattle.faults.specs.declared.Checked.the-variants.{Lawful}
 use Rattle.rules.specs.Text.{frameCheck}
-use Rattle.laws.proofs.Lawful.{then-lawful, then-refused}
+use Rattle.faults.proofs.Checks.{then-lawful, then-refused}
 use Rattle.reading.specs.Place.{lineAt, numbersOfHeader}
 use Rattle.reading.proofs.Framing.{frameCheck-frame}
 use Rattle.reading.proofs.Heading.{header-parts}

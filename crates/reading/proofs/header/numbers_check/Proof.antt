@@ -1,6 +1,5 @@
 -- `reading::header::numbers_check` meets its contract: what stands at the places of a header frame decides in the order of the faults.
--- Assumes nothing.
-use Prim.Native.Nat.{ℕ, _+_, _≤_}
+use Prim.Native.Nat.{_≤_}
 use mathlib.Core.Path.{_≡_, sym, _∙_}
 use native.Mathlib.Omega.{arith}
 use borrow.Author.Needs.{needs}

@@ -1,5 +1,4 @@
 -- `reading::releases::release_at` meets its contract: the fields of a release frame stand at fixed places.
--- Assumes nothing.
 use mathlib.Core.Path.{sym}
 use native.Mathlib.Omega.{arith}
 use borrow.Author.Needs.{needs}

@@ -1,16 +1,15 @@
 -- `reading::releases::releases_in` meets its contract: the list holds the releases read so far, and the filler behind them.
--- Assumes nothing.
 use Prim.Native.Nat.{ℕ, _+_, _-_, _*_, _≤_, _<_}
 use mathlib.Core.Path.{_≡_, refl, sym, ap, _∙_}
 use mathlib.Core.List.{List, []}
 use native.Mathlib.Omega.{arith}
-use borrow.Author.Needs.{needs}
-use lib.ListN.{length, set}
+use lib.ListN.{set}
 use Rattle.rules.specs.declared.Release.{Release}
 use Rattle.rules.specs.Release.{noRelease}
-use Rattle.rules.specs.Text.{filled, releaseOf}
+use Rattle.lists.specs.Count.{filled}
+use Rattle.rules.specs.Text.{releaseOf}
 use Rattle.reading.specs.Place.{lineAt, releasesBy, releaseListBy}
-use Rattle.laws.proofs.Filling.{filled-set}
+use Rattle.lists.proofs.Filling.{filled-set}
 use Rattle.reading.proofs.Filling.{releasesBy-length, releasesBy-next}
 use Rattle.reading.proofs.releases.releases_in.Statement.{statement}
 use Rattle.reading.proofs.releases.releases_in.Tie as tie

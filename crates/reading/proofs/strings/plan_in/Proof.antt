@@ -1,18 +1,17 @@
 -- `reading::strings::plan_in` meets its contract: the array holds the strings read so far, and the filler behind them.
--- Assumes nothing.
 use Prim.Native.Nat.{ℕ, _+_, _-_, _*_, _≤_, _<_}
 use mathlib.Core.Path.{_≡_, refl, sym, ap, _∙_}
 use mathlib.Core.List.{List, []}
 use native.Mathlib.Omega.{arith}
-use borrow.Author.Needs.{needs}
-use lib.ListN.{length, set}
+use lib.ListN.{set}
 use Rattle.rules.specs.declared.BatteryString.{BatteryString}
 use Rattle.rules.specs.Plan.{noString}
-use Rattle.rules.specs.Text.{filled, stringOf}
+use Rattle.lists.specs.Count.{filled}
+use Rattle.rules.specs.Text.{stringOf}
 use Rattle.reading.specs.Place.{lineAt, pairIn, quadIn, stringsBy, planBy}
 use Rattle.days.specs.Days.{days}
 use Rattle.reading.proofs.Numbers.{digit-from}
-use Rattle.laws.proofs.Filling.{filled-set}
+use Rattle.lists.proofs.Filling.{filled-set}
 use Rattle.reading.proofs.Filling.{stringsBy-length, stringsBy-next}
 use Rattle.reading.proofs.strings.plan_in.Statement.{statement}
 use Rattle.reading.proofs.strings.plan_in.Tie as tie

@@ -1,5 +1,4 @@
 -- `reading::strings::string_at` meets its contract: the fields of a string frame stand at fixed places.
--- Assumes nothing.
 use mathlib.Core.Path.{sym}
 use borrow.Author.Needs.{needs}
 use Rattle.reading.proofs.Numbers.{string-is}

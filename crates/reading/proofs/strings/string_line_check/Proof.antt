@@ -1,8 +1,7 @@
 -- `reading::strings::string_line_check` meets its contract: the frame decides first, then the bounds of the string.
--- Assumes nothing.
 use mathlib.Core.Path.{_≡_, sym, ap, _∙_}
 use borrow.Author.Needs.{needs}
-use Rattle.rules.specs.declared.Checked.the-variants.{Lawful}
+use Rattle.faults.specs.declared.Checked.the-variants.{Lawful}
 use Rattle.rules.specs.Plan.{stringLawful}
 use Rattle.rules.specs.Text.{frameCheck}
 use Rattle.reading.specs.Place.{lineAt}

@@ -1,17 +1,16 @@
 -- `reading::strings::string_lines_check` meets its contract: the lines that are left, from the one reached on, give what all of them give.
--- Assumes nothing.
 use Prim.Native.Nat.{ℕ, suc, _+_, _-_, _*_, _≤_, _<_}
-use mathlib.Core.Path.{_≡_, refl, sym, ap, _∙_}
+use mathlib.Core.Path.{_≡_, sym, _∙_}
 use native.Mathlib.Omega.{arith}
 use borrow.Author.Needs.{needs}
 use lib.ListN.{length, drop}
-use Rattle.rules.specs.declared.Checked.{Checked}
-use Rattle.rules.specs.declared.Checked.the-variants.{Lawful, Refused}
-use Rattle.rules.specs.declared.Fault.the-variants.{FrameWrong}
-use Rattle.rules.specs.declared.Fault.{Fault}
+use Rattle.faults.specs.declared.Checked.{Checked}
+use Rattle.faults.specs.declared.Checked.the-variants.{Lawful, Refused}
+use Rattle.faults.specs.declared.Fault.the-variants.{FrameWrong}
+use Rattle.faults.specs.declared.Fault.{Fault}
 use Rattle.rules.specs.Text.{linesOf, stringLineCheck, stringLinesCheck}
 use mathlib.Core.List.{List}
-use Rattle.reading.specs.Place.{lineAt, Frame}
+use Rattle.reading.specs.Place.{lineAt}
 use Rattle.reading.proofs.StringLines.{stringLine-framed, stringLines-missing, stringLines-bad, stringLines-good, stringLines-end}
 use Rattle.reading.proofs.strings.string_lines_check.Statement.{statement}
 use Rattle.reading.proofs.strings.string_lines_check.Tie as tie

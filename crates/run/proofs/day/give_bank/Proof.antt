@@ -1,5 +1,4 @@
 -- `run::day::give_bank` meets its contract: the tests are those of step 4, in its order.
--- Assumes nothing.
 use Prim.Native.Nat.{_≤_}
 use mathlib.Core.Path.{_≡_, sym, ap, _∙_}
 use native.Mathlib.Omega.{arith}

@@ -1,5 +1,4 @@
 -- `run::day::holder_place` meets its contract: the choice is made among the first n slots.
--- Assumes nothing.
 use Prim.Native.Nat.{_≤_}
 use mathlib.Core.Path.{sym, _∙_}
 use native.Mathlib.Omega.{arith}

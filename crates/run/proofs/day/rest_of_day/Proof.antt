@@ -1,5 +1,4 @@
 -- `run::day::rest_of_day` meets its contract: the steps follow each other, and step 3 is left out only where it changes nothing.
--- Assumes nothing.
 use mathlib.Core.Path.{sym, ap, _∙_}
 use Rattle.rules.specs.Run.{given, useOf, spent}
 use borrow.Author.Needs.{needs}

@@ -1,5 +1,4 @@
 -- `run::day::take_bank` meets its contract: the tests are those of step 3, in its order, and a moving cost more still fits.
--- Assumes nothing.
 use Prim.Native.Nat.{_≤_}
 use mathlib.Core.Path.{_≡_, sym, ap, _∙_}
 use native.Mathlib.Omega.{arith}

@@ -1,5 +1,4 @@
 -- `run::day::use_day` meets its contract: the test is that of step 5.
--- Assumes nothing.
 use Prim.Native.Nat.{_≤_}
 use mathlib.Core.Path.{sym, ap, _∙_}
 use native.Mathlib.Omega.{arith}

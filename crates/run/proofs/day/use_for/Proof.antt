@@ -1,5 +1,4 @@
 -- `run::day::use_for` meets its contract: in each arm the job is the one that the arm names.
--- Assumes nothing.
 use borrow.Author.Tests.{lt-ltb, le-ltb}
 use borrow.Author.Needs.{needs}
 use Rattle.run.proofs.day.use_for.Statement.{statement}

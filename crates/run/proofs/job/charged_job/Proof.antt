@@ -1,5 +1,4 @@
 -- `run::job::charged_job` meets its contract: in each arm the job is the one that the arm names.
--- Assumes nothing.
 use mathlib.Core.Path.{ap}
 use native.Mathlib.Omega.{arith}
 use Rattle.run.specs.Job.{movingLeft}

@@ -1,5 +1,4 @@
 -- `run::job::day_less` meets its contract: a length of 0 stays as it is.
--- Assumes nothing.
 use mathlib.Core.Path.{_≡_, ap}
 use Prim.Native.Nat.{_-_}
 use native.Mathlib.Omega.{arith}

@@ -1,5 +1,4 @@
 -- `run::job::on_or_gone` meets its contract: some is left exactly where the sum is not 0.
--- Assumes nothing.
 use Prim.Native.Nat.{_+_}
 use mathlib.Core.Path.{_≡_, sym, _∙_}
 use native.Mathlib.Omega.{arith}

@@ -1,5 +1,4 @@
 -- `run::job::some_left` meets its contract: a sum is 0 where both parts are.
--- Assumes nothing.
 use mathlib.Core.Path.{_≡_, sym, ap}
 use Prim.Native.Nat.{_+_, _<_}
 use lib.Dec.{ltb}

@@ -1,5 +1,4 @@
 -- `run::job::spent_job` meets its contract: in each arm the job is the one that the arm names, and the test says which day is used.
--- Assumes nothing.
 use borrow.Author.Tests.{lt-ltb, le-ltb}
 use borrow.Author.Needs.{needs}
 use Rattle.run.proofs.job.spent_job.Statement.{statement}

@@ -1,5 +1,4 @@
 -- `run::job::stopped_job` meets its contract: in each arm the job is the one that the arm names.
--- Assumes nothing.
 use borrow.Author.Needs.{needs}
 use Rattle.run.proofs.job.stopped_job.Statement.{statement}
 use Rattle.run.proofs.job.stopped_job.Tie as tie

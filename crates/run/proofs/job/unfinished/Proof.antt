@@ -1,5 +1,4 @@
 -- `run::job::unfinished` meets its contract: in each arm the job is the one that the arm names.
--- Assumes nothing.
 use borrow.Author.Needs.{needs}
 use Rattle.run.proofs.job.unfinished.Statement.{statement}
 use Rattle.run.proofs.job.unfinished.Tie as tie

@@ -1,5 +1,4 @@
 -- `run::question::goes_first` meets its contract: the tests are the definition's, in its order.
--- Assumes nothing.
 use mathlib.Core.Path.{sym, _∙_}
 use borrow.Author.Tests.{eq-eqb, ne-eqb}
 use borrow.Author.Needs.{needs}

@@ -1,5 +1,4 @@
 -- `run::question::is_ahead` meets its contract: in each arm the question is the one that the arm names.
--- Assumes nothing.
 use borrow.Author.Needs.{needs}
 use Rattle.run.proofs.question.is_ahead.Statement.{statement}
 use Rattle.run.proofs.question.is_ahead.Tie as tie

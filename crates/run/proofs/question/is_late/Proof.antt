@@ -1,5 +1,4 @@
 -- `run::question::is_late` meets its contract: the test is the definition's first, what is left its second.
--- Assumes nothing.
 use borrow.Author.Tests.{eq-eqb, ne-eqb}
 use borrow.Author.Needs.{needs}
 use Rattle.run.proofs.question.is_late.Statement.{statement}

@@ -1,5 +1,4 @@
 -- `run::question::may_take` meets its contract: the tests are the definition's, in its order.
--- Assumes nothing.
 use mathlib.Core.Path.{sym, _∙_}
 use borrow.Author.Tests.{eq-eqb, ne-eqb, not-true, not-false}
 use borrow.Author.Needs.{needs}

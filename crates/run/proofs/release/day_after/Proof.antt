@@ -1,5 +1,4 @@
 -- `run::release::day_after` meets its contract: the sum fits, so the answer is a day.
--- Assumes nothing.
 use Prim.Native.Nat.{ℕ}
 use mathlib.Core.Path.{_≡_}
 use native.Mathlib.Omega.{arith}

@@ -1,5 +1,4 @@
 -- `run::release::empty_slots` meets its contract: the slots passed are those of their strings.
--- Assumes nothing.
 use Prim.Native.Nat.{_-_, _≤_}
 use mathlib.Core.Path.{_≡_, refl}
 use native.Mathlib.Omega.{arith}

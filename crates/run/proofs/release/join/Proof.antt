@@ -1,5 +1,4 @@
 -- `run::release::join` meets its contract: the string is the plan's at the place, and the deadline is the definition's.
--- Assumes nothing.
 use Prim.Native.Nat.{_-_}
 use mathlib.Core.Path.{_≡_}
 use native.Mathlib.Omega.{arith}

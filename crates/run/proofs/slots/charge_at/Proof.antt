@@ -1,5 +1,4 @@
 -- `run::slots::charge_at` meets its contract, from those of the job alone and of the slots.
--- Assumes nothing.
 use borrow.Author.Needs.{needs}
 use Rattle.run.proofs.slots.charge_at.Statement.{statement}
 use Rattle.run.proofs.slots.charge_at.Tie as tie

@@ -1,5 +1,4 @@
 -- `run::slots::chosen_place` meets its contract: the loop holds the choice among the places passed.
--- Assumes nothing.
 use Prim.Native.Nat.{suc, _-_, _≤_}
 use mathlib.Core.Path.{_≡_, refl, sym, ap, _∙_}
 use mathlib.Core.Logic.{⊎-elim}

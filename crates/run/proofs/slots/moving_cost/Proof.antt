@@ -1,5 +1,4 @@
 -- `run::slots::moving_cost` meets its contract: every string of a plan pays the same.
--- Assumes nothing.
 use mathlib.Core.Path.{refl}
 use Rattle.rules.specs.Demand.{movingCost}
 use Rattle.run.proofs.slots.moving_cost.Statement.{statement}

@@ -1,5 +1,4 @@
 -- `run::slots::seat_at` meets its contract, from those of the job alone and of the slots.
--- Assumes nothing.
 use borrow.Author.Needs.{needs}
 use Rattle.run.proofs.slots.seat_at.Statement.{statement}
 use Rattle.run.proofs.slots.seat_at.Tie as tie

@@ -1,5 +1,4 @@
 -- `run::tally::counted` meets its contract: in each arm the day is of the kind that the arm names.
--- Assumes nothing.
 use borrow.Author.Needs.{needs}
 use Rattle.run.proofs.tally.counted.Statement.{statement}
 use Rattle.run.proofs.tally.counted.Tie as tie

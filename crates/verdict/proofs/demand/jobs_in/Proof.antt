@@ -1,5 +1,4 @@
 -- `verdict::demand::jobs_in` meets its contract: the test of the definition is the code's.
--- Assumes nothing.
 use mathlib.Core.Path.{sym}
 use native.Mathlib.Omega.{arith}
 use borrow.Author.Needs.{needs}

@@ -1,5 +1,4 @@
 -- `verdict::demand::share` meets its contract: few jobs and a short hold, so the product fits.
--- Assumes nothing.
 use Prim.Native.Nat.{ℕ, _*_}
 use mathlib.Core.Path.{_≡_, sym, ap, _∙_}
 use native.Mathlib.Omega.{arith}
@@ -30,7 +29,7 @@ product c =
 mul-result : tie.Need-mul-result
 mul-result c =
     let start = c .before .before .before .before in
-    let small = work-le (start .args .p) (start .args .w) (start .args .s) (start .pre .0 .lawful .aMax) (start .pre .1 .0) (start .pre .1 .1) in
+    let small = work-le (start .args .p) (start .args .w) (start .args .s) (start .pre .0) (start .pre .1) in
     omega (arith, product c, small)
 
 returns : tie.Need-returns

@@ -1,11 +1,10 @@
 -- `verdict::limits::largest_d` meets its contract: the larger of the largest so far and of the largest that is left is the largest of all.
--- Assumes nothing.
 use Prim.Native.Nat.{_-_, _≤_, max}
 use mathlib.Core.Path.{_≡_}
 use native.Mathlib.Omega.{arith}
 use borrow.Author.Needs.{needs}
 use lib.ListN.{take, drop}
-use Rattle.rules.specs.Count.{largest}
+use Rattle.lists.specs.Count.{largest}
 use Rattle.rules.specs.Plan.{dMax}
 use Rattle.verdict.proofs.ByPlace.{largest-at, largest-end}
 use Rattle.verdict.proofs.limits.largest_d.Statement.{statement}

@@ -1,5 +1,4 @@
 -- `verdict::limits::period_share` meets its contract: a short hold and at most h jobs, so the product fits.
--- Assumes nothing.
 use Prim.Native.Nat.{_*_, _/_}
 use mathlib.Core.Path.{ap}
 use native.Mathlib.Omega.{arith}
@@ -20,7 +19,7 @@ mul-result c =
     omega (
       arith,
       ap (λ e. e * (start .args .h / start .args .s .t .0)) (c .before .hold .ensures),
-      share-le (start .args .p) (start .args .h) (start .args .s) (start .pre .0 .lawful .aMax) (start .pre .1 .0) (start .pre .1 .1),
+      share-le (start .args .p) (start .args .h) (start .args .s) (start .pre .0) (start .pre .1),
     )
 
 returns : tie.Need-returns

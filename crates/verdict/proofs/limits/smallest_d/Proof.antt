@@ -1,6 +1,5 @@
 -- `verdict::limits::smallest_d` meets its contract: the smaller of the smallest so far and of the smallest
 -- that is left is the smallest of all.
--- Assumes nothing.
 use Prim.Native.Nat.{_-_, _≤_, min}
 use mathlib.Core.Path.{_≡_}
 use native.Mathlib.Omega.{arith}
@@ -8,9 +7,9 @@ use borrow.Author.Needs.{needs}
 use lib.ListN.{take, drop, getD}
 use Rattle.rules.specs.declared.BatteryString.{BatteryString}
 use Prim.Native.Nat.{ℕ}
-use Rattle.rules.specs.Count.{smallest, smallestWith}
+use Rattle.lists.specs.Count.{smallest, smallestWith}
 use Rattle.rules.specs.Plan.{stringsOf, noString, dMin}
-use Rattle.laws.proofs.Lists.{smallestWith-le}
+use Rattle.lists.proofs.Lists.{smallestWith-le}
 use Rattle.verdict.proofs.ByPlace.{smallest-start, smallest-at, smallest-end}
 use Rattle.verdict.proofs.limits.smallest_d.Statement.{statement}
 use Rattle.verdict.proofs.limits.smallest_d.Tie as tie

@@ -1,5 +1,4 @@
 -- `verdict::pairs::judged` meets its contract: overload decides first, then the pairs.
--- Assumes nothing.
 use mathlib.Core.Path.{sym, _∙_}
 use native.Mathlib.Omega.{arith}
 use borrow.Author.Needs.{needs}

@@ -1,5 +1,4 @@
 -- `verdict::pairs::passes` meets its contract: the case of the verdict decides.
--- Assumes nothing.
 use mathlib.Core.Path.{sym, ap, _∙_}
 use borrow.Author.Needs.{needs}
 use Rattle.rules.specs.Verdict.{isPass}

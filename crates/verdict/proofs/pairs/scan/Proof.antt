@@ -1,6 +1,5 @@
 -- `verdict::pairs::scan` meets its contract: a walk over the pairs that are left, with the count of
 -- those before them, finds what a walk over all finds.
--- Assumes nothing.
 use Prim.Native.Nat.{ℕ, _+_, _-_, _*_, _%_, _≤_, _<_}
 use mathlib.Core.Path.{_≡_, sym, ap, _∙_}
 use mathlib.Core.List.{_++_}

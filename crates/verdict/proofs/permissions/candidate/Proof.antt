@@ -1,5 +1,4 @@
 -- `verdict::permissions::candidate` meets its contract: the count of ones decides first, then the verdict with that set.
--- Assumes nothing.
 use mathlib.Core.Path.{sym, ap, _∙_, subst}
 use mathlib.Core.Bool.{_&&_}
 use borrow.Author.Needs.{needs}

@@ -1,5 +1,4 @@
 -- `verdict::permissions::first_set` meets its contract: the first passing set of those that are left is the first of all.
--- Assumes nothing.
 use Prim.Native.Nat.{ℕ, _+_, _-_, _^_, _≤_, _<_}
 use mathlib.Core.Path.{_≡_, sym, _∙_}
 use mathlib.Core.Bool.{false, _&&_}
@@ -10,7 +9,7 @@ use lib.Count.{ones}
 use lib.Dec.{eqb}
 use Rattle.rules.specs.declared.Plan.{Plan}
 use Rattle.rules.specs.Search.{setPasses, firstPassing, searchOf}
-use Rattle.laws.proofs.Lists.{by-bool, and-left, and-right}
+use Rattle.lists.proofs.Lists.{by-bool, and-left, and-right}
 use Rattle.laws.proofs.Powers.{sets-small, shift-is-sets}
 use Rattle.sets.proofs.Search.{none-search}
 use Rattle.sets.proofs.Walk.{setsFrom, setRows, searchOf-rows, walk-row, walk-other, walk-fails, walk-found, walk-row-end, walk-end}

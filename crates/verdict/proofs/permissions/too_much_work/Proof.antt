@@ -1,10 +1,9 @@
 -- `verdict::permissions::too_much_work` meets its contract: work that breaks the rule alone breaks it with any set.
--- Assumes nothing.
 use Prim.Native.Nat.{_+_, _-_, _≤_}
 use mathlib.Core.Path.{_≡_, sym, ap, _∙_, subst}
 use native.Mathlib.Omega.{arith}
 use Rattle.rules.specs.Search.{withSet}
-use Rattle.laws.proofs.Lists.{true-not-false}
+use Rattle.lists.proofs.Lists.{true-not-false}
 use Rattle.horizon.proofs.Sets.{withSet-lawful}
 use Rattle.horizon.proofs.Alone.{work-alone-breaks}
 use Rattle.verdict.specs.Asked.{Ready, askedBy}

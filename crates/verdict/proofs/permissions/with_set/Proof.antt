@@ -1,6 +1,5 @@
 -- `verdict::permissions::with_set` meets its contract: the strings done, with those left as what is left
 -- of the number permits them, are the whole.
--- Assumes nothing.
 use Prim.Native.Nat.{_-_, _≤_}
 use mathlib.Core.Path.{_≡_, refl, sym, ap, _∙_}
 use mathlib.Core.List.{_++_}

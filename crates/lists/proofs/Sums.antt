@@ -1,5 +1,4 @@
 -- Sums over the places 0 to n − 1 of a function of the place: what the account of a run needs of them.
--- Assumes nothing.
 use Prim.Native.Nat.{ℕ, zero, suc, _+_, _*_, _≤_, _<_}
 use mathlib.Core.Path.{_≡_, refl}
 use mathlib.Core.List.{List, [], _∷_}
@@ -7,7 +6,7 @@ use native.Mathlib.Omega.{arith}
 use native.Mathlib.Decide.{decLe, ℕ-discrete}
 use native.Mathlib.Nat.{le-refl, add-mul}
 use lib.ListN.{length, getD}
-use Rattle.rules.specs.Count.{sumOf}
+use Rattle.lists.specs.Count.{sumOf}
 
 unfoldable pub sumTo : ℕ → (ℕ → ℕ) → ℕ
 sumTo zero f = 0

@@ -1,13 +1,12 @@
 -- Laws of `leastFrom`: nothing before it passes, and where it is within the range, it passes.
--- Assumes nothing.
 use Prim.Native.Nat.{ℕ, zero, suc, _+_, _≤_, _<_}
-use mathlib.Core.Path.{_≡_, refl, sym, _∙_}
-use mathlib.Core.Bool.{Bool, true, false, cond}
+use mathlib.Core.Path.{_≡_, sym, _∙_}
+use mathlib.Core.Bool.{Bool, true, false}
 use native.Mathlib.Omega.{arith}
 use native.Mathlib.Decide.{ℕ-discrete}
 use native.Mathlib.Nat.{le-refl}
-use Rattle.rules.specs.Count.{leastFrom}
-use Rattle.laws.proofs.Lists.{by-bool, true-not-false}
+use Rattle.lists.specs.Count.{leastFrom}
+use Rattle.lists.proofs.Lists.{by-bool}
 
 module _ (f : ℕ → Bool) where
   pub leastFrom-here : (k n : ℕ) → f k ≡ true → leastFrom f k (suc n) ≡ k

@@ -3,14 +3,17 @@
 --     largest f xs          the largest f of xs, 0 of none
 --     smallest f xs         the smallest f of xs, 0 of none
 --     every f xs            all of xs pass f
+--     All P xs              every one of xs has P
 --     keep f xs             those of xs that pass f, in their order
 --     countOf f xs          how many of xs pass f
 --     upFrom k n            the n numbers k, k + 1, ..
+--     filled k z xs         xs, and z to fill k places
 --     leastFrom f k n       the least of the n numbers from k on that passes f, or k + n where none does
--- In a recursion both ways are bound before `cond` chooses, so that only the chosen one is computed. Assumes nothing.
-use Prim.Native.Nat.{ℕ, zero, suc, _+_, min, max}
-use mathlib.Core.Bool.{Bool, true, false, cond, _&&_}
-use mathlib.Core.List.{List, [], _∷_}
+-- In a recursion both ways are bound before `cond` chooses, so that only the chosen one is computed.
+use Prim.Native.Nat.{ℕ, zero, suc, _+_, _-_, min, max}
+use mathlib.Core.Bool.{Bool, true, false, cond}
+use mathlib.Core.List.{List, [], _∷_, _++_}
+use lib.ListN.{length, replicate}
 
 module _ {ℓ} {A : Type ℓ} where
   unfoldable pub sumOf : (A → ℕ) → List A → ℕ
@@ -37,6 +40,10 @@ module _ {ℓ} {A : Type ℓ} where
       let rest = every f xs in
       cond (f x) rest false
 
+  abbrev pub All : (A → Type 0) → List A → Type 0
+  All P [] = Unit {0}
+  All P (x ∷ xs) = P x × All P xs
+
   unfoldable pub keep : (A → Bool) → List A → List A
   keep f [] = []
   keep f (x ∷ xs) = cond (f x) (x ∷ keep f xs) (keep f xs)
@@ -44,6 +51,9 @@ module _ {ℓ} {A : Type ℓ} where
   unfoldable pub countOf : (A → Bool) → List A → ℕ
   countOf f [] = 0
   countOf f (x ∷ xs) = cond (f x) 1 0 + countOf f xs
+
+abbrev pub filled {ℓ} : {A : Type ℓ} → ℕ → A → List A → List A
+filled k z xs = xs ++ replicate (k - length xs) z
 
 unfoldable pub upFrom : ℕ → ℕ → List ℕ
 upFrom k zero = []

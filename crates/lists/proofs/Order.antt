@@ -1,6 +1,6 @@
 -- Laws of lists that are made by `upFrom`, `map`, `flatMap` and `keep`: what all their elements have, and that they rise.
 --     Rising R xs           each of xs is R-before every later one
--- A search for the first of a rising list that passes a test finds the least that passes. Assumes nothing.
+-- A search for the first of a rising list that passes a test finds the least that passes.
 use Prim.Native.Nat.{ℕ, zero, suc, _+_, _≤_, _<_}
 use mathlib.Core.Path.{_≡_, refl, sym, _∙_}
 use mathlib.Core.Bool.{Bool, true, false}
@@ -8,8 +8,8 @@ use mathlib.Core.List.{List, [], _∷_, _++_, map, flatMap}
 use native.Mathlib.Omega.{arith}
 use native.Mathlib.Decide.{ℕ-discrete}
 use native.Mathlib.Nat.{le-refl}
-use Rattle.rules.specs.Count.{sumOf, upFrom, keep}
-use Rattle.laws.proofs.Lists.{All, all-map, by-bool, true-not-false}
+use Rattle.lists.specs.Count.{sumOf, upFrom, keep}
+use Rattle.lists.proofs.Lists.{All, all-map, by-bool, true-not-false}
 
 -- ---- All
 

@@ -1,11 +1,9 @@
 -- Laws of tests, sums and extremes over a list.
---     All P xs              every one of xs has P
 --     Some P xs             one of xs, at a place that is given, has P
--- Assumes nothing.
 use Prim.Native.Nat.{ℕ, zero, suc, _+_, _≤_, _<_, min, max, zero-le}
-use mathlib.Core.Path.{_≡_, refl, sym, ap, _∙_, subst}
+use mathlib.Core.Path.{_≡_, refl, sym, _∙_}
 use mathlib.Core.Logic.{_⊎_, inl, inr}
-use mathlib.Core.Bool.{Bool, true, false, cond, _&&_}
+use mathlib.Core.Bool.{Bool, true, false, _&&_}
 use mathlib.Core.List.{List, [], _∷_}
 use native.Mathlib.Omega.{arith}
 use native.Mathlib.Numerals.{add-one}
@@ -13,7 +11,8 @@ use native.Mathlib.Decide.{decLe}
 use native.Mathlib.Nat.{not-suc-le-zero, le-of-suc-le-suc, le-refl}
 use lib.ListN.{length, getD, drop}
 use lib.Seq.{drop-cons}
-use Rattle.rules.specs.Count.{sumOf, largest, smallest, smallestWith, every, countOf}
+use Rattle.lists.specs.Count.{sumOf, largest, smallest, smallestWith, every}
+pub use Rattle.lists.specs.Count.{All}
 
 -- ---- Tests
 
@@ -42,10 +41,6 @@ and-both false b h k = h
 -- ---- All and Some
 
 module _ {ℓ} {A : Type ℓ} where
-  abbrev pub All : (A → Type 0) → List A → Type 0
-  All P [] = Unit {0}
-  All P (x ∷ xs) = P x × All P xs
-
   pub all-at : (P : A → Type 0) (xs : List A) (z : A) → All P xs → (i : ℕ) → i < length xs → P (getD xs i z)
   all-at P [] z h i k = absurd (not-suc-le-zero k)
   all-at P (x ∷ xs) z h zero k = h .0

@@ -1,12 +1,11 @@
 -- Arrays filled from the front: what is stored so far, and the filler behind it.
--- Assumes nothing.
 use Prim.Native.Nat.{ℕ, suc, _-_, _<_}
 use mathlib.Core.Path.{_≡_, refl, sym, _∙_}
 use mathlib.Core.List.{List, [], _∷_, _++_, append-assoc}
 use native.Mathlib.Omega.{arith}
 use lib.ListN.{length, set, replicate, length-append}
 use lib.Seq.{set-at}
-use Rattle.rules.specs.Text.{filled}
+use Rattle.lists.specs.Count.{filled}
 
 pub filled-set {ℓ} : {A : Type ℓ} (k : ℕ) (z v : A) (xs : List A) → length xs < k → set (filled k z xs) (length xs) v ≡ filled k z (xs ++ (v ∷ []))
 filled-set k z v xs h =

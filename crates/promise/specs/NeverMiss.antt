@@ -1,0 +1,13 @@
+-- What demand 3 says of a plan.
+--     NeverMiss p           whatever is released, no answer that the code's `run` may give for p says miss
+use Prim.Native.Nat.{ℕ}
+use mathlib.Core.Path.{_≡_}
+use contract.Lifetimes.{Lfts}
+use Rattle.rules.specs.declared.Plan.{Plan}
+use Rattle.rules.specs.declared.Releases.{Releases}
+use Rattle.rules.specs.declared.Outcome.{Outcome}
+use Rattle.rules.specs.Said.{miss, outcomeSays}
+use Rattle.run.proofs.run.Reads as run
+
+abbrev pub NeverMiss : Plan → Type 0
+NeverMiss p = (κs : Lfts 0) (rs : Releases) (e : _) (o : Outcome) → run.Learnt κs (p, (rs, tt)) o e → (t i : ℕ) → outcomeSays o ≡ miss t i → ⊥
