@@ -1,8 +1,13 @@
 -- Laws of the definitions in `rules`, in the order in which they build on each other.
 pub mod Jobs
-pub mod Demand
 pub mod Lawful
+pub mod Demand
 pub mod Powers
 pub mod Releases
 pub mod ReleaseList
 pub mod Answers
+pub mod JobParts
+pub mod Slots
+pub mod Choice
+pub mod Steps
+pub mod History

@@ -10,7 +10,7 @@ use native.Mathlib.Omega.{arith}
 use native.Mathlib.Numerals.{add-one}
 use native.Mathlib.Decide.{decLe}
 use native.Mathlib.Nat.{not-suc-le-zero, le-of-suc-le-suc, le-refl}
-use lib.ListN.{length, getD, drop}
+use lib.ListN.{length, getD, drop, set}
 use lib.Seq.{drop-cons}
 use Rattle.lists.specs.Count.{sumOf, largest, smallest, smallestWith, every}
 
@@ -57,6 +57,17 @@ module _ {ℓ} {A : Type ℓ} where
   pub all-map : (P Q : A → Type 0) → ((x : A) → P x → Q x) → (xs : List A) → All P xs → All Q xs
   all-map P Q f [] h = tt
   all-map P Q f (x ∷ xs) h = (f x (h .0), all-map P Q f xs (h .1))
+
+  pub all-set : (P : A → Type 0) (xs : List A) (i : ℕ) (x : A) → All P xs → P x → All P (set xs i x)
+  all-set P [] i x h k = tt
+  all-set P (y ∷ xs) zero x h k = (k, h .1)
+  all-set P (y ∷ xs) (suc i) x h k = (h .0, all-set P xs i x (h .1) k)
+
+  -- at any place, if what stands outside the list has it too
+  pub all-getD : (P : A → Type 0) (xs : List A) (i : ℕ) (z : A) → All P xs → P z → P (getD xs i z)
+  all-getD P [] i z h k = k
+  all-getD P (y ∷ xs) zero z h k = h .0
+  all-getD P (y ∷ xs) (suc i) z h k = all-getD P xs i z (h .1) k
 
   abbrev pub Some : (A → Type 0) → List A → A → Type 0
   Some P xs z = (i : ℕ) × (i < length xs) × P (getD xs i z)

@@ -24,7 +24,7 @@ use Rattle.run.specs.declared.day.Evening.{Evening}
 use Rattle.run.specs.declared.tally.Tally.{Tally}
 use Rattle.run.specs.Tally.{addedTo, tallyOf}
 use Rattle.run.specs.Day.{EndedOn}
-use Rattle.run.proofs.Joining.{dayAt, joinFrom-none, joinFrom-drop, joinFrom-here}
+use Rattle.run.proofs.JoinList.{dayAt, joinFrom-none, joinFrom-drop, joinFrom-here}
 use Rattle.run.proofs.State.{stateAt-old, taken-quiet}
 use Rattle.run.proofs.Counting.{tallyOf-start, tallyOf-more}
 
@@ -88,7 +88,8 @@ module _ (p : Plan) (rs : List Release) where
       }
 
   -- the release at next is of today
-  pub joining-more : (t from : ℕ) (slots : List Slot) (next : ℕ) (r : Release) → r ≡ getD rs next noRelease → 1 ≤ r .place → r .place ≤ p .n
+  pub joining-more : (t from : ℕ) (slots : List Slot) (next : ℕ) (r : Release) → r ≡ getD rs next noRelease → 1 ≤ r .place
+      → r .place ≤ p .n
       → next < length rs → r .day .0 ≡ t → Joining p rs t from slots next
       → Joining p rs t from (set slots (r .place - 1) (newSlot p r (next + 1))) (next + 1)
   joining-more t from slots next r read low high room today j =
@@ -111,7 +112,9 @@ module _ (p : Plan) (rs : List Release) where
       → Joined p rs t from slots next
   joined-last t from slots next end j =
       record {
-        state = sym (joinFrom-none p t (next + 1) (drop next rs) (take (p .n) slots) (λ i h e. omega (arith, simp length-drop at h))) ∙ j .pending;
+        state =
+            sym (joinFrom-none p t (next + 1) (drop next rs) (take (p .n) slots) (λ i h e. omega (arith, simp length-drop at h)))
+            ∙ j .pending;
         within = j .within;
         passed = j .passed;
         coming = λ i h l. absurd (omega arith);

@@ -24,7 +24,8 @@ use Rattle.rules.specs.Release.{firstUnlawful}
 use Rattle.rules.specs.Demand.{holdOf}
 use Rattle.rules.specs.Run.{onBank, waits, left}
 use Rattle.lists.proofs.Lists.{true-not-false}
-use Rattle.sound.proofs.Chosen.{at, Choice}
+use Rattle.laws.proofs.Slots.{at}
+use Rattle.laws.proofs.Choice.{Choice}
 use Rattle.sound.proofs.Places.{holder-choice}
 use Rattle.laws.proofs.ReleaseList.{str, Released, released-apart}
 use Rattle.lists.proofs.Sums.{sumTo, sumTo-none, sumTo-part}

@@ -19,7 +19,8 @@ use Rattle.rules.specs.Demand.{holdOf}
 use Rattle.rules.specs.Run.{onBank, waits, left, given, spent, useOf, joined, taken, lateAt}
 use Rattle.lists.proofs.Lists.{by-bool, true-not-false}
 use Rattle.laws.proofs.Lawful.{LawfulPlan}
-use Rattle.sound.proofs.Chosen.{at, Nobody}
+use Rattle.laws.proofs.Slots.{at}
+use Rattle.laws.proofs.Choice.{Nobody}
 use Rattle.laws.proofs.ReleaseList.{str}
 use Rattle.lists.proofs.Sums.{sumTo, sumTo-grown, sumTo-some, sumTo-none}
 use Rattle.sound.proofs.Using.{Using, idleDay, keptDay, givenDay, Used, spent-using, neither-empty, left-empty}

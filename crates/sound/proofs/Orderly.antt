@@ -18,10 +18,9 @@ use Rattle.rules.specs.declared.Job.the-variants.{Empty, Waiting, OnBank}
 use Rattle.rules.specs.declared.Use.{Use}
 use Rattle.rules.specs.Plan.{stringsOf}
 use Rattle.rules.specs.Demand.{movingCost, holdOf}
-use Rattle.rules.specs.Run.{onBank, waits, left, stopped, charged, seated, spentJob}
+use Rattle.rules.specs.Run.{onBank, waits, left, stopped, charged, seated, spentJob, putJob}
 use Rattle.lists.proofs.Lists.{by-bool, true-not-false}
-use Rattle.sound.proofs.Chosen.{at}
-use Rattle.sound.proofs.Places.{putJob}
+use Rattle.laws.proofs.Slots.{at}
 use Rattle.laws.proofs.ReleaseList.{str, Released}
 use Rattle.sound.proofs.Taking.{Taking, bankFree, bankKept, bankTaken, Took, Taker}
 use Rattle.sound.proofs.Using.{Using, idleDay, keptDay, givenDay, Used, spent-left, spent-cases, GoneOrOn}

@@ -12,7 +12,7 @@ use Rattle.rules.specs.declared.Slot.{Slot}
 use Rattle.rules.specs.declared.Use.{Use}
 use Rattle.rules.specs.Plan.{stringsOf}
 use Rattle.rules.specs.Run.{onBank, left}
-use Rattle.sound.proofs.Chosen.{at}
+use Rattle.laws.proofs.Slots.{at}
 use Rattle.lists.proofs.Sums.{sumTo-le, sumTo-less}
 use Rattle.sound.proofs.Using.{Used, spent-left}
 use Rattle.sound.proofs.Orderly.{Live, Orderly}

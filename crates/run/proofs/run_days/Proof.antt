@@ -14,14 +14,15 @@ use Rattle.rules.specs.declared.Plan.{Plan}
 use Rattle.rules.specs.declared.Release.{Release}
 use Rattle.rules.specs.declared.Outcome.the-variants.{Miss}
 use Rattle.rules.specs.Release.{noRelease, releasesOf}
-use Rattle.rules.specs.Run.{emptySlot, lateAt, lateOn}
+use Rattle.rules.specs.Run.{emptySlot, lateAt, lateOn, runOf}
 use Rattle.run.specs.Tally.{tallyOf}
-use Rattle.run.proofs.Places.{take-map}
+use Rattle.lists.proofs.Order.{take-map}
+use Rattle.laws.proofs.History.{runOf-late}
+use Rattle.slots.proofs.Questions.{late-asked}
 use Rattle.laws.proofs.ReleaseList.{LawfulRelease, release-lawful, listed-sorted}
-use Rattle.run.proofs.Releases.{listed-joins}
-use Rattle.run.proofs.State.{joined-room}
-use Rattle.run.proofs.Counting.{tallyOf-under}
-use Rattle.run.proofs.Ending.{runOf-miss, runOf-clean}
+use Rattle.run.proofs.MayJoin.{listed-joins}
+use Rattle.run.proofs.State.{joined-affords}
+use Rattle.run.proofs.Counting.{tallyOf-under, runOf-tally}
 use Rattle.run.proofs.Daily.{Standing, Joining, Joined, standing-start, standing-late, joining-start, joining-more, joined-last, joined-before, joined-quiet, standing-next}
 use Rattle.run.proofs.run_days.Statement.{statement}
 use Rattle.run.proofs.run_days.Tie as tie
@@ -87,32 +88,37 @@ loop-holds c =
 before-requires : tie.Need-before-requires Inv-loop2 μ-loop2 Inv-loop μ-loop
 before-requires c κs = tt
 
-late-place-requires : tie.Need-late-place-requires Inv-loop2 μ-loop2 Inv-loop μ-loop
-late-place-requires c κs = start (c .before .before) .pre .plan .nMax
+chosen-place-requires : tie.Need-chosen-place-requires Inv-loop2 μ-loop2 Inv-loop μ-loop
+chosen-place-requires c κs = tt
 
 -- ---- Step 1
 
 -- the day whose first step has been taken
-abbrev today : tie.After-late-place Inv-loop2 μ-loop2 Inv-loop μ-loop → tie.At-loop Inv-loop2 μ-loop2 Inv-loop μ-loop
+abbrev today : tie.After-chosen-place Inv-loop2 μ-loop2 Inv-loop μ-loop → tie.At-loop Inv-loop2 μ-loop2 Inv-loop μ-loop
 today c = c .before .before .before
 
-running : (c : tie.After-late-place Inv-loop2 μ-loop2 Inv-loop μ-loop) → today c .loop .today .0 < planOf (today c) .run .0
+running : (c : tie.After-chosen-place Inv-loop2 μ-loop2 Inv-loop μ-loop) → today c .loop .today .0 < planOf (today c) .run .0
 running c =
     let o = today c in
     let early = ltb-true (o .loop .today .0) (endOf o) (sym (c .before .before .before2 .ensures) ∙ c .before .if1 .taken) in
     omega (arith, end-is o)
 
-late-is : (c : tie.After-late-place Inv-loop2 μ-loop2 Inv-loop μ-loop)
-    → c .late-place .result ≡ lateOn (planOf (today c)) (listOf (today c)) (today c .loop .today .0)
+late-is : (c : tie.After-chosen-place Inv-loop2 μ-loop2 Inv-loop μ-loop)
+    → c .chosen-place .result ≡ lateOn (planOf (today c)) (listOf (today c)) (today c .loop .today .0)
 late-is c =
     let o = today c in
-    c .late-place .ensures ∙ standing-late (planOf o) (listOf o) (o .loop .today .0) (o .loop .slots) (o .loop .next) (o .loop .tally) (o .loop .inv .1)
+    c .chosen-place .ensures ∙ late-asked _ _ ∙ standing-late (planOf o) (listOf o) (o .loop .today .0) (o .loop .slots) (o .loop .next) (o .loop .tally) (o .loop .inv .1)
+
+-- the run ends today
+missed-on : (o : tie.At-loop Inv-loop2 μ-loop2 Inv-loop μ-loop) → (lateOn (planOf o) (listOf o) (o .loop .today .0) ≡ 0 → ⊥)
+    → runOf (planOf o) (listOf o) ≡ Miss (day (o .loop .today .0)) (lateOn (planOf o) (listOf o) (o .loop .today .0))
+missed-on o late = runOf-late (planOf o) (listOf o) (o .loop .today .0) (o .loop .inv .0) (omega arith) (o .loop .inv .1 .clean)
 
 returns : tie.Need-returns Inv-loop2 μ-loop2 Inv-loop μ-loop
 returns c =
     let o = today (c .before) in
     let late = late-is (c .before) in
-    let miss = runOf-miss (planOf o) (listOf o) (o .loop .today .0) (o .loop .inv .0) (o .loop .inv .1 .clean) (λ z. c .if2 .taken (late ∙ z)) in
+    let miss = missed-on o (λ z. c .if2 .taken (late ∙ z)) in
     rw late (sym miss)
 
 loop2-holds : tie.Need-loop2-holds Inv-loop2 μ-loop2 Inv-loop μ-loop
@@ -177,14 +183,8 @@ rest-of-day-requires c κs =
     let o = morning c in
     let s = start o in
     let j = joined-at c in (
-      s .pre .plan .nMax,
-      (
-        s .pre .plan .aMax,
-        (
-          rw (j .state) (joined-room (planOf o) (listOf o) (o .loop .today .0) (s .pre .plan .aMax) (omega (arith, s .pre .plan .runMax, o .loop .inv .0))),
-          λ e. joined-quiet (planOf o) (listOf o) (o .loop .today .0) (o .loop .next) (i .loop2 .slots) (i .loop2 .next) j (ltb-false _ _ e),
-        ),
-      ),
+      rw (j .state) (joined-affords (planOf o) (listOf o) (s .pre .plan) (o .loop .today .0) (omega (arith, s .pre .plan .runMax, o .loop .inv .0))),
+      λ e. joined-quiet (planOf o) (listOf o) (o .loop .today .0) (o .loop .next) (i .loop2 .slots) (i .loop2 .next) j (ltb-false _ _ e),
     )
 
 counted-requires : tie.Need-counted-requires Inv-loop2 μ-loop2 Inv-loop μ-loop
@@ -217,32 +217,32 @@ loop-again c =
 
 -- ---- Day N
 
-abbrev evening : tie.After-late-place2 Inv-loop2 μ-loop2 Inv-loop μ-loop → tie.At-loop Inv-loop2 μ-loop2 Inv-loop μ-loop
+abbrev evening : tie.After-chosen-place2 Inv-loop2 μ-loop2 Inv-loop μ-loop → tie.At-loop Inv-loop2 μ-loop2 Inv-loop μ-loop
 evening c = c .before .before .before
 
-over : (c : tie.After-late-place2 Inv-loop2 μ-loop2 Inv-loop μ-loop) → endOf (evening c) ≡ evening c .loop .today .0
+over : (c : tie.After-chosen-place2 Inv-loop2 μ-loop2 Inv-loop μ-loop) → endOf (evening c) ≡ evening c .loop .today .0
 over c =
     let o = evening c in
     let late = ltb-false (o .loop .today .0) (endOf o) (sym (c .before .before .before2 .ensures) ∙ c .before .if1 .left) in
     omega (arith, o .loop .inv .0, end-is o)
 
-late-is-last : (c : tie.After-late-place2 Inv-loop2 μ-loop2 Inv-loop μ-loop)
-    → c .late-place2 .result ≡ lateOn (planOf (evening c)) (listOf (evening c)) (evening c .loop .today .0)
+late-is-last : (c : tie.After-chosen-place2 Inv-loop2 μ-loop2 Inv-loop μ-loop)
+    → c .chosen-place2 .result ≡ lateOn (planOf (evening c)) (listOf (evening c)) (evening c .loop .today .0)
 late-is-last c =
     let o = evening c in
     let last = over c in
-    c .late-place2 .ensures ∙ ap (λ t. lateAt t (take (planOf o .n) (o .loop .slots))) last
+    c .chosen-place2 .ensures ∙ late-asked _ _ ∙ ap (λ t. lateAt t (take (planOf o .n) (o .loop .slots))) last
     ∙ standing-late (planOf o) (listOf o) (o .loop .today .0) (o .loop .slots) (o .loop .next) (o .loop .tally) (o .loop .inv .1)
 
-late-place-requires-2 : tie.Need-late-place-requires-2 Inv-loop2 μ-loop2 Inv-loop μ-loop
-late-place-requires-2 c κs = start (c .before .before) .pre .plan .nMax
+chosen-place-requires-2 : tie.Need-chosen-place-requires-2 Inv-loop2 μ-loop2 Inv-loop μ-loop
+chosen-place-requires-2 c κs = tt
 
 returns-2 : tie.Need-returns-2 Inv-loop2 μ-loop2 Inv-loop μ-loop
 returns-2 c =
     let o = evening (c .before) in
     let late = late-is-last (c .before) in
-    let miss = runOf-miss (planOf o) (listOf o) (o .loop .today .0) (o .loop .inv .0) (o .loop .inv .1 .clean) (λ z. c .if4 .taken (late ∙ z)) in
-    ap (λ k. Miss (day k) (c .before .late-place2 .result)) (over (c .before)) ∙ ap (Miss (day (o .loop .today .0))) late ∙ sym miss
+    let miss = missed-on o (λ z. c .if4 .taken (late ∙ z)) in
+    ap (λ k. Miss (day k) (c .before .chosen-place2 .result)) (over (c .before)) ∙ ap (Miss (day (o .loop .today .0))) late ∙ sym miss
 
 clean-requires : tie.Need-clean-requires Inv-loop2 μ-loop2 Inv-loop μ-loop
 clean-requires c κs = tt
@@ -256,7 +256,7 @@ returns-3 c =
     let clean : (i : ℕ) → i ≤ planOf o .run .0 → lateOn (planOf o) (listOf o) i ≡ 0 =
     λ i h. elim (ℕ-discrete i (o .loop .today .0)) [ yes same ↦ rw same none | no before ↦ s .clean i (omega arith) ] in
     let count = s .count ∙ ap (tallyOf (planOf o) (listOf o)) last in
-    rw count at (c .clean .ensures) ∙ sym (runOf-clean (planOf o) (listOf o) clean)
+    rw count at (c .clean .ensures) ∙ sym (runOf-tally (planOf o) (listOf o) clean)
 
 pub run-days-spec : {M : Type 1} → statement M
 run-days-spec =
@@ -270,7 +270,7 @@ run-days-spec =
     empty-slots-requires
     loop-holds
     before-requires
-    late-place-requires
+    chosen-place-requires
     returns
     loop2-holds
     mul-r
@@ -285,7 +285,7 @@ run-days-spec =
     day-after-requires-2
     loop-less
     loop-again
-    late-place-requires-2
+    chosen-place-requires-2
     returns-2
     clean-requires
     returns-3)
