@@ -5,3 +5,5 @@ pub mod Order
 pub mod Sums
 pub mod Filling
 pub mod Counts
+pub mod FirstOf
+pub mod FirstN

@@ -3,15 +3,12 @@
 --     Some P xs             one of xs, at a place that is given, has P
 use Prim.Native.Nat.{ℕ, zero, suc, _+_, _≤_, _<_, min, max, zero-le}
 use mathlib.Core.Path.{_≡_, refl, sym, _∙_}
-use mathlib.Core.Logic.{_⊎_, inl, inr}
 use mathlib.Core.Bool.{Bool, true, false, _&&_}
 use mathlib.Core.List.{List, [], _∷_}
 use native.Mathlib.Omega.{arith}
-use native.Mathlib.Numerals.{add-one}
 use native.Mathlib.Decide.{decLe}
 use native.Mathlib.Nat.{not-suc-le-zero, le-of-suc-le-suc, le-refl}
-use lib.ListN.{length, getD, drop, set}
-use lib.Seq.{drop-cons}
+use lib.ListN.{length, getD, set}
 use Rattle.lists.specs.Count.{sumOf, largest, smallest, smallestWith, every}
 
 -- ---- Tests
@@ -109,10 +106,6 @@ module _ {ℓ} {A : Type ℓ} where
       let rest = sumOf-add f g xs in
       omega arith
 
-  pub sumOf-drop : (f : A → ℕ) (xs : List A) (z : A) (i : ℕ) → i < length xs → sumOf f (drop i xs) ≡ f (getD xs i z) + sumOf f (drop (i + 1) xs)
-  unfolding sumOf
-  sumOf-drop f xs z i h = rw (add-one, drop-cons xs i z h)
-
   -- ---- largest
 
   pub largest-ge : (f : A → ℕ) (xs : List A) → All (λ x. f x ≤ largest f xs) xs
@@ -141,10 +134,6 @@ module _ {ℓ} {A : Type ℓ} where
       later : Some (λ y. m < f y) xs z → Some (λ y. m < f y) (x ∷ xs) z
       later s = (suc (s .0), omega (arith, s .1), s .2)
 
-  pub largest-drop : (f : A → ℕ) (xs : List A) (z : A) (i : ℕ) → i < length xs → largest f (drop i xs) ≡ max (f (getD xs i z)) (largest f (drop (i + 1) xs))
-  unfolding largest
-  largest-drop f xs z i h = rw (add-one, drop-cons xs i z h)
-
   -- ---- smallest
 
   pub smallestWith-le : (f : A → ℕ) (m : ℕ) (xs : List A) → smallestWith f m xs ≤ m
@@ -166,27 +155,3 @@ module _ {ℓ} {A : Type ℓ} where
   unfolding smallest
   smallest-le f [] = tt
   smallest-le f (x ∷ xs) = (smallestWith-le f (f x) xs, smallestWith-all f (f x) xs)
-
-  -- a smallest below a bound is reached somewhere
-  pub smallestWith-some : (f : A → ℕ) (m b : ℕ) (xs : List A) (z : A) → smallestWith f m xs ≤ b → (m ≤ b) ⊎ Some (λ x. f x ≤ b) xs z
-  unfolding smallestWith
-  smallestWith-some f m b [] z h = inl h
-  smallestWith-some f m b (x ∷ xs) z h =
-      elim (decLe (f x) b) [ yes here ↦ inr (zero, omega arith, here) | no away ↦ later (smallestWith-some f m b xs z (omega arith)) ]
-    where
-      later : (m ≤ b) ⊎ Some (λ y. f y ≤ b) xs z → (m ≤ b) ⊎ Some (λ y. f y ≤ b) (x ∷ xs) z
-      later (inl k) = inl k
-      later (inr s) = inr (suc (s .0), omega (arith, s .1), s .2)
-
-  pub smallest-some : (f : A → ℕ) (b : ℕ) (xs : List A) (z : A) → zero < length xs → smallest f xs ≤ b → Some (λ x. f x ≤ b) xs z
-  unfolding smallest
-  smallest-some f b [] z k h = absurd (not-suc-le-zero k)
-  smallest-some f b (x ∷ xs) z k h = place (smallestWith-some f (f x) b xs z h)
-    where
-      place : (f x ≤ b) ⊎ Some (λ y. f y ≤ b) xs z → Some (λ y. f y ≤ b) (x ∷ xs) z
-      place (inl e) = (zero, omega arith, e)
-      place (inr s) = (suc (s .0), omega (arith, s .1), s .2)
-
-  pub smallestWith-drop : (f : A → ℕ) (m : ℕ) (xs : List A) (z : A) (i : ℕ) → i < length xs → smallestWith f m (drop i xs) ≡ min (f (getD xs i z)) (smallestWith f m (drop (i + 1) xs))
-  unfolding smallestWith
-  smallestWith-drop f m xs z i h = rw (add-one, drop-cons xs i z h)

@@ -82,10 +82,6 @@ module _ {ℓ κ} {A : Type ℓ} {B : Type κ} where
   mapped-all P f [] h = tt
   mapped-all P f (x ∷ xs) h = (h .0, mapped-all P f xs (h .1))
 
-  pub flatMap-cons : (f : A → List B) (x : A) (xs : List A) → flatMap f (x ∷ xs) ≡ f x ++ flatMap f xs
-  unfolding flatMap
-  flatMap-cons f x xs = refl
-
   pub all-flat : (P : B → Type 0) (f : A → List B) (xs : List A) → All (λ x. All P (f x)) xs → All P (flatMap f xs)
   unfolding flatMap
   all-flat P f [] h = tt
@@ -97,10 +93,6 @@ module _ {ℓ κ} {A : Type ℓ} {B : Type κ} where
   flat-all P f (x ∷ xs) h = (all-left P (f x) (flatMap f xs) h, flat-all P f xs (all-right P (f x) (flatMap f xs) h))
 
 -- ---- upFrom
-
-pub upFrom-cons : (k n : ℕ) → upFrom k (suc n) ≡ k ∷ upFrom (suc k) n
-unfolding upFrom
-upFrom-cons k n = refl
 
 pub all-upFrom : (P : ℕ → Type 0) (k n : ℕ) → ((i : ℕ) → k ≤ i → i < k + n → P i) → All P (upFrom k n)
 unfolding upFrom

@@ -14,9 +14,9 @@ use lib.Dec.{eqb}
 use Rattle.rules.specs.declared.Plan.{Plan}
 use Rattle.rules.specs.declared.Assign.the-variants.{Takers, Nobody}
 use Rattle.lists.specs.Count.{upFrom, keep}
-use Rattle.rules.specs.Search.{setPasses, setsOf, ordered, firstPassing, searchOf}
+use Rattle.rules.specs.Search.{assigned, setPasses, setsOf, ordered, firstPassing, searchOf}
 use Rattle.lists.proofs.Order.{keep-yes, keep-no}
-use Rattle.sets.proofs.First.{firstPassing-here, firstPassing-later, firstPassing-end}
+use Rattle.lists.proofs.FirstOf.{firstOf-here, firstOf-later, firstOf-end}
 
 unfoldable pub setsFrom : ℕ → ℕ → ℕ → List ℕ
 setsFrom n k m = keep (λ i. eqb (ones i) k) (upFrom m (2 ^ n - m))
@@ -92,15 +92,15 @@ module _ (p : Plan) (n k m : ℕ) where
       (ms : List ℕ) → m < 2 ^ n → ones m ≡ k → setPasses p m ≡ false
       → firstPassing p (setsFrom n k m ++ ms) ≡ firstPassing p (setsFrom n k (m + 1) ++ ms)
   walk-fails ms h e fails =
-      ap (λ row. firstPassing p (row ++ ms)) (setsFrom-set n k m h e) ∙ firstPassing-later p m (setsFrom n k (m + 1) ++ ms) fails
+      ap (λ row. firstPassing p (row ++ ms)) (setsFrom-set n k m h e) ∙ ap assigned (firstOf-later (setPasses p) m (setsFrom n k (m + 1) ++ ms) fails)
 
   pub walk-found :
       (ms : List ℕ) → m < 2 ^ n → ones m ≡ k → setPasses p m ≡ true → firstPassing p (setsFrom n k m ++ ms) ≡ Takers m
   walk-found ms h e passes =
-      ap (λ row. firstPassing p (row ++ ms)) (setsFrom-set n k m h e) ∙ firstPassing-here p m (setsFrom n k (m + 1) ++ ms) passes
+      ap (λ row. firstPassing p (row ++ ms)) (setsFrom-set n k m h e) ∙ ap assigned (firstOf-here (setPasses p) m (setsFrom n k (m + 1) ++ ms) passes)
 
   pub walk-row-end : (ms : List ℕ) → 2 ^ n ≤ m → firstPassing p (setsFrom n k m ++ ms) ≡ firstPassing p ms
   walk-row-end ms h = ap (λ row. firstPassing p (row ++ ms)) (setsFrom-end n k m h)
 
   pub walk-end : n < k → firstPassing p (setRows n k) ≡ Nobody
-  walk-end h = ap (firstPassing p) (setRows-end n k h) ∙ firstPassing-end p
+  walk-end h = ap (firstPassing p) (setRows-end n k h) ∙ ap assigned (firstOf-end (setPasses p))
