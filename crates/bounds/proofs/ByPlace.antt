@@ -42,11 +42,13 @@ stringAt-out p i h =
 
 -- ---- stringsCheck
 
-pub stringsCheck-good : (k n i : ℕ) (xs : List BatteryString) → i < n → n ≤ length xs → stringLawful (getD xs i noString) ≡ true → stringsCheck k (drop i (take n xs)) ≡ stringsCheck (k + 1) (drop (i + 1) (take n xs))
+pub stringsCheck-good : (k n i : ℕ) (xs : List BatteryString) → i < n → n ≤ length xs → stringLawful (getD xs i noString) ≡ true
+    → stringsCheck k (drop i (take n xs)) ≡ stringsCheck (k + 1) (drop (i + 1) (take n xs))
 unfolding stringsCheck
 stringsCheck-good k n i xs h m t = rw (part-cons n i xs noString h m, add-one k, t)
 
-pub stringsCheck-bad : (k n i : ℕ) (xs : List BatteryString) → i < n → n ≤ length xs → stringLawful (getD xs i noString) ≡ false → stringsCheck k (drop i (take n xs)) ≡ Refused OutOfBounds k
+pub stringsCheck-bad : (k n i : ℕ) (xs : List BatteryString) → i < n → n ≤ length xs → stringLawful (getD xs i noString) ≡ false
+    → stringsCheck k (drop i (take n xs)) ≡ Refused OutOfBounds k
 unfolding stringsCheck
 stringsCheck-bad k n i xs h m e = rw (part-cons n i xs noString h m, e)
 
@@ -56,11 +58,13 @@ stringsCheck-end k n i xs h = rw (part-end n i xs h)
 
 -- ---- commonMultiple
 
-pub commonMultiple-good : (h n i : ℕ) (xs : List BatteryString) → i < n → n ≤ length xs → eqb (h % getD xs i noString .t .0) 0 ≡ true → commonMultiple (drop i (take n xs)) h ≡ commonMultiple (drop (i + 1) (take n xs)) h
+pub commonMultiple-good : (h n i : ℕ) (xs : List BatteryString) → i < n → n ≤ length xs → eqb (h % getD xs i noString .t .0) 0 ≡ true
+    → commonMultiple (drop i (take n xs)) h ≡ commonMultiple (drop (i + 1) (take n xs)) h
 unfolding commonMultiple every
 commonMultiple-good h n i xs k m t = rw (part-cons n i xs noString k m, t)
 
-pub commonMultiple-bad : (h n i : ℕ) (xs : List BatteryString) → i < n → n ≤ length xs → eqb (h % getD xs i noString .t .0) 0 ≡ false → commonMultiple (drop i (take n xs)) h ≡ false
+pub commonMultiple-bad : (h n i : ℕ) (xs : List BatteryString) → i < n → n ≤ length xs → eqb (h % getD xs i noString .t .0) 0 ≡ false
+    → commonMultiple (drop i (take n xs)) h ≡ false
 unfolding commonMultiple every
 commonMultiple-bad h n i xs k m e = rw (part-cons n i xs noString k m, e)
 

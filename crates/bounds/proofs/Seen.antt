@@ -38,7 +38,8 @@ unfolding tooClose lastOf tooSoon
 apart-is t r [] = refl
 apart-is t r (q ∷ seen) = by-bool (eqb (q .place) (r .place)) (λ e. rw e) (λ e. rw e (apart-is t r seen))
 
-pub admits-is : (p : Plan) (seen : List Release) (r : Release) → admits p (latestOf seen) (lastOf (r .place) seen) r ≡ releaseLawful p seen r
+pub admits-is : (p : Plan) (seen : List Release) (r : Release)
+    → admits p (latestOf seen) (lastOf (r .place) seen) r ≡ releaseLawful p seen r
 unfolding admits releaseLawful
 admits-is p seen r = rw (order-is r seen, apart-is (stringAt p (r .place) .t) r seen)
 
@@ -125,16 +126,19 @@ pub lastOf-same : (rs : List Release) (i : ℕ) → lastOf (getD rs i noRelease 
 unfolding lastOf
 lastOf-same rs i = rw (seenTo-next rs i, eq-eqb (getD rs i noRelease .place) (getD rs i noRelease .place) refl)
 
-pub lastOf-other : (rs : List Release) (i k : ℕ) → (getD rs i noRelease .place ≡ k → ⊥) → lastOf k (seenTo rs (i + 1)) ≡ lastOf k (seenTo rs i)
+pub lastOf-other : (rs : List Release) (i k : ℕ) → (getD rs i noRelease .place ≡ k → ⊥)
+    → lastOf k (seenTo rs (i + 1)) ≡ lastOf k (seenTo rs i)
 unfolding lastOf
 lastOf-other rs i k other = rw (seenTo-next rs i, ne-eqb (getD rs i noRelease .place) k other)
 
 module _ (p : Plan) (rs : List Release) (end i : ℕ) (inside : i < end) (fits : end ≤ length rs) where
-  pub unlawfulFrom-good : (k : ℕ) → releaseLawful p (seenTo rs i) (getD rs i noRelease) ≡ true → unlawfulFrom p (seenTo rs i) k (drop i (take end rs)) ≡ unlawfulFrom p (seenTo rs (i + 1)) (k + 1) (drop (i + 1) (take end rs))
+  pub unlawfulFrom-good : (k : ℕ) → releaseLawful p (seenTo rs i) (getD rs i noRelease) ≡ true
+      → unlawfulFrom p (seenTo rs i) k (drop i (take end rs)) ≡ unlawfulFrom p (seenTo rs (i + 1)) (k + 1) (drop (i + 1) (take end rs))
   unfolding unlawfulFrom
   unlawfulFrom-good k t = rw (part-cons end i rs noRelease inside fits, t, seenTo-next rs i, add-one k)
 
-  pub unlawfulFrom-bad : (k : ℕ) → releaseLawful p (seenTo rs i) (getD rs i noRelease) ≡ false → unlawfulFrom p (seenTo rs i) k (drop i (take end rs)) ≡ k
+  pub unlawfulFrom-bad : (k : ℕ) → releaseLawful p (seenTo rs i) (getD rs i noRelease) ≡ false
+      → unlawfulFrom p (seenTo rs i) k (drop i (take end rs)) ≡ k
   unfolding unlawfulFrom
   unlawfulFrom-bad k e = rw (part-cons end i rs noRelease inside fits, e)
 
@@ -144,7 +148,8 @@ unlawfulFrom-end p rs end i k h =
     rw (part-end end i rs h)
 
 -- what is admitted has one of the ten places
-pub admitted-few : (p : Plan) (latest : Day) (last : Last) (r : Release) → length (p .strings) ≡ 10 → Admitted p latest last r → r .place ≤ 10
+pub admitted-few : (p : Plan) (latest : Day) (last : Last) (r : Release) → length (p .strings) ≡ 10 → Admitted p latest last r
+    → r .place ≤ 10
 admitted-few p latest last r ten h =
     elim (decLe (r .place) 10) [ yes few ↦ few | no many ↦ absurd (nowhere (omega arith)) ]
   where
@@ -157,7 +162,8 @@ admitted-few p latest last r ten h =
 
 -- a place that no plan has is refused, whatever is remembered
 pub admits-remembered : (p : Plan) (seen : List Release) (last : List Last) (r : Release) → length (p .strings) ≡ 10
-    → ((k : ℕ) → k < 10 → getD last k Never ≡ lastOf (k + 1) seen) → admits p (latestOf seen) (rememberedOf last (r .place)) r ≡ releaseLawful p seen r
+    → ((k : ℕ) → k < 10 → getD last k Never ≡ lastOf (k + 1) seen)
+    → admits p (latestOf seen) (rememberedOf last (r .place)) r ≡ releaseLawful p seen r
 unfolding rememberedOf
 admits-remembered p seen last r ten kept =
     by-bool (inBounds 1 (r .place) 10)

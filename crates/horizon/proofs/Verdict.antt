@@ -125,7 +125,8 @@ module _ (p : Plan) where
       }
     where
       within : Within p (pair l b)
-      within = firstOf-in (broken p) (Within p) (allPairs p) (pair l b) (all-pairs p (Within p) (λ i c low high limit. (low, high, limit))) h
+      within =
+          firstOf-in (broken p) (Within p) (allPairs p) (pair l b) (all-pairs p (Within p) (λ i c low high limit. (low, high, limit))) h
 
       least :
           (m c : ℕ) → 1 ≤ m → m ≤ dMax p + multipleOf p - 1 → c ≤ blockLimit p m
@@ -195,7 +196,8 @@ module _ (p : Plan) where
     where
       found : (o : Option Pair) → firstBroken p (allPairs p) ≡ o → firstBroken p (allPairs p) ≡ some (pair l b)
       found none e =
-          let holds = pairs-all p (λ q. broken p q ≡ false) (firstOf-none (broken p) (allPairs p) .0 e) l b (first .pos) (first .inRange) (first .allowed) in
+          let holds = pairs-all p (λ q. broken p q ≡ false) (firstOf-none (broken p) (allPairs p) .0 e) l b (first .pos) (first .inRange)
+          (first .allowed) in
           absurd (omega (arith, first .breaks, unbroken-holds p (pair l b) holds))
       found (some q) e =
           let same = firstBreak-unique p (q .l) (q .b) l b (firstBroken-names p (q .l) (q .b) e) first in

@@ -93,7 +93,8 @@ module _ (ok : Slot → Bool) (ahead : Slot → Slot → Bool) (order : Order ah
   choice-skip k c f (inr n) =
       let o = n .2 in
       let first =
-      below-suc (λ i. ok (at ss i) ≡ true → ahead (at ss i) (at ss (n .0)) ≡ false) k (o .first) (λ t. absurd (true-not-false (sym t ∙ f))) in
+      below-suc (λ i. ok (at ss i) ≡ true → ahead (at ss i) (at ss (n .0)) ≡ false) k (o .first)
+      (λ t. absurd (true-not-false (sym t ∙ f))) in
       inr (n .0, n .1, record { within = omega arith; passes = o .passes; first = first })
 
   -- the next passes, and is the first to do so or ahead of the one before

@@ -62,7 +62,8 @@ pub missDay-none : (p : Plan) (rs : List Release) → ((t : ℕ) → t ≤ p .ru
 unfolding missDay
 missDay-none p rs h =
     let all =
-    leastFrom-none (λ t. ltb 0 (lateOn p rs t)) 0 (suc (p .run .0)) (λ t a b. le-ltb 0 (lateOn p rs t) (omega (arith, h t (omega arith)))) in
+    leastFrom-none (λ t. ltb 0 (lateOn p rs t)) 0 (suc (p .run .0))
+    (λ t a b. le-ltb 0 (lateOn p rs t) (omega (arith, h t (omega arith)))) in
     omega arith
 
 -- the day of a miss is the only day that is late with none late before it

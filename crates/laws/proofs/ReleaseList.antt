@@ -99,7 +99,8 @@ releaseLawful-is p seen r c h =
     let pn = and-left (P && N) D pnd in
     let place : 1 ≤ r .place = inBounds-low 1 (r .place) (p .n) (and-left P N pn) in
     let needLow : 1 ≤ r .need .0 = inBounds-low 1 (r .need .0) (stringAt p (r .place) .c .0) (and-right P N pn) in
-    let needHigh : r .need .0 ≤ stringAt p (r .place) .c .0 = inBounds-high 1 (r .need .0) (stringAt p (r .place) .c .0) (and-right P N pn) in (
+    let needHigh : r .need .0 ≤ stringAt p (r .place) .c .0 =
+    inBounds-high 1 (r .need .0) (stringAt p (r .place) .c .0) (and-right P N pn) in (
       record {
         placePos = place;
         placeMax = inBounds-high 1 (r .place) (p .n) (and-left P N pn);
@@ -192,7 +193,8 @@ module _ (p : Plan) (rs : List Release) (lawful : firstUnlawful p rs ≡ 0) wher
         | no after ↦
             elim (ℕ-discrete (a .0) (b .0)) [
               | yes same ↦
-                  let day-same : getD rs (a .0) noRelease .day .0 ≡ getD rs (b .0) noRelease .day .0 = ap (λ m. getD rs m noRelease .day .0) same in
+                  let day-same : getD rs (a .0) noRelease .day .0 ≡ getD rs (b .0) noRelease .day .0 =
+                  ap (λ m. getD rs m noRelease .day .0) same in
                   absurd (omega (arith, a .3, b .3))
               | no other ↦
                   let back = spaced-keeps p [] rs list-spaced (b .0) (a .0) (omega arith) (a .1) .0 in

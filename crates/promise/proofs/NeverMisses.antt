@@ -33,7 +33,7 @@ use Rattle.laws.proofs.Answers.{run-refused}
 use Rattle.laws.proofs.Releases.{runCheck-lawful}
 use Rattle.horizon.proofs.Verdict.{pass-passes}
 use Rattle.sound.specs.Served.{worksFor, movesFor, paid}
-use Rattle.sound.proofs.Answers.{never-misses}
+use Rattle.sound.proofs.CleanAnswer.{never-misses}
 use Rattle.sound.proofs.Served.{served}
 use Rattle.promise.proofs.ReadLawful.{read-lawful}
 

@@ -102,7 +102,8 @@ module _ (p : Plan) (rs : List Release) where
         within = omega arith;
         passed =
             λ i h.
-            elim (ℕ-discrete i next) [ yes same ↦ rw same (omega (arith, ap (λ q. q .day .0) read)) | no before ↦ j .passed i (omega arith) ];
+            elim (ℕ-discrete i next)
+            [ yes same ↦ rw same (omega (arith, ap (λ q. q .day .0) read)) | no before ↦ j .passed i (omega arith) ];
         coming = λ i h l. j .coming i (omega arith) l;
         quiet = λ h. absurd (omega (arith, j .since));
       }

@@ -183,5 +183,6 @@ unfolding payer
 taken-quiet p t ss old =
     let nobody : payer t ss ≡ 0 =
     chosen-nobody (mayTake t (slotAt ss (holder ss) .deadline .0)) dueBefore ss
-    (λ i. old-no-taker t (slotAt ss (holder ss) .deadline .0) (getD ss i noSlot) (all-getD (Old t) ss i noSlot old (inr refl))) (length ss) in
+    (λ i. old-no-taker t (slotAt ss (holder ss) .deadline .0) (getD ss i noSlot) (all-getD (Old t) ss i noSlot old (inr refl)))
+    (length ss) in
     elim (ℕ-discrete (holder ss) 0) [ yes free ↦ taken-free p t ss free | no held ↦ taken-kept p t ss held nobody ]

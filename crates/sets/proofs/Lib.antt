@@ -1,4 +1,4 @@
 -- The search finds the passing set with the fewest ones, in the order in which the steps build on each other.
 pub mod SetOrder
-pub mod Walk
+pub mod SetWalk
 pub mod Search

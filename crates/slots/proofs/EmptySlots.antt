@@ -25,4 +25,5 @@ filled-more i strings slots room so-far j h =
 pub filled-all : (strings : List BatteryString) (slots : List Slot) → length slots ≡ length strings → FilledTo (length slots) strings slots
     → slots ≡ map emptySlot strings
 filled-all strings slots same full =
-    ext-getD noSlot slots (map emptySlot strings) (same ∙ sym (length-map strings emptySlot)) (λ j h. full j h ∙ sym (List·getD-map emptySlot strings j noString))
+    ext-getD noSlot slots (map emptySlot strings) (same ∙ sym (length-map strings emptySlot))
+    (λ j h. full j h ∙ sym (List·getD-map emptySlot strings j noString))

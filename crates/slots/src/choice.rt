@@ -1,7 +1,7 @@
 // The place of the slot that answers a question.
 use super::Question;
-use super::asked::is_ahead;
-use super::asked::passes;
+use super::passing::is_ahead;
+use super::passing::passes;
 use rules::Slot;
 ghost use mathlib.Core.Path.{_≡_};
 ghost use Prim.Native.Nat.{min};

@@ -2,7 +2,7 @@
 // Nothing is asked of a caller: each function answers for all inputs. Of the ten slots of an array the first n count.
 mod choice; // choice.rt: the place that answers a question
 mod job; // job.rt: a job alone
-mod asked; // asked.rt: a slot under a question
+mod passing; // passing.rt: a slot under a question
 mod start; // start.rt: the slots before any release
 
 pub use choice::chosen_place;

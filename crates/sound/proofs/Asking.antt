@@ -54,7 +54,8 @@ module _ (p : Plan) (rs : List Release) (t payer j : ℕ) (s k : Slot) where
   waits-today sat (new m h place day empty is) w today =
       let r = getD rs m noRelease in
       let due : k .deadline .0 ≡ r .day .0 + str p j .d .0 =
-      ap (λ x. x .deadline .0) is ∙ ap (λ x. x .0) (newSlot-deadline p r (suc m)) ∙ ap (λ x. r .day .0 + x .d .0) (release-string p rs j m place) in
+      ap (λ x. x .deadline .0) is ∙ ap (λ x. x .0) (newSlot-deadline p r (suc m)) ∙ ap (λ x. r .day .0 + x .d .0)
+      (release-string p rs j m place) in
       ((m, h, place, day), omega arith)
   waits-today (inl e) (same none (inl is)) w today = absurd (empty-not-waits (k .job) (ap (λ x. x .job) is ∙ e) w)
   waits-today (inl e) (same none (inr is)) w today = absurd (empty-not-waits (k .job) (ap (λ x. x .job) is ∙ ap stopped e) w)

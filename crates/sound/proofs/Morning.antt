@@ -99,7 +99,8 @@ module _ (p : Plan) (rs : List Release) (lawful : LawfulPlan p) (listed : firstU
                   (subst (λ i. at ks i ≡ chargedSlot p (at js i)) (sym payer-here) (k .pays))
                   (arrival p rs lawful listed t ss o punctual j a)
               | no apart ↦
-                  unpaid payer j (at ks j) (λ e. apart (omega arith)) (k .rest j other apart) (arrival p rs lawful listed t ss o punctual j a)
+                  unpaid payer j (at ks j) (λ e. apart (omega arith)) (k .rest j other apart)
+                  (arrival p rs lawful listed t ss o punctual j a)
             ]
       ]
 
@@ -119,7 +120,8 @@ module _ (p : Plan) (rs : List Release) (lawful : LawfulPlan p) (listed : firstU
       elim (decLe (at ks h .deadline .0) (at ks j .deadline .0)) [
         | yes fine ↦ fine
         | no late ↦
-            let holder-due : at ks h .deadline .0 ≡ at js g .deadline .0 = ap (λ xs. at xs h .deadline .0) is ∙ ap (λ i. at js i .deadline .0) keeps in
+            let holder-due : at ks h .deadline .0 ≡ at js g .deadline .0 =
+            ap (λ xs. at xs h .deadline .0) is ∙ ap (λ i. at js i .deadline .0) keeps in
             let taker : Taker t (at js g) (at js j) =
             record {
               waiting = sym (ap (λ xs. waits (at xs j .job)) is) ∙ w;
@@ -127,7 +129,8 @@ module _ (p : Plan) (rs : List Release) (lawful : LawfulPlan p) (listed : firstU
               allowed = sym (ap (λ xs. at xs j .string .x) is) ∙ may;
               sooner = omega (arith, ap (λ xs. at xs j .deadline .0) is);
             } in
-            absurd (true-not-false (sym (taker-mayTake t (at js g) (at js j) taker) ∙ none j (omega (arith, joined-length p rs t ss, o .size))))
+            absurd (true-not-false
+            (sym (taker-mayTake t (at js g) (at js j) taker) ∙ none j (omega (arith, joined-length p rs t ss, o .size))))
       ]
   fair-by ks payer (bankTaken g q k sized pays) h a on j b w today may =
       absurd

@@ -33,7 +33,8 @@ pub data Progress (rs : List Release) (m j owed t works moves : ℕ) (s : Slot) 
   past : getD rs m noRelease .day .0 < t → s .serves ≢ suc m → works ≡ getD rs m noRelease .need .0 → moves ≡ owed
       → Progress rs m j owed t works moves s
 
-module _ (p : Plan) (rs : List Release) (listed : firstUnlawful p rs ≡ 0) (m j : ℕ) (h : m < length rs) (place : getD rs m noRelease .place ≡ suc j)
+module _ (p : Plan) (rs : List Release) (listed : firstUnlawful p rs ≡ 0) (m j : ℕ) (h : m < length rs)
+    (place : getD rs m noRelease .place ≡ suc j)
     (pos : 1 ≤ str p j .t .0) (owed t works moves payer : ℕ) where
   -- ---- The morning: the progress is as of the next day, but for the day's use
 
@@ -64,7 +65,8 @@ module _ (p : Plan) (rs : List Release) (listed : firstUnlawful p rs ≡ 0) (m j
       → movingOf (k .job) ≡ movingOf (s .job)
       → Progress rs m j owed t works moves s → Progress rs m j owed (suc t) works moves k
   kept-slot s k other serves-same work-same moving-same (toCome before w v) = toCome (omega arith) w v
-  kept-slot s k other serves-same work-same moving-same (serving before named w v) = serving (omega arith) (serves-same ∙ named) (omega arith) (omega arith)
+  kept-slot s k other serves-same work-same moving-same (serving before named w v) =
+      serving (omega arith) (serves-same ∙ named) (omega arith) (omega arith)
   kept-slot s k other serves-same work-same moving-same (past before named w v) = past (omega arith) (λ e. named (sym serves-same ∙ e)) w v
 
   pub morning-progress : (s k : Slot) → (getD rs m noRelease .day .0 ≡ t → fee p payer j ≡ owed) → Morning p rs t payer j s k
@@ -73,7 +75,8 @@ module _ (p : Plan) (rs : List Release) (listed : firstUnlawful p rs ≡ 0) (m j
       elim (ℕ-discrete i m) [
         | yes this ↦
             this-new s k (sym (ap (λ n. getD rs n noRelease .day .0) this) ∙ day) owes
-            (is ∙ ap (λ n. putJob (newSlot p (getD rs n noRelease) (suc n)) (Waiting (getD rs n noRelease .need) (days (fee p payer j)))) this)
+            (is ∙ ap (λ n. putJob (newSlot p (getD rs n noRelease) (suc n))
+            (Waiting (getD rs n noRelease .need) (days (fee p payer j)))) this)
             so-far
         | no other ↦
             other-new i s k a there day other empty (ap (λ x. x .serves) is ∙ newSlot-serves p (getD rs i noRelease) (suc i)) so-far

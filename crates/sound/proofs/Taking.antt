@@ -65,7 +65,8 @@ pub record Took (p : Plan) (t : ℕ) (ss ks : List Slot) (h q : ℕ) : Type 0 wh
 -- ss are the slots before, ks those after; payer is the place of the payer
 pub data Taking (p : Plan) (t : ℕ) (ss ks : List Slot) (payer : ℕ) : Type 0 where
   bankFree : Nobody (λ s. onBank (s .job)) ss (length ss) → ks ≡ ss → payer ≡ 0 → Taking p t ss ks payer
-  bankKept : (h : ℕ) → h < length ss → onBank (at ss h .job) ≡ true → Nobody (mayTake t (at ss h .deadline .0)) ss (length ss) → ks ≡ ss → payer ≡ 0
+  bankKept : (h : ℕ) → h < length ss → onBank (at ss h .job) ≡ true → Nobody (mayTake t (at ss h .deadline .0)) ss (length ss) → ks ≡ ss
+      → payer ≡ 0
       → Taking p t ss ks payer
   bankTaken : (h q : ℕ) → Took p t ss ks h q → length ks ≡ length ss → payer ≡ suc q → Taking p t ss ks payer
 
@@ -122,7 +123,9 @@ module _ (p : Plan) (t : ℕ) (ss : List Slot) where
               ap (λ ks. at ks q) shape
               ∙ change-same (pay p) (stop ss (suc h)) q (omega (arith, change-length (λ s. stopped (s .job)) ss h))
               ∙ ap (chargedSlot p) (change-other (λ s. stopped (s .job)) ss h q apart);
-          rest = λ i a b. ap (λ ks. at ks i) shape ∙ change-other (pay p) (stop ss (suc h)) q i b ∙ change-other (λ s. stopped (s .job)) ss h i a;
+          rest =
+              λ i a b. ap (λ ks. at ks i) shape ∙ change-other (pay p) (stop ss (suc h)) q i b ∙ change-other
+              (λ s. stopped (s .job)) ss h i a;
         }
 
     took-taking : (q : ℕ) → payer t ss ≡ suc q → One (mayTake t (slotAt ss (holder ss) .deadline .0)) dueBefore ss (length ss) q

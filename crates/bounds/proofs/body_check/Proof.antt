@@ -34,7 +34,8 @@ returns c =
     let p = start .args .p in
     c .refused .ensures
     ∙ sym
-    (then-lawful (stringsCheck 1 (stringsOf p)) (multipleCheck p) (sym (told .before .before .strings-check .ensures) ∙ told .enum-told .given .1)
+    (then-lawful (stringsCheck 1 (stringsOf p)) (multipleCheck p)
+    (sym (told .before .before .strings-check .ensures) ∙ told .enum-told .given .1)
     ∙ multipleCheck-bad p (omega (arith, c .before .before .multiple .ensures)))
 
 returns-2 : tie.Need-returns-2
@@ -43,7 +44,8 @@ returns-2 c =
     let told = c .before .before in
     let p = start .args .p in
     sym
-    (then-lawful (stringsCheck 1 (stringsOf p)) (multipleCheck p) (sym (told .before .before .strings-check .ensures) ∙ told .enum-told .given .1)
+    (then-lawful (stringsCheck 1 (stringsOf p)) (multipleCheck p)
+    (sym (told .before .before .strings-check .ensures) ∙ told .enum-told .given .1)
     ∙ multipleCheck-good p (omega (arith, c .before .multiple .ensures)))
 
 returns-3 : tie.Need-returns-3

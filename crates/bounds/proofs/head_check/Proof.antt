@@ -20,7 +20,8 @@ n-bad p r e out = e ∙ sym (ap (λ v. then v (numbersCheck p)) (countCheck-bad 
 n-good : (p : Plan) → 1 ≤ p .n → p .n ≤ 10 → then (countCheck p) (numbersCheck p) ≡ numbersCheck p
 n-good p h k = ap (λ v. then v (numbersCheck p)) (countCheck-good p h k)
 
-numbers-bad : (p : Plan) (r : Checked) → r ≡ Refused OutOfBounds 0 → 1 ≤ p .n → p .n ≤ 10 → (p .a .0 ≤ 1000 → 1 ≤ p .run .0 → p .run .0 ≤ 1000000 → ⊥) → r ≡ then (countCheck p) (numbersCheck p)
+numbers-bad : (p : Plan) (r : Checked) → r ≡ Refused OutOfBounds 0 → 1 ≤ p .n → p .n ≤ 10
+    → (p .a .0 ≤ 1000 → 1 ≤ p .run .0 → p .run .0 ≤ 1000000 → ⊥) → r ≡ then (countCheck p) (numbersCheck p)
 numbers-bad p r e h k out = e ∙ sym (n-good p h k ∙ numbersCheck-bad p out)
 
 refused-requires : tie.Need-refused-requires

@@ -28,7 +28,8 @@ set-refuses p m h k =
     ∙ then-lawful (then (countCheck p) (numbersCheck p)) _ h
     ∙ rw (le-leb (2 ^ p .n) m k)
 
-set-fits : (p : Plan) (m : ℕ) → then (countCheck p) (numbersCheck p) ≡ Lawful → m < 2 ^ p .n → setCheck p m ≡ then (stringsCheck 1 (stringsOf p)) (multipleCheck p)
+set-fits : (p : Plan) (m : ℕ) → then (countCheck p) (numbersCheck p) ≡ Lawful → m < 2 ^ p .n
+    → setCheck p m ≡ then (stringsCheck 1 (stringsOf p)) (multipleCheck p)
 unfolding setCheck
 set-fits p m h k =
     sym (then-assoc (countCheck p) (numbersCheck p) _)
@@ -42,7 +43,8 @@ enum-told : tie.Need-enum-told
 enum-told c = search needs
 
 -- what the head said
-lawful : (c : tie.After-enum-told) → then (countCheck (c .before .before .before .args .p)) (numbersCheck (c .before .before .before .args .p)) ≡ Lawful
+lawful : (c : tie.After-enum-told)
+    → then (countCheck (c .before .before .before .args .p)) (numbersCheck (c .before .before .before .args .p)) ≡ Lawful
 lawful c = sym (c .before .before .head-check .ensures) ∙ c .enum-told .given .1
 
 few : (c : tie.After-enum-told) → c .before .before .before .args .p .n ≤ 10

@@ -34,7 +34,8 @@ abbrev μ-loop2 : tie.MeasureT-loop2
 μ-loop2 p n end count list slots₀ tally next₀ today late first slots next = count - next
 
 abbrev Inv-loop : tie.InvT-loop
-Inv-loop p n end count list slots₀ tally₀ next₀ today₀ slots tally next today = (today .0 ≤ p .run .0) × Standing p (take count list) (today .0) slots next tally
+Inv-loop p n end count list slots₀ tally₀ next₀ today₀ slots tally next today =
+    (today .0 ≤ p .run .0) × Standing p (take count list) (today .0) slots next tally
 
 abbrev μ-loop : tie.MeasureT-loop
 μ-loop p n end count list slots₀ tally₀ next₀ today₀ slots tally next today = p .run .0 - today .0
@@ -107,7 +108,8 @@ late-is : (c : tie.After-chosen-place Inv-loop2 μ-loop2 Inv-loop μ-loop)
     → c .chosen-place .result ≡ lateOn (planOf (today c)) (listOf (today c)) (today c .loop .today .0)
 late-is c =
     let o = today c in
-    c .chosen-place .ensures ∙ late-asked _ _ ∙ standing-late (planOf o) (listOf o) (o .loop .today .0) (o .loop .slots) (o .loop .next) (o .loop .tally) (o .loop .inv .1)
+    c .chosen-place .ensures ∙ late-asked _ _ ∙ standing-late (planOf o) (listOf o) (o .loop .today .0) (o .loop .slots) (o .loop .next)
+    (o .loop .tally) (o .loop .inv .1)
 
 -- the run ends today
 missed-on : (o : tie.At-loop Inv-loop2 μ-loop2 Inv-loop μ-loop) → (lateOn (planOf o) (listOf o) (o .loop .today .0) ≡ 0 → ⊥)
@@ -155,24 +157,30 @@ loop2-again c =
     let g = s .args in
     let place = listed s (i .loop2 .next) (omega arith) in
     rw (c .join .ensures)
-    (joining-more (planOf o) (listOf o) (o .loop .today .0) (o .loop .next) (i .loop2 .slots) (i .loop2 .next) (getD (g .rs .list) (i .loop2 .next) noRelease)
-    (sym (read-is s (i .loop2 .next) (omega arith))) (place .placePos) (place .placeMax) (omega (arith, whole s)) (c .before .if3 .left) (i .loop2 .inv))
+    (joining-more (planOf o) (listOf o) (o .loop .today .0) (o .loop .next) (i .loop2 .slots) (i .loop2 .next)
+    (getD (g .rs .list) (i .loop2 .next) noRelease)
+    (sym (read-is s (i .loop2 .next) (omega arith))) (place .placePos) (place .placeMax) (omega (arith, whole s)) (c .before .if3 .left)
+    (i .loop2 .inv))
 
 -- the day in whose step 2 the code is
 abbrev morning : tie.Left-loop2 Inv-loop2 μ-loop2 Inv-loop μ-loop → tie.At-loop Inv-loop2 μ-loop2 Inv-loop μ-loop
 morning c = today (c .before .before .before)
 
 joined-at : (c : tie.Left-loop2 Inv-loop2 μ-loop2 Inv-loop μ-loop)
-    → Joined (planOf (morning c)) (listOf (morning c)) (morning c .loop .today .0) (morning c .loop .next) (c .before .loop2 .slots) (c .before .loop2 .next)
+    → Joined (planOf (morning c)) (listOf (morning c)) (morning c .loop .today .0) (morning c .loop .next) (c .before .loop2 .slots)
+    (c .before .loop2 .next)
 joined-at c =
     let i = c .before in
     let o = morning c in
     let s = start o in
     ⊎-elim
-    (λ w. joined-last (planOf o) (listOf o) (o .loop .today .0) (o .loop .next) (i .loop2 .slots) (i .loop2 .next) (omega (arith, whole s, w .left)) (i .loop2 .inv))
+    (λ w. joined-last (planOf o) (listOf o) (o .loop .today .0) (o .loop .next) (i .loop2 .slots) (i .loop2 .next)
+    (omega (arith, whole s, w .left)) (i .loop2 .inv))
     (λ w.
-    joined-before (planOf o) (listOf o) (o .loop .today .0) (o .loop .next) (i .loop2 .slots) (i .loop2 .next) (listed-sorted (planOf o) (listOf o) (s .pre .none-bad))
-    (omega (arith, whole s, w .0 .taken)) (λ e. w .4 .taken (ap (λ q. q .day .0) (sym (read-is s (i .loop2 .next) (w .0 .taken))) ∙ e)) (i .loop2 .inv))
+    joined-before (planOf o) (listOf o) (o .loop .today .0) (o .loop .next) (i .loop2 .slots) (i .loop2 .next)
+    (listed-sorted (planOf o) (listOf o) (s .pre .none-bad))
+    (omega (arith, whole s, w .0 .taken)) (λ e. w .4 .taken (ap (λ q. q .day .0) (sym (read-is s (i .loop2 .next) (w .0 .taken))) ∙ e))
+    (i .loop2 .inv))
     (c .loop2-test .came)
 
 -- ---- Steps 3 to 5
@@ -183,7 +191,8 @@ rest-of-day-requires c κs =
     let o = morning c in
     let s = start o in
     let j = joined-at c in (
-      rw (j .state) (joined-affords (planOf o) (listOf o) (s .pre .plan) (o .loop .today .0) (omega (arith, s .pre .plan .runMax, o .loop .inv .0))),
+      rw (j .state) (joined-affords (planOf o) (listOf o) (s .pre .plan) (o .loop .today .0)
+          (omega (arith, s .pre .plan .runMax, o .loop .inv .0))),
       λ e. joined-quiet (planOf o) (listOf o) (o .loop .today .0) (o .loop .next) (i .loop2 .slots) (i .loop2 .next) j (ltb-false _ _ e),
     )
 
@@ -191,7 +200,8 @@ counted-requires : tie.Need-counted-requires Inv-loop2 μ-loop2 Inv-loop μ-loop
 counted-requires c κs =
     let o = morning (c .before .before) in
     let s = start o in
-    rw (o .loop .inv .1 .count) (tallyOf-under (planOf o) (listOf o) (o .loop .today .0) 1000000 (omega (arith, s .pre .plan .runMax, o .loop .inv .0)))
+    rw (o .loop .inv .1 .count)
+    (tallyOf-under (planOf o) (listOf o) (o .loop .today .0) 1000000 (omega (arith, s .pre .plan .runMax, o .loop .inv .0)))
 
 day-after-requires-2 : tie.Need-day-after-requires-2 Inv-loop2 μ-loop2 Inv-loop μ-loop
 day-after-requires-2 c κs =
@@ -211,7 +221,8 @@ loop-again c =
     let o = morning l in
     let none = sym (late-is (e .before)) ∙ e .if2 .left in
     let next = standing-next (planOf o) (listOf o) (o .loop .today .0) (o .loop .next) (i .loop2 .slots) (i .loop2 .next) (o .loop .tally)
-    (c .before .before .before .rest-of-day .result) (o .loop .inv .1 .clean) none (o .loop .inv .1 .count) (joined-at l) (c .before .before .before .rest-of-day .ensures) in
+    (c .before .before .before .rest-of-day .result) (o .loop .inv .1 .clean) none (o .loop .inv .1 .count) (joined-at l)
+    (c .before .before .before .rest-of-day .ensures) in
     let moved = c .day-after2 .ensures in
     (omega (arith, running (e .before), ap (λ (d : Day). d .0) moved), rw (c .before .counted .ensures, moved) next)
 

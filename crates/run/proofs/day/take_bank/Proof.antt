@@ -77,7 +77,9 @@ payerOf c = c .before .before .before
 -- the job on the bank is stopped
 freed : (c : tie.After-with-job)
     → c .with-job .result ≡ stop (on (payerOf c) .before .args .t1) (on (payerOf c) .chosen-place .result)
-freed c = c .with-job .ensures ∙ ap (withJob (on (payerOf c) .before .args .t1) (on (payerOf c) .chosen-place .result)) (c .before .stopped-job .ensures)
+freed c =
+    c .with-job .ensures ∙ ap (withJob (on (payerOf c) .before .args .t1) (on (payerOf c) .chosen-place .result))
+    (c .before .stopped-job .ensures)
 
 charge-at-requires : tie.Need-charge-at-requires
 charge-at-requires c κs =

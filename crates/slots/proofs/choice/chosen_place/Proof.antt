@@ -42,12 +42,20 @@ sub-r c = omega arith
 mul-r : tie.Need-mul-r Inv-loop μ-loop
 mul-r c =
     let o = c .before .before .before .before .before in
-    omega (arith, chosen-le (okOf (o .before .before .args .q)) (aheadOf (o .before .before .args .q)) (o .before .before .args .t2) (o .loop .k))
+    omega (
+      arith,
+      chosen-le (okOf (o .before .before .args .q)) (aheadOf (o .before .before .args .q)) (o .before .before .args .t2)
+          (o .loop .k),
+    )
 
 array-copy-out-r : tie.Need-array-copy-out-r Inv-loop μ-loop
 array-copy-out-r c =
     let o = c .before .before .before .before .before in
-    omega (arith, chosen-le (okOf (o .before .before .args .q)) (aheadOf (o .before .before .args .q)) (o .before .before .args .t2) (o .loop .k))
+    omega (
+      arith,
+      chosen-le (okOf (o .before .before .args .q)) (aheadOf (o .before .before .args .q)) (o .before .before .args .t2)
+          (o .loop .k),
+    )
 
 is-ahead-requires : tie.Need-is-ahead-requires Inv-loop μ-loop
 is-ahead-requires c κs = tt
@@ -70,7 +78,8 @@ loop-again c =
     ⊎-elim
     (λ w.
     w .2 ∙ add-one _
-    ∙ sym (chosen-first (okOf (g .q)) (aheadOf (g .q)) (g .t2) (o .loop .k) (sym (c .before .passes .ensures) ∙ w .0 .taken) (sym was ∙ w .1 .taken)))
+    ∙ sym (chosen-first (okOf (g .q)) (aheadOf (g .q)) (g .t2) (o .loop .k) (sym (c .before .passes .ensures) ∙ w .0 .taken)
+    (sym was ∙ w .1 .taken)))
     (⊎-elim
     (λ w.
     w .5 ∙ add-one _
@@ -79,8 +88,10 @@ loop-again c =
     (⊎-elim
     (λ w.
     w .5 ∙ was
-    ∙ sym (chosen-behind (okOf (g .q)) (aheadOf (g .q)) (g .t2) (o .loop .k) (λ z. w .1 .left (was ∙ z)) (rw (← was) (sym (w .3 .ensures) ∙ w .4 .left))))
-    (λ w. w .1 ∙ was ∙ sym (chosen-not (okOf (g .q)) (aheadOf (g .q)) (g .t2) (o .loop .k) (sym (c .before .passes .ensures) ∙ w .0 .left)))))
+    ∙ sym (chosen-behind (okOf (g .q)) (aheadOf (g .q)) (g .t2) (o .loop .k) (λ z. w .1 .left (was ∙ z))
+    (rw (← was) (sym (w .3 .ensures) ∙ w .4 .left))))
+    (λ w. w .1 ∙ was ∙ sym
+    (chosen-not (okOf (g .q)) (aheadOf (g .q)) (g .t2) (o .loop .k) (sym (c .before .passes .ensures) ∙ w .0 .left)))))
     (c .if1 .came) in
     (omega arith, o .loop .inv .1, rw add-one next)
 
@@ -91,7 +102,8 @@ returns c =
     let a = o .before .before .args in
     let ten : length (a .t2) ≡ 10 = o .before .before .good .1 .0 .1 .0 .1 in
     let all : o .loop .k ≡ length (take (a .n) (a .t2)) = omega (arith, o .before .counted .ensures, length-take (a .n) (a .t2)) in
-    o .loop .inv .2 ∙ ap (chosen (okOf (a .q)) (aheadOf (a .q)) (a .t2)) all ∙ sym (chosen-all (okOf (a .q)) (aheadOf (a .q)) (a .t2) (a .n))
+    o .loop .inv .2 ∙ ap (chosen (okOf (a .q)) (aheadOf (a .q)) (a .t2)) all ∙ sym
+    (chosen-all (okOf (a .q)) (aheadOf (a .q)) (a .t2) (a .n))
 
 pub chosen-place-spec : {M : Type 1} → statement M
 chosen-place-spec =

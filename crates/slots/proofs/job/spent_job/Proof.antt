@@ -20,7 +20,8 @@ on-or-gone-requires : tie.Need-on-or-gone-requires
 on-or-gone-requires c κs = search needs
 
 returns : tie.Need-returns
-returns c = rw (c .before .before .before .before .before .job2 .given .1, lt-ltb _ _ (c .before .before .if1 .taken)) (c .on-or-gone .ensures)
+returns c =
+    rw (c .before .before .before .before .before .job2 .given .1, lt-ltb _ _ (c .before .before .if1 .taken)) (c .on-or-gone .ensures)
 
 day-less-requires : tie.Need-day-less-requires
 day-less-requires c κs = search needs

@@ -1,7 +1,7 @@
--- `slots::asked::passes` meets its contract: in each arm the question is the one that the arm names.
+-- `slots::passing::passes` meets its contract: in each arm the question is the one that the arm names.
 use borrow.Author.Needs.{needs}
-use Rattle.slots.proofs.asked.passes.Statement.{statement}
-use Rattle.slots.proofs.asked.passes.Tie as tie
+use Rattle.slots.proofs.passing.passes.Statement.{statement}
+use Rattle.slots.proofs.passing.passes.Tie as tie
 
 enum-known-q : tie.Need-enum-known-q
 enum-known-q c = search needs

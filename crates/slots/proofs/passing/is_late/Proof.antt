@@ -1,8 +1,8 @@
--- `slots::asked::is_late` meets its contract: the test is the definition's first, what is left its second.
+-- `slots::passing::is_late` meets its contract: the test is the definition's first, what is left its second.
 use borrow.Author.Tests.{eq-eqb, ne-eqb}
 use borrow.Author.Needs.{needs}
-use Rattle.slots.proofs.asked.is_late.Statement.{statement}
-use Rattle.slots.proofs.asked.is_late.Tie as tie
+use Rattle.slots.proofs.passing.is_late.Statement.{statement}
+use Rattle.slots.proofs.passing.is_late.Tie as tie
 
 unfinished-requires : tie.Need-unfinished-requires
 unfinished-requires c κs = search needs

@@ -1,9 +1,9 @@
--- `slots::asked::may_take` meets its contract: the tests are the definition's, in its order.
+-- `slots::passing::may_take` meets its contract: the tests are the definition's, in its order.
 use mathlib.Core.Path.{sym, _∙_}
 use borrow.Author.Tests.{eq-eqb, ne-eqb, not-true, not-false}
 use borrow.Author.Needs.{needs}
-use Rattle.slots.proofs.asked.may_take.Statement.{statement}
-use Rattle.slots.proofs.asked.may_take.Tie as tie
+use Rattle.slots.proofs.passing.may_take.Statement.{statement}
+use Rattle.slots.proofs.passing.may_take.Tie as tie
 
 is-waiting-requires : tie.Need-is-waiting-requires
 is-waiting-requires c κs = search needs
@@ -12,11 +12,17 @@ returns : tie.Need-returns
 returns c = rw (sym (c .before .is-waiting .ensures) ∙ not-true _ (c .if1 .taken))
 
 returns-2 : tie.Need-returns-2
-returns-2 c = rw (sym (c .before .before .before .before .is-waiting .ensures) ∙ not-false _ (c .before .before .before .if1 .left), ne-eqb _ _ (c .if2 .taken))
+returns-2 c =
+    rw (
+      sym (c .before .before .before .before .is-waiting .ensures) ∙ not-false _ (c .before .before .before .if1 .left),
+      ne-eqb _ _
+          (c .if2 .taken),
+    )
 
 returns-3 : tie.Need-returns-3
 returns-3 c = rw (
-  sym (c .before .before .before .before .before .before .is-waiting .ensures) ∙ not-false _ (c .before .before .before .before .before .if1 .left),
+  sym (c .before .before .before .before .before .before .is-waiting .ensures) ∙ not-false _
+      (c .before .before .before .before .before .if1 .left),
   eq-eqb _ _ (c .before .before .if2 .left),
   ne-eqb _ _ (c .if3 .taken),
 )
@@ -26,7 +32,8 @@ before-requires c κs = search needs
 
 returns-4 : tie.Need-returns-4
 returns-4 c = rw (
-  sym (c .before .before .before .before .before .before .before .is-waiting .ensures) ∙ not-false _ (c .before .before .before .before .before .before .if1 .left),
+  sym (c .before .before .before .before .before .before .before .is-waiting .ensures) ∙ not-false _
+      (c .before .before .before .before .before .before .if1 .left),
   eq-eqb _ _ (c .before .before .before .if2 .left),
   eq-eqb _ _ (c .before .if3 .left),
 )

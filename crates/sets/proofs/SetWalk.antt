@@ -92,12 +92,14 @@ module _ (p : Plan) (n k m : ℕ) where
       (ms : List ℕ) → m < 2 ^ n → ones m ≡ k → setPasses p m ≡ false
       → firstPassing p (setsFrom n k m ++ ms) ≡ firstPassing p (setsFrom n k (m + 1) ++ ms)
   walk-fails ms h e fails =
-      ap (λ row. firstPassing p (row ++ ms)) (setsFrom-set n k m h e) ∙ ap assigned (firstOf-later (setPasses p) m (setsFrom n k (m + 1) ++ ms) fails)
+      ap (λ row. firstPassing p (row ++ ms)) (setsFrom-set n k m h e) ∙ ap assigned
+      (firstOf-later (setPasses p) m (setsFrom n k (m + 1) ++ ms) fails)
 
   pub walk-found :
       (ms : List ℕ) → m < 2 ^ n → ones m ≡ k → setPasses p m ≡ true → firstPassing p (setsFrom n k m ++ ms) ≡ Takers m
   walk-found ms h e passes =
-      ap (λ row. firstPassing p (row ++ ms)) (setsFrom-set n k m h e) ∙ ap assigned (firstOf-here (setPasses p) m (setsFrom n k (m + 1) ++ ms) passes)
+      ap (λ row. firstPassing p (row ++ ms)) (setsFrom-set n k m h e) ∙ ap assigned
+      (firstOf-here (setPasses p) m (setsFrom n k (m + 1) ++ ms) passes)
 
   pub walk-row-end : (ms : List ℕ) → 2 ^ n ≤ m → firstPassing p (setsFrom n k m ++ ms) ≡ firstPassing p ms
   walk-row-end ms h = ap (λ row. firstPassing p (row ++ ms)) (setsFrom-end n k m h)

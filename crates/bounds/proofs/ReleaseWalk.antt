@@ -28,7 +28,8 @@ pub record Walk (p : Plan) (rs : List Release) (end : ℕ) (last : List Last) (l
   pub same : unlawfulFrom p (seenTo rs i) (i + 1) (drop i (take end rs)) ≡ firstUnlawful p (take end rs)
 
 module _ (p : Plan) (rs : List Release) (end : ℕ) where
-  pub walk-start : (last : List Last) → end ≤ 1000 → length rs ≡ 1000 → length (p .strings) ≡ 10 → length last ≡ 10 → ((k : ℕ) → getD last k Never ≡ Never) → Walk p rs end last (day 0) 0
+  pub walk-start : (last : List Last) → end ≤ 1000 → length rs ≡ 1000 → length (p .strings) ≡ 10 → length last ≡ 10
+      → ((k : ℕ) → getD last k Never ≡ Never) → Walk p rs end last (day 0) 0
   unfolding firstUnlawful latestOf lastOf
   walk-start last few thousand ten places none =
       record {
@@ -46,12 +47,14 @@ module _ (p : Plan) (rs : List Release) (end : ℕ) where
     here : Release
     here = getD rs i noRelease
 
-    pub walk-admits : admits p latest (rememberedOf last (getD rs i noRelease .place)) (getD rs i noRelease) ≡ releaseLawful p (seenTo rs i) (getD rs i noRelease)
+    pub walk-admits : admits p latest (rememberedOf last (getD rs i noRelease .place)) (getD rs i noRelease)
+        ≡ releaseLawful p (seenTo rs i) (getD rs i noRelease)
     walk-admits =
         ap (λ v. admits p v (rememberedOf last (getD rs i noRelease .place)) (getD rs i noRelease)) (w .order)
         ∙ admits-remembered p (seenTo rs i) last (getD rs i noRelease) (w .ten) (w .kept)
 
-    pub walk-bad : i < end → admits p latest (rememberedOf last (getD rs i noRelease .place)) (getD rs i noRelease) ≡ false → i + 1 ≡ firstUnlawful p (take end rs)
+    pub walk-bad : i < end → admits p latest (rememberedOf last (getD rs i noRelease .place)) (getD rs i noRelease) ≡ false
+        → i + 1 ≡ firstUnlawful p (take end rs)
     walk-bad inside e =
         sym (unlawfulFrom-bad p rs end i inside (omega arith) (i + 1) (sym walk-admits ∙ e)) ∙ w .same
 
@@ -59,10 +62,12 @@ module _ (p : Plan) (rs : List Release) (end : ℕ) where
     walk-end h = sym (unlawfulFrom-end p rs end i (i + 1) h) ∙ w .same
 
     -- an admitted release has one of the ten places
-    pub walk-low : admits p latest (rememberedOf last (getD rs i noRelease .place)) (getD rs i noRelease) ≡ true → 1 ≤ getD rs i noRelease .place
+    pub walk-low : admits p latest (rememberedOf last (getD rs i noRelease .place)) (getD rs i noRelease) ≡ true
+        → 1 ≤ getD rs i noRelease .place
     walk-low t = admits-facts p latest _ (getD rs i noRelease) t .placeLow
 
-    pub walk-high : admits p latest (rememberedOf last (getD rs i noRelease .place)) (getD rs i noRelease) ≡ true → getD rs i noRelease .place ≤ 10
+    pub walk-high : admits p latest (rememberedOf last (getD rs i noRelease .place)) (getD rs i noRelease) ≡ true
+        → getD rs i noRelease .place ≤ 10
     walk-high t = admitted-few p latest _ (getD rs i noRelease) (w .ten) (admits-facts p latest _ (getD rs i noRelease) t)
 
     pub walk-next : i < end → admits p latest (rememberedOf last (getD rs i noRelease .place)) (getD rs i noRelease) ≡ true

@@ -1,7 +1,7 @@
--- `slots::asked::is_ahead` meets its contract: in each arm the question is the one that the arm names.
+-- `slots::passing::is_ahead` meets its contract: in each arm the question is the one that the arm names.
 use borrow.Author.Needs.{needs}
-use Rattle.slots.proofs.asked.is_ahead.Statement.{statement}
-use Rattle.slots.proofs.asked.is_ahead.Tie as tie
+use Rattle.slots.proofs.passing.is_ahead.Statement.{statement}
+use Rattle.slots.proofs.passing.is_ahead.Tie as tie
 
 enum-told : tie.Need-enum-told
 enum-told c = search needs
