@@ -27,11 +27,11 @@ pub record Walk (p : Plan) (rs : List Release) (end : ℕ) (last : List Last) (l
   pub kept : (k : ℕ) → k < 10 → getD last k Never ≡ lastOf (k + 1) (seenTo rs i)
   pub same : unlawfulFrom p (seenTo rs i) (i + 1) (drop i (take end rs)) ≡ firstUnlawful p (take end rs)
 
-module _ (p : Plan) (rs : List Release) (end : ℕ) where
-  pub walk-start : (last : List Last) → end ≤ 1000 → length rs ≡ 1000 → length (p .strings) ≡ 10 → length last ≡ 10
+module _ {p : Plan} {rs : List Release} {end : ℕ} where
+  pub walk-start : {last : List Last} → end ≤ 1000 → length rs ≡ 1000 → length (p .strings) ≡ 10 → length last ≡ 10
       → ((k : ℕ) → getD last k Never ≡ Never) → Walk p rs end last (day 0) 0
   unfolding firstUnlawful latestOf lastOf
-  walk-start last few thousand ten places none =
+  walk-start few thousand ten places none =
       record {
         within = omega arith;
         few = few;
@@ -43,7 +43,7 @@ module _ (p : Plan) (rs : List Release) (end : ℕ) where
         same = rw (seenTo-none rs);
       }
 
-  module _ (last : List Last) (latest : Day) (i : ℕ) (w : Walk p rs end last latest i) where
+  module _ {last : List Last} {latest : Day} {i : ℕ} (w : Walk p rs end last latest i) where
     here : Release
     here = getD rs i noRelease
 

@@ -84,7 +84,7 @@ loop-holds : tie.Need-loop-holds Inv-loop2 μ-loop2 Inv-loop μ-loop
 loop-holds c =
     let g = c .before .before .before .before .args in
     let first = ap (take (g .p .n)) (c .empty-slots .ensures) ∙ take-map emptySlot (g .p .n) (g .p .strings) in
-    (omega arith, standing-start (g .p) (releasesOf (g .rs)) (c .empty-slots .result) _ first refl)
+    (omega arith, standing-start first refl)
 
 before-requires : tie.Need-before-requires Inv-loop2 μ-loop2 Inv-loop μ-loop
 before-requires c κs = tt
@@ -106,10 +106,7 @@ running c =
 
 late-is : (c : tie.After-chosen-place Inv-loop2 μ-loop2 Inv-loop μ-loop)
     → c .chosen-place .result ≡ lateOn (planOf (today c)) (listOf (today c)) (today c .loop .today .0)
-late-is c =
-    let o = today c in
-    c .chosen-place .ensures ∙ late-asked _ _ ∙ standing-late (planOf o) (listOf o) (o .loop .today .0) (o .loop .slots) (o .loop .next)
-    (o .loop .tally) (o .loop .inv .1)
+late-is c = c .chosen-place .ensures ∙ late-asked _ _ ∙ standing-late (today c .loop .inv .1)
 
 -- the run ends today
 missed-on : (o : tie.At-loop Inv-loop2 μ-loop2 Inv-loop μ-loop) → (lateOn (planOf o) (listOf o) (o .loop .today .0) ≡ 0 → ⊥)
@@ -124,9 +121,7 @@ returns c =
     rw late (sym miss)
 
 loop2-holds : tie.Need-loop2-holds Inv-loop2 μ-loop2 Inv-loop μ-loop
-loop2-holds c =
-    let o = today (c .before) in
-    joining-start (planOf o) (listOf o) (o .loop .today .0) (o .loop .slots) (o .loop .next) (o .loop .tally) (o .loop .inv .1)
+loop2-holds c = joining-start (today (c .before) .loop .inv .1)
 
 mul-r : tie.Need-mul-r Inv-loop2 μ-loop2 Inv-loop μ-loop
 mul-r c = omega arith
@@ -154,13 +149,10 @@ loop2-again c =
     let i = c .before .before .before .before .before .before in
     let o = today (i .before .before) in
     let s = start o in
-    let g = s .args in
     let place = listed s (i .loop2 .next) (omega arith) in
     rw (c .join .ensures)
-    (joining-more (planOf o) (listOf o) (o .loop .today .0) (o .loop .next) (i .loop2 .slots) (i .loop2 .next)
-    (getD (g .rs .list) (i .loop2 .next) noRelease)
-    (sym (read-is s (i .loop2 .next) (omega arith))) (place .placePos) (place .placeMax) (omega (arith, whole s)) (c .before .if3 .left)
-    (i .loop2 .inv))
+    (joining-more (getD (s .args .rs .list) (i .loop2 .next) noRelease) (sym (read-is s (i .loop2 .next) (omega arith)))
+    (place .placePos) (place .placeMax) (omega (arith, whole s)) (c .before .if3 .left) (i .loop2 .inv))
 
 -- the day in whose step 2 the code is
 abbrev morning : tie.Left-loop2 Inv-loop2 μ-loop2 Inv-loop μ-loop → tie.At-loop Inv-loop2 μ-loop2 Inv-loop μ-loop
@@ -174,11 +166,9 @@ joined-at c =
     let o = morning c in
     let s = start o in
     ⊎-elim
-    (λ w. joined-last (planOf o) (listOf o) (o .loop .today .0) (o .loop .next) (i .loop2 .slots) (i .loop2 .next)
-    (omega (arith, whole s, w .left)) (i .loop2 .inv))
+    (λ w. joined-last (omega (arith, whole s, w .left)) (i .loop2 .inv))
     (λ w.
-    joined-before (planOf o) (listOf o) (o .loop .today .0) (o .loop .next) (i .loop2 .slots) (i .loop2 .next)
-    (listed-sorted (planOf o) (listOf o) (s .pre .none-bad))
+    joined-before (listed-sorted (planOf o) (listOf o) (s .pre .none-bad))
     (omega (arith, whole s, w .0 .taken)) (λ e. w .4 .taken (ap (λ q. q .day .0) (sym (read-is s (i .loop2 .next) (w .0 .taken))) ∙ e))
     (i .loop2 .inv))
     (c .loop2-test .came)
@@ -187,14 +177,11 @@ joined-at c =
 
 rest-of-day-requires : tie.Need-rest-of-day-requires Inv-loop2 μ-loop2 Inv-loop μ-loop
 rest-of-day-requires c κs =
-    let i = c .before in
     let o = morning c in
     let s = start o in
-    let j = joined-at c in (
-      rw (j .state) (joined-affords (planOf o) (listOf o) (s .pre .plan) (o .loop .today .0)
-          (omega (arith, s .pre .plan .runMax, o .loop .inv .0))),
-      λ e. joined-quiet (planOf o) (listOf o) (o .loop .today .0) (o .loop .next) (i .loop2 .slots) (i .loop2 .next) j (ltb-false _ _ e),
-    )
+    let j = joined-at c in
+    let short : o .loop .today .0 ≤ 1000000 = omega (arith, s .pre .plan .runMax, o .loop .inv .0) in
+    (rw (j .state) (joined-affords (planOf o) (listOf o) (s .pre .plan) (o .loop .today .0) short), λ e. joined-quiet j (ltb-false _ _ e))
 
 counted-requires : tie.Need-counted-requires Inv-loop2 μ-loop2 Inv-loop μ-loop
 counted-requires c κs =
@@ -220,8 +207,7 @@ loop-again c =
     let e = i .before in
     let o = morning l in
     let none = sym (late-is (e .before)) ∙ e .if2 .left in
-    let next = standing-next (planOf o) (listOf o) (o .loop .today .0) (o .loop .next) (i .loop2 .slots) (i .loop2 .next) (o .loop .tally)
-    (c .before .before .before .rest-of-day .result) (o .loop .inv .1 .clean) none (o .loop .inv .1 .count) (joined-at l)
+    let next = standing-next (o .loop .inv .1 .clean) none (o .loop .inv .1 .count) (joined-at l)
     (c .before .before .before .rest-of-day .ensures) in
     let moved = c .day-after2 .ensures in
     (omega (arith, running (e .before), ap (λ (d : Day). d .0) moved), rw (c .before .counted .ensures, moved) next)
@@ -243,7 +229,7 @@ late-is-last c =
     let o = evening c in
     let last = over c in
     c .chosen-place2 .ensures ∙ late-asked _ _ ∙ ap (λ t. lateAt t (take (planOf o .n) (o .loop .slots))) last
-    ∙ standing-late (planOf o) (listOf o) (o .loop .today .0) (o .loop .slots) (o .loop .next) (o .loop .tally) (o .loop .inv .1)
+    ∙ standing-late (o .loop .inv .1)
 
 chosen-place-requires-2 : tie.Need-chosen-place-requires-2 Inv-loop2 μ-loop2 Inv-loop μ-loop
 chosen-place-requires-2 c κs = tt
