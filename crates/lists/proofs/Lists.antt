@@ -76,11 +76,6 @@ module _ {ℓ} {A : Type ℓ} where
   every-all f [] h = tt
   every-all f (x ∷ xs) h = by-bool (f x) (λ t. (t, every-all f xs (rw t at h))) (λ e. absurd (true-not-false (sym h ∙ rw e)))
 
-  pub all-every : (f : A → Bool) (xs : List A) → All (λ x. f x ≡ true) xs → every f xs ≡ true
-  unfolding every
-  all-every f [] h = refl
-  all-every f (x ∷ xs) h = rw (h .0) (all-every f xs (h .1))
-
   -- ---- sumOf
 
   pub sumOf-le : (f g : A → ℕ) (xs : List A) → All (λ x. f x ≤ g x) xs → sumOf f xs ≤ sumOf g xs

@@ -25,7 +25,7 @@ use Rattle.sound.specs.Served.{payerIn}
 use Rattle.laws.proofs.Slots.{at, newSlot-string, newSlot-job, newSlot-own, newSlot-charged}
 use Rattle.laws.proofs.ReleaseList.{str, release-string}
 use Rattle.sound.proofs.Joining.{NoneCame, joined-length}
-use Rattle.sound.proofs.Taking.{Taking, bankFree, bankKept, bankTaken, Taker, taken-taking, chargedSlot, taker-mayTake}
+use Rattle.sound.proofs.Taking.{Taking, bankFree, bankKept, bankTaken, Taker, taken-taking, chargedSlot, mayTake-exactly}
 use Rattle.sound.proofs.Orderly.{Orderly, live-if-waits, took-off}
 use Rattle.sound.proofs.Arriving.{Arrival, arrived, stayed, arrival, joined-orderly}
 
@@ -130,7 +130,7 @@ module _ (p : Plan) (rs : List Release) (lawful : LawfulPlan p) (listed : firstU
               sooner = omega (arith, ap (λ xs. at xs j .deadline .0) is);
             } in
             absurd (true-not-false
-            (sym (taker-mayTake t (at js g) (at js j) taker) ∙ none j (omega (arith, joined-length p rs t ss, o .size))))
+            (sym (mayTake-exactly t (at js g) (at js j) .1 taker) ∙ none j (omega (arith, joined-length p rs t ss, o .size))))
       ]
   fair-by ks payer (bankTaken g q k sized pays) h a on j b w today may =
       absurd

@@ -1,7 +1,7 @@
 -- Step 3 by place: the bank is free, or its holder keeps it since nobody may take it, or the holder is stopped and the payer charged.
 use Prim.Native.Nat.{ℕ, suc, _<_}
 use mathlib.Core.Path.{_≡_, sym, ap, _∙_, subst}
-use mathlib.Core.Logic.{inl, inr, _≢_}
+use mathlib.Core.Logic.{inl, inr, _≢_, _↔_}
 use mathlib.Core.Bool.{true, _&&_}
 use mathlib.Core.List.{List}
 use native.Mathlib.Omega.{arith}
@@ -33,24 +33,23 @@ pub record Taker (t : ℕ) (h s : Slot) : Type 0 where
   pub allowed : s .string .x ≡ 1
   pub sooner : s .deadline .0 < h .deadline .0
 
-pub mayTake-taker : (t : ℕ) (h s : Slot) → mayTake t (h .deadline .0) s ≡ true → Taker t h s
-mayTake-taker t h s e =
-    let W = waits (s .job) in
-    let T = eqb (s .release .0) t in
-    let X = eqb (s .string .x) 1 in
-    let D = ltb (s .deadline .0) (h .deadline .0) in
-    let wtx = and-left (W && T && X) D e in
-    let wt = and-left (W && T) X wtx in
-    record {
-      waiting = and-left W T wt;
-      today = eqb-true _ _ (and-right W T wt);
-      allowed = eqb-true _ _ (and-right (W && T) X wtx);
-      sooner = ltb-true _ _ (and-right (W && T && X) D e);
-    }
-
-pub taker-mayTake : (t : ℕ) (h s : Slot) → Taker t h s → mayTake t (h .deadline .0) s ≡ true
-taker-mayTake t h s k =
-    rw (k .waiting, eq-eqb (s .release .0) t (k .today), eq-eqb (s .string .x) 1 (k .allowed)) (lt-ltb _ _ (k .sooner))
+pub mayTake-exactly : (t : ℕ) (h s : Slot) → (mayTake t (h .deadline .0) s ≡ true) ↔ Taker t h s
+mayTake-exactly t h s = (
+  (λ e.
+      let W = waits (s .job) in
+      let T = eqb (s .release .0) t in
+      let X = eqb (s .string .x) 1 in
+      let D = ltb (s .deadline .0) (h .deadline .0) in
+      let wtx = and-left (W && T && X) D e in
+      let wt = and-left (W && T) X wtx in
+      record {
+        waiting = and-left W T wt;
+        today = eqb-true _ _ (and-right W T wt);
+        allowed = eqb-true _ _ (and-right (W && T) X wtx);
+        sooner = ltb-true _ _ (and-right (W && T && X) D e);
+      }),
+  λ k. rw (k .waiting, eq-eqb (s .release .0) t (k .today), eq-eqb (s .string .x) 1 (k .allowed)) (lt-ltb _ _ (k .sooner)),
+)
 
 -- the holder h is stopped and the payer q is charged
 pub record Took (p : Plan) (t : ℕ) (ss ks : List Slot) (h q : ℕ) : Type 0 where
@@ -131,7 +130,7 @@ module _ (p : Plan) (t : ℕ) (ss : List Slot) where
     took-taking : (q : ℕ) → payer t ss ≡ suc q → One (mayTake t (slotAt ss (holder ss) .deadline .0)) dueBefore ss (length ss) q
         → Taking p t ss (taken p t ss) (payerIn t ss)
     took-taking q z o =
-        let taker : Taker t (at ss h) (at ss q) = mayTake-taker t (at ss h) (at ss q) (rw held-slot at (o .passes)) in
+        let taker : Taker t (at ss h) (at ss q) = mayTake-exactly t (at ss h) (at ss q) .0 (rw held-slot at (o .passes)) in
         bankTaken h q (took-record q z (o .within) taker)
         (ap length (took-is q z) ∙ change-length (pay p) (stop ss (suc h)) q ∙ change-length (λ s. stopped (s .job)) ss h)
         (payerIn-is ∙ z)
