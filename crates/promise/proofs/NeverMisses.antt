@@ -38,7 +38,7 @@ use Rattle.laws.proofs.Releases.{runCheck-lawful}
 use Rattle.horizon.proofs.Verdict.{pass-passes}
 use Rattle.sets.specs.BestSet.{BestSet}
 use Rattle.sound.specs.Served.{released, dueOf, Served}
-use Rattle.sound.proofs.Answers.{never-misses}
+use Rattle.sound.proofs.CleanAnswer.{never-misses}
 use Rattle.sound.proofs.Served.{served}
 use Rattle.verdict.proofs.verdict.Reads as verdict
 use Rattle.verdict.proofs.verdict_with.Reads as verdict-with

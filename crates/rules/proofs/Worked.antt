@@ -12,11 +12,11 @@ use Rattle.rules.specs.declared.BatteryString.{BatteryString}
 use Rattle.rules.specs.declared.Plan.{Plan}
 use Rattle.rules.specs.declared.Release.{Release}
 use Rattle.rules.specs.declared.Releases.{Releases}
-use Rattle.lists.specs.Count.{sumOf, largest, smallest, smallestWith, every, keep, countOf, upFrom, leastFrom}
+use Rattle.lists.specs.Count.{sumOf, largest, smallest, smallestWith, every, keep, countOf, upFrom, leastFrom, firstOf}
 use Rattle.rules.specs.Plan.{noString, stringLawful, commonMultiple, multipleOf, dMin, dMax}
 use Rattle.rules.specs.Demand.{movingCost, holdOf, jobs, blockerHold, blockLimit, need, demand, load, overloaded}
-use Rattle.rules.specs.Verdict.{pairsAt, allPairs, broken, firstBroken, compared, judged, verdictOf, isPass}
-use Rattle.rules.specs.Search.{permit, withSet, setPasses, setsOf, ordered, firstPassing, searchOf}
+use Rattle.rules.specs.Verdict.{pairsAt, allPairs, broken, compared, judged, verdictOf, isPass}
+use Rattle.rules.specs.Search.{permit, withSet, setPasses, setsOf, ordered, searchOf}
 use Rattle.rules.specs.Release.{noRelease, tooClose, outOfOrder, releaseLawful, unlawfulFrom, firstUnlawful}
 use Rattle.rules.specs.Run.{chosen, lateAt, newSlot, joinFrom, joined, holder, payer, taken, nextUp, given, useOf, spent, morning, stateAt, useOn, lateOn, history, daysOf, missDay, runOf}
 use Rattle.rules.specs.Refusal.{countCheck, numbersCheck, stringsCheck, multipleCheck, planCheck, setCheck, releasesCheck, runCheck, verdictAnswer, setAnswer, searchAnswer, runAnswer}
@@ -24,7 +24,7 @@ use Rattle.rules.specs.Said.{Said, lawful, overload, fail, pass, takers,
 use Rattle.rules.specs.Answer.{answerOf}
 use Rattle.rules.specs.Answer as answers
 use Rattle.rules.specs.Lines.{bytesOf, decimalIn, decimal, refusedLine, verdictLine, assignLine, outcomeLine, linesFor}
-use Rattle.lists.specs.Count.{filled}
+use Rattle.lists.specs.Count.{filled, firstOf}
 use Rattle.rules.specs.Text.{before, linesOf, digitOf, wellFormed, pairsOf, frameOf, numberFrom, fieldAt, nIn, aIn, runIn, stringOf, releaseOf, planIn, releasesIn, frameCheck, headerCheck, stringLineCheck, stringLinesCheck, releaseLineCheck, releaseLinesCheck, bodyCheck, linesCheck, textCheck, lawfulReading, readingOf}
 
 -- ---- Writing plans and texts down
@@ -154,8 +154,8 @@ unfolding
     sumOf largest smallest smallestWith every keep countOf upFrom leastFrom
     stringLawful commonMultiple multipleOf dMin dMax
     movingCost holdOf jobs blockerHold blockLimit need demand load overloaded
-    pairsAt allPairs broken firstBroken compared judged verdictOf isPass
-    permit withSet setPasses setsOf ordered firstPassing searchOf
+    pairsAt allPairs broken firstOf compared judged verdictOf isPass
+    permit withSet setPasses setsOf ordered searchOf
     tooClose outOfOrder releaseLawful unlawfulFrom firstUnlawful
     chosen lateAt newSlot joinFrom joined holder payer taken nextUp given useOf spent morning stateAt useOn lateOn history daysOf missDay runOf
     countCheck numbersCheck stringsCheck multipleCheck planCheck setCheck releasesCheck runCheck verdictAnswer setAnswer searchAnswer runAnswer

@@ -15,15 +15,15 @@ use Rattle.rules.specs.Demand.{Passes}
 use Rattle.rules.specs.Run.{left, given, spent, useOf, joined, taken, morning, stateAt, useOn, lateOn, history}
 use Rattle.laws.proofs.Lawful.{LawfulPlan}
 use Rattle.sound.specs.Served.{released, dueOf, worksFor, movesFor, payerIn, payerOn, paid, movingCaused, Served, Untouched}
-use Rattle.sound.proofs.Chosen.{at}
+use Rattle.laws.proofs.JobParts.{parts-left}
+use Rattle.laws.proofs.Slots.{at}
+use Rattle.laws.proofs.History.{history-next}
 use Rattle.laws.proofs.ReleaseList.{str, release-lawful}
 use Rattle.sound.proofs.Using.{spent-using}
 use Rattle.sound.proofs.Orderly.{live-if-left}
 use Rattle.sound.proofs.Arriving.{lawful-str, morning-orderly}
 use Rattle.sound.proofs.Morning.{fee, morning-place}
-use Rattle.sound.proofs.History.{history-next}
 use Rattle.sound.proofs.Clean.{Punctual, orderly-at, due-done, punctual}
-use Rattle.sound.proofs.Parts.{parts-left}
 use Rattle.sound.proofs.Progress.{Progress, toCome, serving, past, morning-progress, using-progress}
 
 module _ (p : Plan) (rs : List Release) (lawful : LawfulPlan p) (listed : firstUnlawful p rs ≡ 0)
