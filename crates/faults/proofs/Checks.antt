@@ -36,10 +36,6 @@ then-lawful a b h = ap (λ v. then v b) h
 pub then-refused : (a b : Checked) (f : Fault) (at : ℕ) → a ≡ Refused f at → then a b ≡ Refused f at
 then-refused a b f at h = ap (λ v. then v b) h
 
-pub then-assoc : (a b d : Checked) → then (then a b) d ≡ then a (then b d)
-then-assoc Lawful b d = refl
-then-assoc (Refused f at) b d = refl
-
 pub refuseIf-not : (bad : Bool) (f : Fault) (at : ℕ) → refuseIf bad f at ≡ Lawful → bad ≡ false
 refuseIf-not true f at h = absurd (refused-not-lawful f at h)
 refuseIf-not false f at h = refl

@@ -160,7 +160,8 @@ unfolding multipleOf
 multipleOf-least p k h m = leastFrom-before (commonMultiple (stringsOf p)) 1 100000 k h m
 
 -- a common multiple within the bound before which there is none is H; where there is none, 100,001 stands
-pub multipleOf-found : (p : Plan) (h : ℕ) → 1 ≤ h → h ≤ 100000 → commonMultiple (stringsOf p) h ≡ true → ((k : ℕ) → 1 ≤ k → k < h → commonMultiple (stringsOf p) k ≡ false) → multipleOf p ≡ h
+pub multipleOf-found : (p : Plan) (h : ℕ) → 1 ≤ h → h ≤ 100000 → commonMultiple (stringsOf p) h ≡ true
+    → ((k : ℕ) → 1 ≤ k → k < h → commonMultiple (stringsOf p) k ≡ false) → multipleOf p ≡ h
 unfolding multipleOf
 multipleOf-found p h low high t before = leastFrom-unique (commonMultiple (stringsOf p)) 1 100000 h low (omega arith) t before
 

@@ -17,10 +17,10 @@ use Rattle.faults.specs.declared.Checked.the-variants.{Lawful, Refused}
 use Rattle.faults.specs.Checks.{then, refuseIf}
 use Rattle.faults.proofs.Checks.{refused-not-lawful, then-first, then-second, then-lawful, refuseIf-not, refuseIf-anywhere}
 use Rattle.rules.specs.Plan.{stringsOf, stringLawful}
-use Rattle.rules.specs.Release.{releasesOf, releaseLawful, unlawfulFrom, firstUnlawful}
+use Rattle.rules.specs.Release.{releaseLawful, unlawfulFrom, firstUnlawful}
 use Rattle.rules.specs.Refusal.{headCheck, stringCheck, stringsCheck, multipleCheck, manyCheck, planCheck, runCheck}
-use Rattle.rules.specs.Layout.{Frames, frameSize, version01}
-use Rattle.rules.specs.Text.{Line, linesOf, nIn, aIn, runIn, stringOf, releaseOf, planIn, releasesIn, frameCheck, versionCheck, headerCheck}
+use Rattle.rules.specs.Layout.{Frames, version01}
+use Rattle.rules.specs.Text.{Line, linesOf, nIn, aIn, runIn, stringOf, releaseOf, planIn, releasesIn, versionCheck, headerCheck, layoutCheck}
 use Rattle.rules.specs.Text.{stringLineCheck, stringLinesCheck, releaseLineCheck, releaseLinesCheck, bodyCheck, linesCheck, textCheck}
 use Rattle.rules.specs.Text.{lawfulReading, readingOf}
 use Rattle.laws.proofs.Lawful.{headCheck-lawful, headCheck-good, multipleCheck-small, multipleCheck-good}
@@ -39,7 +39,7 @@ module _ (v : Frames) where
   unfolding stringLineCheck
   string-good k j line h =
       refuseIf-anywhere (not (stringLawful (stringOf v line))) OutOfBounds k j
-      (then-second (frameCheck k (v .string .kind) (frameSize (v .string)) line) (stringCheck k (stringOf v line)) h)
+      (then-second (layoutCheck k (v .string) line) (stringCheck k (stringOf v line)) h)
 
   strings-good : (k j m : ℕ) (lines : List Line) → stringLinesCheck v k m lines ≡ Lawful
       → stringsCheck j (map (stringOf v) (take m lines)) ≡ Lawful
@@ -60,7 +60,7 @@ module _ (v : Frames) where
     release-good k j seen line h =
         let lawful = releaseLawful p seen (releaseOf v line) in
         let bad = refuseIf (not lawful) ReleaseUnlawful k in
-        let rest = then-second (frameCheck k (v .release .kind) (frameSize (v .release)) line) (then (manyCheck k j) bad) h in (
+        let rest = then-second (layoutCheck k (v .release) line) (then (manyCheck k j) bad) h in (
           ltb-false 1000 j (refuseIf-not (ltb 1000 j) ReleaseTooMany k (then-first (manyCheck k j) bad rest)),
           not-false lawful (refuseIf-not (not lawful) ReleaseUnlawful k (then-second (manyCheck k j) bad rest)),
         )
@@ -102,7 +102,7 @@ module _ (v : Frames) where
     unfolding linesCheck headerCheck planIn
     head =
         let numbers = headCheck 1 (nIn v header) (aIn v header) (runIn v header) in
-        let frame = frameCheck 1 (v .header .kind) (frameSize (v .header)) header in
+        let frame = layoutCheck 1 (v .header) header in
         let version = versionCheck v header in
         let lawful = then-first (then frame (then version numbers)) (bodyCheck v plan lines) h in
         headCheck-good 0 _ _ _

@@ -1,7 +1,7 @@
 -- The fields of a frame, by positions of the text.
 --     offsetIn l f, sizeIn l f   the bytes that stand ahead of the field f in a frame of the layout l, and its own
 use Prim.Native.Nat.{ℕ, zero, suc, _+_, _*_, _^_, _≤_, _<_}
-use mathlib.Core.Path.{_≡_, refl, sym, ap, _∙_}
+use mathlib.Core.Path.{_≡_, refl, ap, _∙_}
 use mathlib.Core.Bool.{cond}
 use mathlib.Core.List.{List, [], _∷_, _++_}
 use native.Mathlib.Omega.{arith}
@@ -12,7 +12,7 @@ use lib.ListN.{length, take, drop, getD, length-drop}
 use lib.Seq.{drop-drop, getD-drop, take-suc}
 use Rattle.lists.proofs.Lists.{by-bool}
 use Rattle.rules.specs.Layout.{Field, Sized, Layout, fieldNumber, sizeOf, frameSize, numberFrom, numberOf, fieldAmong, fieldIn}
-use Rattle.rules.specs.Text.{digitOf, pairsOf, frameOf, fieldOf}
+use Rattle.rules.specs.Text.{pairsOf, frameOf, fieldOf}
 use Rattle.reading.specs.Positions.{digitsAhead, lineAt, Frame, byteIn, numberIn}
 use Rattle.reading.proofs.Hex.{ahead-inside, ahead-digit}
 use Rattle.reading.proofs.Framing.{twice-more, frame-number}
@@ -90,7 +90,7 @@ module _ (text : List ℕ) (at k : ℕ) where
         let there = pairsOf-at (drop at text) (k + i) (omega (arith, length-drop at text)) in
         let long : i < length (drop k bytes) = omega (arith, there .0, length-drop k bytes) in
         let low : at + ((k + i) * 2 + 1) ≡ at + (k + i) * 2 + 1 = omega arith in
-        rw (add-one i, take-suc (drop k bytes) i 0 long, numberFrom-snoc 0 (take i (drop k bytes)) (getD (drop k bytes) i 0), getD-drop k bytes i 0)
+        rw (add-one i, take-suc (drop k bytes) i 0 long, numberFrom-snoc 0 (take i (drop k bytes)) _, getD-drop k bytes i 0)
         (ap (λ b. numberOf (take i (drop k bytes)) * 256 + b)
         (there .1 ∙ rw (getD-drop at text ((k + i) * 2) 0, getD-drop at text ((k + i) * 2 + 1) 0, low)))
 

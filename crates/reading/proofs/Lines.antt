@@ -55,7 +55,8 @@ whole-here b bs e =
     let f : isDigit b ≡ false = ap isDigit e ∙ newline-no-digit in
     rw f (omega arith, e)
 
-whole-before : (b : ℕ) (bs : List ℕ) (lines : List Line) → (headLine lines .ended ≡ true → every isDigit (headLine lines .bytes) ≡ true → Whole bs)
+whole-before : (b : ℕ) (bs : List ℕ) (lines : List Line)
+    → (headLine lines .ended ≡ true → every isDigit (headLine lines .bytes) ≡ true → Whole bs)
     → headLine (before b lines) .ended ≡ true → every isDigit (headLine (before b lines) .bytes) ≡ true → Whole (b ∷ bs)
 unfolding before every
 whole-before b bs [] more ended digits = absurd (true-not-false (sym ended))

@@ -3,7 +3,7 @@
 --                           number k, and `end` is what ended the frames
 use Prim.Native.Nat.{ℕ, zero, suc, _+_, _-_, _≤_, _<_}
 use mathlib.Core.Path.{_≡_, refl, sym, ap, _∙_}
-use mathlib.Core.Bool.{true, false, cond}
+use mathlib.Core.Bool.{cond}
 use mathlib.Core.List.{List, [], _∷_, map, tail-eq-of-cons-eq}
 use native.Mathlib.Omega.{arith}
 use native.Mathlib.Nat.{le-refl}
@@ -19,9 +19,9 @@ use Rattle.lists.proofs.Lists.{by-bool}
 use Rattle.rules.specs.declared.Plan.{Plan}
 use Rattle.rules.specs.declared.Release.{Release}
 use Rattle.rules.specs.Release.{releaseLawful, unlawfulFrom}
-use Rattle.rules.specs.Layout.{Layout, Frames, frameSize, lineLength}
-use Rattle.rules.specs.Text.{Line, releaseOf, frameCheck, releaseLineCheck, releaseLinesCheck}
-use Rattle.reading.specs.Positions.{headLine, linesFrom, lineAt, Frame, Stand, oneMore, framesIn}
+use Rattle.rules.specs.Layout.{Layout, Frames, frameSize, lineSize}
+use Rattle.rules.specs.Text.{Line, releaseOf, releaseLineCheck, releaseLinesCheck, layoutCheck}
+use Rattle.reading.specs.Positions.{headLine, linesFrom, lineAt, Stand, oneMore, framesIn}
 use Rattle.reading.proofs.Lines.{line-here, lines-none}
 use Rattle.reading.proofs.Framing.{frameCheck-frame, frame-next}
 use Rattle.reading.proofs.Standing.{stand-none, stand-more}
@@ -34,18 +34,18 @@ module _ (l : Layout) where
   frames-end k room = refl
 
   module _ (k : ℕ) (line : Line) (lines : List Line) where
-    frames-refused : (room : ℕ) (f : Fault) (a : ℕ) → frameCheck k (l .kind) (frameSize l) line ≡ Refused f a
+    frames-refused : (room : ℕ) (f : Fault) (a : ℕ) → layoutCheck k l line ≡ Refused f a
         → framesIn l k room (line ∷ lines) ≡ record { count = 0; checked = Refused f a }
     unfolding framesIn
     frames-refused zero f a e = rw e
     frames-refused (suc room) f a e = rw e
 
-    frames-full : frameCheck k (l .kind) (frameSize l) line ≡ Lawful
+    frames-full : layoutCheck k l line ≡ Lawful
         → framesIn l k 0 (line ∷ lines) ≡ record { count = 0; checked = Refused ReleaseTooMany k }
     unfolding framesIn
     frames-full e = rw e
 
-    frames-next : (room : ℕ) → frameCheck k (l .kind) (frameSize l) line ≡ Lawful
+    frames-next : (room : ℕ) → layoutCheck k l line ≡ Lawful
         → framesIn l k (suc room) (line ∷ lines) ≡ oneMore (framesIn l (suc k) room lines)
     unfolding framesIn
     frames-next room e = rw e
@@ -53,23 +53,24 @@ module _ (l : Layout) where
   pub frames-few : (lines : List Line) (k room : ℕ) → framesIn l k room lines .count ≤ room
   frames-few [] k room = rw (frames-end k room) (omega arith)
   frames-few (line ∷ lines) k zero =
-      by-checked (frameCheck k (l .kind) (frameSize l) line)
+      by-checked (layoutCheck k l line)
       (λ e. rw (frames-full k line lines e) (le-refl 0))
       (λ f a e. rw (frames-refused k line lines 0 f a e) (le-refl 0))
   frames-few (line ∷ lines) k (suc room) =
-      by-checked (frameCheck k (l .kind) (frameSize l) line)
+      by-checked (layoutCheck k l line)
       (λ e. rw (frames-next k line lines room e) (omega (arith, frames-few lines (suc k) room)))
       (λ f a e. rw (frames-refused k line lines (suc room) f a e) (omega arith))
 
   -- where nothing ended the frames, every line was one
-  pub frames-all : (lines : List Line) (k room : ℕ) → framesIn l k room lines .checked ≡ Lawful → framesIn l k room lines .count ≡ length lines
+  pub frames-all : (lines : List Line) (k room : ℕ) → framesIn l k room lines .checked ≡ Lawful
+      → framesIn l k room lines .count ≡ length lines
   frames-all [] k room h = rw (frames-end k room)
   frames-all (line ∷ lines) k zero h =
-      by-checked (frameCheck k (l .kind) (frameSize l) line)
+      by-checked (layoutCheck k l line)
       (λ e. absurd (refused-not-lawful ReleaseTooMany k (rw (frames-full k line lines e) at h)))
       (λ f a e. absurd (refused-not-lawful f a (rw (frames-refused k line lines 0 f a e) at h)))
   frames-all (line ∷ lines) k (suc room) h =
-      by-checked (frameCheck k (l .kind) (frameSize l) line)
+      by-checked (layoutCheck k l line)
       (λ e.
       let next = frames-next k line lines room e in
       rw next (ap suc (frames-all lines (suc k) room (rw next at h))))
@@ -82,18 +83,20 @@ module _ (l : Layout) where
       pub frames-none-at : (room : ℕ) → length text ≤ at → framesIn l k room (linesFrom text at) ≡ record { count = 0; checked = Lawful }
       frames-none-at room h = rw (lines-none text at h) (frames-end k room)
 
-      pub frames-refused-at : (room : ℕ) → at < length text → (f : Fault) (a : ℕ) → frameCheck k (l .kind) (frameSize l) (lineAt text at) ≡ Refused f a
+      pub frames-refused-at : (room : ℕ) → at < length text → (f : Fault) (a : ℕ) → layoutCheck k l (lineAt text at) ≡ Refused f a
           → framesIn l k room (linesFrom text at) ≡ record { count = 0; checked = Refused f a }
       frames-refused-at room h f a e = rw (line-here text at h .1) (frames-refused k (lineAt text at) _ room f a e)
 
-      module _ (e : frameCheck k (l .kind) (frameSize l) (lineAt text at) ≡ Lawful) where
-        pub frames-full-at : at < length text → framesIn l k 0 (linesFrom text at) ≡ record { count = 0; checked = Refused ReleaseTooMany k }
+      module _ (e : layoutCheck k l (lineAt text at) ≡ Lawful) where
+        pub frames-full-at : at < length text
+            → framesIn l k 0 (linesFrom text at) ≡ record { count = 0; checked = Refused ReleaseTooMany k }
         frames-full-at h = rw (line-here text at h .1) (frames-full k (lineAt text at) _ e)
 
         pub frames-next-at : (room : ℕ) → framesIn l k (suc room) (linesFrom text at)
-            ≡ oneMore (framesIn l (suc k) room (linesFrom text (at + lineLength (frameSize l))))
+            ≡ oneMore (framesIn l (suc k) room (linesFrom text (at + lineSize l)))
         frames-next-at room =
-            rw (frame-next text at (frameSize l) (frameCheck-frame text at k (l .kind) (frameSize l) e)) (frames-next k (lineAt text at) _ room e)
+            let frame = frameCheck-frame text at k (l .kind) (frameSize l) e in
+            rw (frame-next text at (frameSize l) frame) (frames-next k (lineAt text at) _ room e)
 
     pub frames-stand : (lines : List Line) (at k room : ℕ) → linesFrom text at ≡ lines → at ≤ length text
         → Stand text at (frameSize l) (framesIn l k room lines .count)
@@ -103,14 +106,14 @@ module _ (l : Layout) where
         let none : framesIn l k 0 (line ∷ lines) .count ≡ 0 = omega (arith, frames-few (line ∷ lines) k 0) in
         rw none (stand-none text (frameSize l) at inside)
     frames-stand (line ∷ lines) at k (suc room) e inside =
-        by-checked (frameCheck k (l .kind) (frameSize l) line)
+        by-checked (layoutCheck k l line)
         (λ good.
         let head = ap headLine e in
-        let frame = frameCheck-frame text at k (l .kind) (frameSize l) (ap (frameCheck k (l .kind) (frameSize l)) head ∙ good) in
+        let frame = frameCheck-frame text at k (l .kind) (frameSize l) (ap (layoutCheck k l) head ∙ good) in
         let next = sym (tail-eq-of-cons-eq (sym e ∙ frame-next text at (frameSize l) frame)) in
         rw (frames-next k line lines room good)
         (stand-more text (frameSize l) at (framesIn l (suc k) room lines .count) frame
-        (frames-stand lines (at + lineLength (frameSize l)) (suc k) room next (omega (arith, frame .inside)))))
+        (frames-stand lines (at + lineSize l) (suc k) room next (omega (arith, frame .inside)))))
         (λ f a bad. rw (frames-refused k line lines (suc room) f a bad) (stand-none text (frameSize l) at inside))
 
 -- ---- Frames first, releases afterwards
@@ -144,13 +147,13 @@ module _ (v : Frames) (p : Plan) where
   releaseLines-decided [] k j room seen low all = sym (decided-none k j Lawful)
   releaseLines-decided (line ∷ lines) k j zero seen low all =
       let many : 1000 < j = omega arith in
-      by-checked (frameCheck k (v .release .kind) (frameSize (v .release)) line)
+      by-checked (layoutCheck k (v .release) line)
       (λ e. rw (e, lt-ltb 1000 j many) (sym (decided-none k j _)))
       (λ f a e. rw e (sym (decided-none k j _)))
   releaseLines-decided (line ∷ lines) k j (suc room) seen low all =
       let few : j ≤ 1000 = omega arith in
       let later = releaseLines-decided lines (suc k) (suc j) room (releaseOf v line ∷ seen) (omega arith) (omega arith) in
-      by-checked (frameCheck k (v .release .kind) (frameSize (v .release)) line)
+      by-checked (layoutCheck k (v .release) line)
       (λ e.
       by-bool (releaseLawful p seen (releaseOf v line))
       (λ t. rw (e, le-ltb 1000 j few, t) (later ∙ decided-later k j _ _))

@@ -8,7 +8,7 @@ use Rattle.faults.specs.declared.Checked.the-variants.{Refused}
 use Rattle.days.specs.Days.{day, days}
 use Rattle.rules.specs.Refusal.{headCheck}
 use Rattle.rules.specs.Layout.{Field, Frames, frameSize, Version, Count, Moving, Run, X, T, C, D, Place, Day, Need}
-use Rattle.rules.specs.Text.{fieldOf, nIn, aIn, runIn, stringOf, releaseOf, versionCheck}
+use Rattle.rules.specs.Text.{nIn, aIn, runIn, stringOf, releaseOf, versionCheck}
 use Rattle.reading.specs.Positions.{lineAt, Frame, numberIn, headerNumbers}
 use Rattle.reading.proofs.Fields.{offsetIn, sizeIn, field-is}
 
@@ -61,7 +61,8 @@ module _ (v : Frames) (text : List ℕ) where
   releaseField at f = numberIn text at (offsetIn (v .release) f) (sizeIn (v .release) f)
 
   pub release-is : (at : ℕ) → Frame text at (frameSize (v .release))
-      → releaseOf v (lineAt text at) ≡ record { day = day (releaseField at Day); place = releaseField at Place; need = days (releaseField at Need) }
+      → releaseOf v (lineAt text at)
+      ≡ record { day = day (releaseField at Day); place = releaseField at Place; need = days (releaseField at Need) }
   unfolding releaseOf
   release-is at h =
       rw (field-is text at (v .release) Day h, field-is text at (v .release) Place h, field-is text at (v .release) Need h)

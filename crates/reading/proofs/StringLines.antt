@@ -1,5 +1,5 @@
 -- The string lines by positions of the text, one after the other, and what they give where none is refused.
-use Prim.Native.Nat.{ℕ, zero, suc, _+_, _*_, _≤_, _<_}
+use Prim.Native.Nat.{ℕ, zero, suc, _+_, _≤_, _<_}
 use mathlib.Core.Path.{_≡_, refl, sym, _∙_}
 use mathlib.Core.List.{List}
 use native.Mathlib.Omega.{arith}
@@ -9,7 +9,7 @@ use Rattle.faults.specs.declared.Fault.{Fault}
 use Rattle.faults.specs.declared.Fault.the-variants.{FrameWrong}
 use Rattle.faults.specs.declared.Checked.the-variants.{Lawful, Refused}
 use Rattle.faults.proofs.Checks.{then-first, refused-not-lawful}
-use Rattle.rules.specs.Layout.{Frames, frameSize, lineLength}
+use Rattle.rules.specs.Layout.{Frames, frameSize, lineSize}
 use Rattle.rules.specs.Text.{Line, stringLineCheck, stringLinesCheck}
 use Rattle.reading.specs.Positions.{linesFrom, lineAt, Frame, Stand}
 use Rattle.reading.proofs.Lines.{line-here, lines-none}
@@ -33,11 +33,12 @@ module _ (v : Frames) (text : List ℕ) where
     strings-bad h f a e = rw (line-here text at h .1, e)
 
     pub strings-good : stringLineCheck v k (lineAt text at) ≡ Lawful
-        → stringLinesCheck v k (suc m) (linesFrom text at) ≡ stringLinesCheck v (suc k) m (linesFrom text (at + lineLength (frameSize (v .string))))
+        → stringLinesCheck v k (suc m) (linesFrom text at) ≡ stringLinesCheck v (suc k) m (linesFrom text (at + lineSize (v .string)))
     unfolding stringLinesCheck
     strings-good e = rw (frame-next text at (frameSize (v .string)) (string-frame at k e), e)
 
-    strings-first : at < length text → stringLinesCheck v k (suc m) (linesFrom text at) ≡ Lawful → stringLineCheck v k (lineAt text at) ≡ Lawful
+    strings-first : at < length text → stringLinesCheck v k (suc m) (linesFrom text at) ≡ Lawful
+        → stringLineCheck v k (lineAt text at) ≡ Lawful
     unfolding stringLinesCheck
     strings-first more h =
         let here = line-here text at more in
@@ -47,18 +48,19 @@ module _ (v : Frames) (text : List ℕ) where
   unfolding stringLinesCheck
   strings-end k lines = refl
 
-  pub strings-stand : (at k n : ℕ) → at ≤ length text → stringLinesCheck v k n (linesFrom text at) ≡ Lawful → Stand text at (frameSize (v .string)) n
+  pub strings-stand : (at k n : ℕ) → at ≤ length text → stringLinesCheck v k n (linesFrom text at) ≡ Lawful
+      → Stand text at (frameSize (v .string)) n
   strings-stand at k zero inside h = stand-none text (frameSize (v .string)) at inside
   strings-stand at k (suc n) inside h =
       elim (decLe (suc at) (length text)) [
-        | yes more ↦ step (strings-first at k n more h) (strings-stand (at + lineLength (frameSize (v .string))) (suc k) n)
+        | yes more ↦ step (strings-first at k n more h) (strings-stand (at + lineSize (v .string)) (suc k) n)
         | no ended ↦ absurd (refused-not-lawful FrameWrong k (sym (strings-missing at k n (omega arith)) ∙ h))
       ]
     where
       step : stringLineCheck v k (lineAt text at) ≡ Lawful
-          → (at + lineLength (frameSize (v .string)) ≤ length text
-          → stringLinesCheck v (suc k) n (linesFrom text (at + lineLength (frameSize (v .string)))) ≡ Lawful
-          → Stand text (at + lineLength (frameSize (v .string))) (frameSize (v .string)) n)
+          → (at + lineSize (v .string) ≤ length text
+          → stringLinesCheck v (suc k) n (linesFrom text (at + lineSize (v .string))) ≡ Lawful
+          → Stand text (at + lineSize (v .string)) (frameSize (v .string)) n)
           → Stand text at (frameSize (v .string)) (suc n)
       step first later =
           let frame = string-frame at k first in

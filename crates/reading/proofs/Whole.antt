@@ -1,10 +1,10 @@
 -- The whole text: its parts, read one after the other, decide as the definition does.
-use Prim.Native.Nat.{ℕ, _+_, _-_, _*_, _≤_, _<_}
+use Prim.Native.Nat.{ℕ, _+_, _-_, _≤_, _<_}
 use mathlib.Core.Path.{_≡_, refl, sym, ap, _∙_}
 use mathlib.Core.List.{List, _∷_, map}
 use native.Mathlib.Omega.{arith}
 use borrow.Author.Tests.{lt-ltb, le-ltb}
-use lib.ListN.{length, take, length-map}
+use lib.ListN.{length, length-map}
 use lib.Seq.{take-at, take-all}
 use Rattle.days.specs.Days.{days}
 use Rattle.faults.specs.declared.Fault.{Fault}
@@ -13,12 +13,11 @@ use Rattle.faults.specs.declared.Checked.the-variants.{Lawful, Refused}
 use Rattle.faults.proofs.Checks.{then-first, then-second, then-lawful}
 use Rattle.lists.specs.Count.{filled}
 use Rattle.rules.specs.declared.Plan.{Plan}
-use Rattle.rules.specs.declared.Reading.{Reading}
 use Rattle.rules.specs.Plan.{noString}
 use Rattle.rules.specs.Refusal.{headCheck, multipleCheck}
 use Rattle.rules.specs.Release.{releasesOf, firstUnlawful}
-use Rattle.rules.specs.Layout.{Frames, frameSize, lineLength, version01}
-use Rattle.rules.specs.Text.{Line, linesOf, nIn, aIn, runIn, stringOf, releaseOf, planIn, releasesIn, frameCheck, versionCheck, headerCheck}
+use Rattle.rules.specs.Layout.{Frames, frameSize, version01, lineSize}
+use Rattle.rules.specs.Text.{Line, linesOf, nIn, aIn, runIn, stringOf, releaseOf, planIn, releasesIn, versionCheck, headerCheck, layoutCheck}
 use Rattle.rules.specs.Text.{stringLinesCheck, bodyCheck, linesCheck, textCheck, lawfulReading, readingOf}
 use Rattle.laws.proofs.Lawful.{headCheck-lawful}
 use Rattle.laws.proofs.Releases.{firstUnlawful-le}
@@ -43,7 +42,7 @@ module _ (v : Frames) (text : List ℕ) where
   unfolding headerCheck
   header-read h =
       let line = lineAt text 0 in
-      let frame = frameCheck 1 (v .header .kind) (frameSize (v .header)) line in
+      let frame = layoutCheck 1 (v .header) line in
       let head = headCheck 1 (nIn v line) (aIn v line) (runIn v line) in
       record {
         frame = frameCheck-frame text 0 1 (v .header .kind) (frameSize (v .header)) (then-first frame (headerNumbers v line) h);
@@ -57,7 +56,7 @@ module _ (v : Frames) (text : List ℕ) where
         n = n;
         a = days (aIn v (lineAt text 0));
         run = days (runIn v (lineAt text 0));
-        strings = filled 10 noString (map (stringOf v) (linesAt text start (lineLength (frameSize (v .string))) n));
+        strings = filled 10 noString (map (stringOf v) (linesAt text start (lineSize (v .string)) n));
       }
   unfolding planIn
   plan-said start n f here count s = rw (header-next f, ← here, ← count, s .first)
@@ -129,18 +128,20 @@ module _ (v : Frames) (text : List ℕ) where
     framed-stand = frames-stand (v .release) text (linesFrom text start) start (p .n + 2) 1000 refl start-inside
 
     written : List Line
-    written = linesAt text start (lineLength (frameSize (v .release))) (framed .count)
+    written = linesAt text start (lineSize (v .release)) (framed .count)
 
     many : length (map (releaseOf v) written) ≡ framed .count
     unfolding written
-    many = length-map written (releaseOf v) ∙ linesAt-length text (lineLength (frameSize (v .release))) start (framed .count)
+    many = length-map written (releaseOf v) ∙ linesAt-length text (lineSize (v .release)) start (framed .count)
 
     list-of : releasesOf (releaseList v text start (framed .count)) ≡ map (releaseOf v) written
     unfolding releaseList written
     list-of = take-at (map (releaseOf v) written) _ (framed .count) many
 
     pub unlawful-few : unlawful ≤ 1001
-    unlawful-few = omega (arith, firstUnlawful-le p (releasesOf (releaseList v text start (framed .count))), ap length list-of, many, framed-few)
+    unlawful-few =
+        let listed = firstUnlawful-le p (releasesOf (releaseList v text start (framed .count))) in
+        omega (arith, listed, ap length list-of, many, framed-few)
 
     list-decided : listReading v text p ≡ lawfulReading v (decided (p .n + 2) 1 unlawful (framed .checked)) (linesOf text)
     unfolding listReading listCheck firstUnlawful written

@@ -7,10 +7,10 @@
 --     numberIn text at k size    the number that size bytes write, after k bytes of the frame that starts at `at`
 --     linesAt text at step n     n lines, the first at `at`, each step bytes after the one before
 --     Stand text at size n  n frames of that size, one line after the other, from `at` on
---     framesIn l k room lines    how many of the lines are frames of the layout l, up to room; and the fault, the first line being k, that ends them
+--     framesIn l k room lines    of lines from number k on, how many are frames of the layout l, up to room, and the fault that ends them
 --     stringsAt v, releasesAt v  where the string lines and the release lines of a plan of n strings start
 --     HeaderRead v text, StringsRead v text p    what is known once the header, once the strings of the plan p have been read
---     bodyReading v text, restReading v text p, listReading v text p    what reading gives from there on: from the strings, from H, from the releases on
+--     bodyReading v text, restReading v text p, listReading v text p    what reading gives from the strings, from H, from the releases on
 use Prim.Native.Nat.{ℕ, zero, suc, _+_, _*_, _≤_, _<_}
 use mathlib.Core.Path.{_≡_}
 use mathlib.Core.Bool.{false, cond}
@@ -28,8 +28,8 @@ use Rattle.rules.specs.declared.Releases.{Releases}
 use Rattle.rules.specs.declared.Reading.{Reading}
 use Rattle.rules.specs.Release.{noRelease}
 use Rattle.rules.specs.Refusal.{headCheck, multipleCheck}
-use Rattle.rules.specs.Layout.{Layout, Frames, frameSize, lineLength, numberOf}
-use Rattle.rules.specs.Text.{Line, linesOf, digitOf, pairsOf, nIn, aIn, runIn, releaseOf, noPlan, noReleases, planIn, frameCheck, versionCheck}
+use Rattle.rules.specs.Layout.{Layout, Frames, frameSize, lineLength, numberOf, lineSize}
+use Rattle.rules.specs.Text.{Line, linesOf, digitOf, pairsOf, nIn, aIn, runIn, releaseOf, noPlan, noReleases, planIn, versionCheck, layoutCheck}
 use Rattle.rules.specs.Text.{stringLinesCheck, releaseLinesCheck, bodyCheck, lawfulReading}
 use Rattle.reading.specs.declared.Framed.{Framed}
 
@@ -86,9 +86,9 @@ oneMore later = record { count = suc (later .count); checked = later .checked }
 unfoldable pub framesIn : Layout → ℕ → ℕ → List Line → Framed
 framesIn l k room [] = record { count = 0; checked = Lawful }
 framesIn l k zero (line ∷ lines) =
-    framedOr (frameCheck k (l .kind) (frameSize l) line) (record { count = 0; checked = Refused ReleaseTooMany k })
+    framedOr (layoutCheck k l line) (record { count = 0; checked = Refused ReleaseTooMany k })
 framesIn l k (suc room) (line ∷ lines) =
-    framedOr (frameCheck k (l .kind) (frameSize l) line) (oneMore (framesIn l (suc k) room lines))
+    framedOr (layoutCheck k l line) (oneMore (framesIn l (suc k) room lines))
 
 -- ---- What is known after each part of the text
 
@@ -97,10 +97,10 @@ refusedReading f at = record { checked = Refused f at; plan = noPlan; releases =
 
 module _ (v : Frames) where
   abbrev pub stringsAt : ℕ
-  stringsAt = lineLength (frameSize (v .header))
+  stringsAt = lineSize (v .header)
 
   abbrev pub releasesAt : ℕ → ℕ
-  releasesAt n = stringsAt + n * lineLength (frameSize (v .string))
+  releasesAt n = stringsAt + n * lineSize (v .string)
 
   -- the faults of a header that is a frame
   abbrev pub headerNumbers : Line → Checked
@@ -132,4 +132,4 @@ module _ (v : Frames) where
   -- the releases that n lines from `at` on write, as the code stores them
   unfoldable pub releaseList : List ℕ → ℕ → ℕ → Releases
   releaseList text at n =
-      record { count = n; list = filled 1000 noRelease (map (releaseOf v) (linesAt text at (lineLength (frameSize (v .release))) n)) }
+      record { count = n; list = filled 1000 noRelease (map (releaseOf v) (linesAt text at (lineSize (v .release)) n)) }

@@ -31,7 +31,8 @@ fn release_at(text: &[u8], at: usize) -> Release
     Release { day, place, need }
 }
 
-// Release lines from `start` on, the first with number k: how many are frames before the text ends, a line is no frame, or a thousand are there.
+// Release lines from `start` on, the first with number k: how many are frames before the text ends, a line is no frame or a
+// thousand are there.
 pub(crate) fn release_frames(text: &[u8], start: usize, k: usize) -> Framed
     requires { ⌜ (start ≤ length (now text)) × (start ≤ 1000) × (k ≤ 1000) ⌝ }
     ensures exact { λ r. ⌜ r ≡ framesIn (version01 .release) k 1000 (linesFrom (now (text .entry)) start) ⌝ }

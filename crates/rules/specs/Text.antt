@@ -82,6 +82,9 @@ frameCheck k kind size line =
     then (refuseIf (not (wellFormed line)) LineMalformed k)
     (refuseIf (not (eqb (length (frameOf line)) size && eqb (kindIn (frameOf line)) kind)) FrameWrong k)
 
+abbrev pub layoutCheck : ℕ → Layout → Line → Checked
+layoutCheck k l line = frameCheck k (l .kind) (frameSize l) line
+
 module _ (v : Frames) where
   -- ---- What lines say
 
@@ -134,11 +137,11 @@ module _ (v : Frames) where
 
   unfoldable pub headerCheck : Line → Checked
   headerCheck line =
-      then (frameCheck 1 (v .header .kind) (frameSize (v .header)) line)
+      then (layoutCheck 1 (v .header) line)
       (then (versionCheck line) (headCheck 1 (nIn line) (aIn line) (runIn line)))
 
   unfoldable pub stringLineCheck : ℕ → Line → Checked
-  stringLineCheck k line = then (frameCheck k (v .string .kind) (frameSize (v .string)) line) (stringCheck k (stringOf line))
+  stringLineCheck k line = then (layoutCheck k (v .string) line) (stringCheck k (stringOf line))
 
   -- m strings are still to come
   unfoldable pub stringLinesCheck : ℕ → ℕ → List Line → Checked
@@ -151,7 +154,7 @@ module _ (v : Frames) where
   -- the line writes the j-th release; those seen stand ahead of it, the latest first
   unfoldable pub releaseLineCheck : Plan → ℕ → ℕ → List Release → Line → Checked
   releaseLineCheck p k j seen line =
-      then (frameCheck k (v .release .kind) (frameSize (v .release)) line)
+      then (layoutCheck k (v .release) line)
       (then (manyCheck k j) (refuseIf (not (releaseLawful p seen (releaseOf line))) ReleaseUnlawful k))
 
   unfoldable pub releaseLinesCheck : Plan → ℕ → ℕ → List Release → List Line → Checked

@@ -17,19 +17,22 @@ use Rattle.reading.proofs.read_body.Tie as tie
 abbrev begin : tie.After-field-at → tie.Start
 begin c = c .before .before
 
+abbrev textOf : tie.After-field-at → List ℕ
+textOf c = begin c .args .text .now
+
 abbrev reading : tie.After-enum-told → tie.After-field-at
 reading c = c .before .before .before
 
 -- n is the header's
-n-read : (c : tie.After-field-at) → c .field-at .result ≡ nIn version01 (lineAt (begin c .args .text .now) 0)
+n-read : (c : tie.After-field-at) → c .field-at .result ≡ nIn version01 (lineAt (textOf c) 0)
 n-read c = c .field-at .ensures ∙ sym (n-is version01 _ (begin c .pre .frame))
 
 -- what the check of the strings said
 lawful : (c : tie.After-enum-told)
-    → stringLinesCheck version01 2 (reading c .field-at .result) (linesFrom (begin (reading c) .args .text .now) (stringsAt version01)) ≡ Lawful
+    → stringLinesCheck version01 2 (reading c .field-at .result) (linesFrom (textOf (reading c)) (stringsAt version01)) ≡ Lawful
 lawful c = sym (c .before .before .string-lines-check .ensures) ∙ c .enum-told .given .1
 
-strings : (c : tie.After-plan-in) → StringsRead version01 (begin (reading (c .before)) .args .text .now) (c .plan-in .result)
+strings : (c : tie.After-plan-in) → StringsRead version01 (textOf (reading (c .before))) (c .plan-in .result)
 strings c =
     let told = c .before in
     planned version01 _ _ (begin (reading told) .pre) (c .plan-in .ensures) _ (n-read (reading told)) (lawful told)
@@ -76,7 +79,8 @@ returns-2 c =
     let known = c .before .before in
     let checked = known .before .before in
     let b = begin (checked .before) in
-    let same = ap (λ n. stringLinesCheck version01 2 n (linesFrom (b .args .text .now) (stringsAt version01))) (n-read (checked .before)) in
+    let read = checked .before in
+    let same = ap (λ n. stringLinesCheck version01 2 n (linesFrom (textOf read) (stringsAt version01))) (n-read read) in
     c .refusal .ensures
     ∙ sym (body-refused version01 _ (b .pre) _ _ (sym same ∙ sym (checked .string-lines-check .ensures) ∙ known .strings .given .1))
 

@@ -1,16 +1,14 @@
 -- `reading::read_list` meets its contract: frames first, then the first unlawful release, then what ended the frames.
 use Prim.Native.Nat.{ℕ, _≤_}
 use mathlib.Core.Path.{_≡_, sym, ap, _∙_}
-use mathlib.Core.List.{List}
 use native.Mathlib.Omega.{arith}
 use borrow.Author.Needs.{needs}
-use Rattle.rules.specs.declared.Plan.{Plan}
 use Rattle.rules.specs.declared.Releases.{Releases}
 use Rattle.rules.specs.Release.{releasesOf, firstUnlawful}
 use Rattle.rules.specs.Layout.{version01}
 use Rattle.reading.specs.declared.Framed.{Framed}
-use Rattle.reading.specs.Positions.{releaseList}
-use Rattle.reading.proofs.Whole.{start, framed, unlawful, strings-few, start-inside, framed-few, framed-stand, unlawful-few}
+use Rattle.reading.specs.Positions.{releasesAt, releaseList}
+use Rattle.reading.proofs.Whole.{framed, strings-few, start-inside, framed-few, framed-stand, unlawful-few}
 use Rattle.reading.proofs.Whole.{list-unlawful, list-refused, list-lawful}
 use Rattle.reading.proofs.read_list.Statement.{statement}
 use Rattle.reading.proofs.read_list.Tie as tie
@@ -21,26 +19,27 @@ begin c = c .before .before
 abbrev frames : tie.After-first-unlawful → tie.After-release-frames
 frames c = c .before .before
 
-abbrev textOf : tie.Start → List ℕ
-textOf b = b .args .text .now
-
 few : (b : tie.Start) → b .args .p .n ≤ 10
 few b = strings-few version01 _ _ (b .pre)
 
--- as many as there are frames
-count-is : (c : tie.After-release-frames) → c .release-frames .result .count ≡ framed version01 (textOf (begin c)) (begin c .args .p) (begin c .pre) .count
-count-is c = ap (λ (r : Framed). r .count) (c .release-frames .ensures)
+-- the frames, and the list that they write
+abbrev framesOf : tie.Start → Framed
+framesOf b = framed version01 (b .args .text .now) (b .args .p) (b .pre)
 
--- the list that the frames write
 abbrev listOf : tie.Start → Releases
-listOf b = releaseList version01 (textOf b) (start version01 (textOf b) (b .args .p) (b .pre)) (framed version01 (textOf b) (b .args .p) (b .pre) .count)
+listOf b = releaseList version01 (b .args .text .now) (releasesAt version01 (b .args .p .n)) (framesOf b .count)
+
+count-is : (c : tie.After-release-frames) → c .release-frames .result .count ≡ framesOf (begin c) .count
+count-is c = ap (λ (r : Framed). r .count) (c .release-frames .ensures)
 
 list-is : (c : tie.After-releases-in) → c .releases-in .result ≡ listOf (begin (c .before))
 list-is c = c .releases-in .ensures ∙ ap (releaseList version01 _ _) (count-is (c .before))
 
-found-is : (c : tie.After-first-unlawful)
-    → c .first-unlawful .result ≡ unlawful version01 (textOf (begin (frames c))) (begin (frames c) .args .p) (begin (frames c) .pre)
-found-is c = c .first-unlawful .ensures ∙ ap (λ rs. firstUnlawful (begin (frames c) .args .p) (releasesOf rs)) (list-is (c .before))
+abbrev unlawfulOf : tie.Start → Releases → ℕ
+unlawfulOf b rs = firstUnlawful (b .args .p) (releasesOf rs)
+
+found-is : (c : tie.After-first-unlawful) → c .first-unlawful .result ≡ unlawfulOf (begin (frames c)) (listOf (begin (frames c)))
+found-is c = c .first-unlawful .ensures ∙ ap (unlawfulOf (begin (frames c))) (list-is (c .before))
 
 mul-start : tie.Need-mul-start
 mul-start c = omega (arith, few (c .before))

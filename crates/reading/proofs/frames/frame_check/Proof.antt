@@ -1,7 +1,6 @@
 -- `reading::frames::frame_check` meets its contract: its form decides first, then its size, then its kind.
-use Prim.Native.Nat.{ℕ, _/_}
+use Prim.Native.Nat.{_/_}
 use mathlib.Core.Path.{_≡_, sym, ap, _∙_}
-use mathlib.Core.List.{List}
 use native.Mathlib.Omega.{arith}
 use borrow.Author.Tests.{not-true, not-false}
 use borrow.Author.Needs.{needs}
@@ -31,17 +30,15 @@ well-formed-requires c κs = search needs
 returns : tie.Need-returns
 returns c =
     let formed = c .before in
-    let g = start (formed .before) .args in
     sym
-    (check-malformed (g .text .now) (g .at) (g .k) (g .layout .kind) (g .layout .size)
+    (check-malformed _ _ _ _ _
     (sym (formed .well-formed .ensures) ∙ not-true _ (c .if1 .taken)))
 
 returns-2 : tie.Need-returns-2
 returns-2 c =
     let good = c .before .before in
-    let g = start (good .before .before) .args in
     sym
-    (check-size (g .text .now) (g .at) (g .k) (g .layout .kind) (g .layout .size) _ (formed good) (half (good .before .before)) (c .if2 .taken))
+    (check-size _ _ _ _ _ _ (formed good) (half (good .before .before)) (c .if2 .taken))
 
 field-at-requires : tie.Need-field-at-requires
 field-at-requires c κs =
@@ -53,9 +50,8 @@ returns-3 c =
     let kind = c .before .before in
     let sized = kind .before in
     let good = sized .before .before in
-    let g = start (good .before .before) .args in
     sym
-    (check-kind (g .text .now) (g .at) (g .k) (g .layout .kind) (g .layout .size) _ (formed good) (half (good .before .before)) (sized .if2 .left)
+    (check-kind _ _ _ _ _ _ (formed good) (half (good .before .before)) (sized .if2 .left)
     (λ same. c .if3 .taken (kind .field-at .ensures ∙ same)))
 
 returns-4 : tie.Need-returns-4
@@ -63,9 +59,8 @@ returns-4 c =
     let kind = c .before .before in
     let sized = kind .before in
     let good = sized .before .before in
-    let g = start (good .before .before) .args in
     sym
-    (check-good (g .text .now) (g .at) (g .k) (g .layout .kind) (g .layout .size) _ (formed good) (half (good .before .before)) (sized .if2 .left)
+    (check-good _ _ _ _ _ _ (formed good) (half (good .before .before)) (sized .if2 .left)
     (sym (kind .field-at .ensures) ∙ c .if3 .left))
 
 pub frame-check-spec : {M : Type 1} → statement M

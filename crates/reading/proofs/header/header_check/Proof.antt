@@ -5,8 +5,8 @@ use mathlib.Core.List.{List}
 use borrow.Author.Needs.{needs}
 use Rattle.faults.specs.declared.Checked.the-variants.{Lawful}
 use Rattle.faults.proofs.Checks.{then-lawful, then-refused}
-use Rattle.rules.specs.Layout.{frameSize, version01}
-use Rattle.rules.specs.Text.{frameCheck, headerCheck}
+use Rattle.rules.specs.Layout.{version01}
+use Rattle.rules.specs.Text.{headerCheck, layoutCheck}
 use Rattle.reading.specs.Positions.{lineAt}
 use Rattle.reading.proofs.Framing.{frameCheck-frame}
 use Rattle.reading.proofs.header.header_check.Statement.{statement}
@@ -16,7 +16,7 @@ abbrev textOf : tie.After-enum-told → List ℕ
 textOf c = c .before .before .before .before .args .text .now
 
 -- what the frame's check said
-lawful : (c : tie.After-enum-told) → frameCheck 1 (version01 .header .kind) (frameSize (version01 .header)) (lineAt (textOf c) 0) ≡ Lawful
+lawful : (c : tie.After-enum-told) → layoutCheck 1 (version01 .header) (lineAt (textOf c) 0) ≡ Lawful
 lawful c = sym (c .before .before .frame-check .ensures) ∙ c .enum-told .given .1
 
 frame-check-requires : tie.Need-frame-check-requires

@@ -8,8 +8,8 @@ use borrow.Author.Needs.{needs}
 use lib.ListN.{length}
 use Rattle.faults.specs.declared.Checked.{Checked}
 use Rattle.faults.specs.declared.Checked.the-variants.{Lawful}
-use Rattle.rules.specs.Layout.{Layout, frameSize, lineLength, version01}
-use Rattle.rules.specs.Text.{frameCheck}
+use Rattle.rules.specs.Layout.{Layout, version01, lineSize}
+use Rattle.rules.specs.Text.{layoutCheck}
 use Rattle.reading.specs.declared.Framed.{Framed}
 use Rattle.reading.specs.Positions.{linesFrom, lineAt, framesIn}
 use Rattle.reading.proofs.Framing.{frameCheck-frame}
@@ -21,7 +21,7 @@ abbrev l : Layout
 l = version01 .release
 
 abbrev step : ℕ
-step = lineLength (frameSize l)
+step = lineSize l
 
 -- n frames stand ahead
 abbrev after : ℕ → Framed → Framed
@@ -37,7 +37,7 @@ at-first text start k =
     let here : start + 0 ≡ start = omega arith in
     rw (line, here, zero-add)
 
-next : (text : List ℕ) (start k j : ℕ) → j ≤ 999 → frameCheck (k + j) (l .kind) (frameSize l) (lineAt text (start + j * step)) ≡ Lawful
+next : (text : List ℕ) (start k j : ℕ) → j ≤ 999 → layoutCheck (k + j) l (lineAt text (start + j * step)) ≡ Lawful
     → after (j + 1) (left text start k (j + 1)) ≡ after j (left text start k j)
 next text start k j few e =
     let room : 1000 - j ≡ suc (1000 - (j + 1)) = omega arith in
@@ -48,7 +48,8 @@ next text start k j few e =
     rw (room, frames-next-at l text (start + j * step) (k + j) e (1000 - (j + 1)), line, there, count)
 
 -- the frames end here
-ended : (j : ℕ) (here : Framed) (end : Checked) → here ≡ record { count = 0; checked = end } → record { count = j; checked = end } ≡ after j here
+ended : (j : ℕ) (here : Framed) (end : Checked) → here ≡ record { count = 0; checked = end }
+    → record { count = j; checked = end } ≡ after j here
 ended j here end e =
     let all : j + 0 ≡ j = omega arith in
     rw (e, all)
@@ -71,7 +72,7 @@ reached c = found c .before .before
 
 -- what the check of the line reached said
 lawful : (c : tie.After-enum-told Inv-loop μ-loop)
-    → frameCheck (begin (reached c) .args .k + reached c .loop .j) (l .kind) (frameSize l)
+    → layoutCheck (begin (reached c) .args .k + reached c .loop .j) l
     (lineAt (begin (reached c) .args .text .now) (begin (reached c) .args .start + reached c .loop .j * step))
     ≡ Lawful
 lawful c = sym (found c .frame-check .ensures) ∙ c .enum-told .given .1
@@ -90,9 +91,7 @@ add-here c = omega arith
 returns : tie.Need-returns Inv-loop μ-loop
 returns c =
     let o = c .before in
-    let g = begin o .args in
-    let j = o .loop .j in
-    ended j _ _ (frames-none-at l (g .text .now) (g .start + j * step) (g .k + j) (1000 - j) (c .if1 .taken)) ∙ o .loop .inv .2
+    ended (o .loop .j) _ _ (frames-none-at l _ _ _ _ (c .if1 .taken)) ∙ o .loop .inv .2
 
 add-frame-check : tie.Need-add-frame-check Inv-loop μ-loop
 add-frame-check c = omega arith
@@ -128,8 +127,9 @@ loop-again c =
     let o = found (c .before) .before .before in
     let g = begin o .args in
     let j = o .loop .j in
-    let frame = frameCheck-frame (g .text .now) (g .start + j * step) (g .k + j) _ _ (lawful (c .before)) in
-    (omega arith, omega (arith, frame .inside), next (g .text .now) (g .start) (g .k) j (omega arith) (lawful (c .before)) ∙ o .loop .inv .2)
+    let good = lawful (c .before) in
+    let frame = frameCheck-frame _ _ _ _ _ good in
+    (omega arith, omega (arith, frame .inside), next (g .text .now) (g .start) (g .k) j (omega arith) good ∙ o .loop .inv .2)
 
 enum-known-line : tie.Need-enum-known-line Inv-loop μ-loop
 enum-known-line c = search needs
@@ -139,11 +139,8 @@ returns-3 c =
     let known = c .before in
     let checked = known .before .before in
     let o = checked .before .before in
-    let g = begin o .args in
-    let j = o .loop .j in
     let refused = sym (checked .frame-check .ensures) ∙ known .line .given .1 in
-    ended j _ _ (frames-refused-at l (g .text .now) (g .start + j * step) (g .k + j) (1000 - j) (checked .before .if1 .left) _ _ refused)
-    ∙ o .loop .inv .2
+    ended (o .loop .j) _ _ (frames-refused-at l _ _ _ _ (checked .before .if1 .left) _ _ refused) ∙ o .loop .inv .2
 
 pub release-frames-spec : {M : Type 1} → statement M
 release-frames-spec =

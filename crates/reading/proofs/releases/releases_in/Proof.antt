@@ -1,12 +1,12 @@
 -- `reading::releases::releases_in` meets its contract: the list holds the releases read so far, and the filler behind them.
 use Prim.Native.Nat.{ℕ, _-_, _≤_}
-use mathlib.Core.Path.{_≡_, sym, ap, _∙_}
+use mathlib.Core.Path.{_≡_}
 use mathlib.Core.List.{List, map}
 use native.Mathlib.Omega.{arith}
 use Rattle.lists.specs.Count.{filled}
 use Rattle.rules.specs.declared.Release.{Release}
 use Rattle.rules.specs.Release.{noRelease}
-use Rattle.rules.specs.Layout.{frameSize, lineLength, version01}
+use Rattle.rules.specs.Layout.{version01, lineSize}
 use Rattle.rules.specs.Text.{releaseOf}
 use Rattle.reading.specs.Positions.{linesAt, releaseList}
 use Rattle.reading.proofs.Standing.{stored-none, stored-more}
@@ -14,7 +14,7 @@ use Rattle.reading.proofs.releases.releases_in.Statement.{statement}
 use Rattle.reading.proofs.releases.releases_in.Tie as tie
 
 abbrev step : ℕ
-step = lineLength (frameSize (version01 .release))
+step = lineSize (version01 .release)
 
 -- what is stored of i releases
 abbrev stored : List ℕ → ℕ → ℕ → List Release
@@ -60,8 +60,7 @@ loop-again c =
     let o = c .before .before in
     let g = begin o .args in (
       omega arith,
-      stored-more noRelease (releaseOf version01) 1000 (g .text .now) (g .start) step (o .loop .i) (o .loop .list) (c .release-at .result) (omega arith)
-          (o .loop .inv .1) (c .release-at .ensures),
+      stored-more noRelease (releaseOf version01) 1000 _ _ step (o .loop .i) _ _ (omega arith) (o .loop .inv .1) (c .release-at .ensures),
     )
 
 returns : tie.Need-returns Inv-loop μ-loop

@@ -1,12 +1,12 @@
 -- `reading::strings::plan_in` meets its contract: the array holds the strings read so far, and the filler behind them.
 use Prim.Native.Nat.{ℕ, _-_, _≤_}
-use mathlib.Core.Path.{_≡_, sym, ap, _∙_}
+use mathlib.Core.Path.{_≡_, sym, _∙_}
 use mathlib.Core.List.{List, map}
 use native.Mathlib.Omega.{arith}
 use Rattle.lists.specs.Count.{filled}
 use Rattle.rules.specs.declared.BatteryString.{BatteryString}
 use Rattle.rules.specs.Plan.{noString}
-use Rattle.rules.specs.Layout.{frameSize, lineLength, version01}
+use Rattle.rules.specs.Layout.{version01, lineSize}
 use Rattle.rules.specs.Text.{stringOf}
 use Rattle.reading.specs.Positions.{linesAt}
 use Rattle.reading.proofs.Said.{a-is, run-is}
@@ -16,7 +16,7 @@ use Rattle.reading.proofs.strings.plan_in.Statement.{statement}
 use Rattle.reading.proofs.strings.plan_in.Tie as tie
 
 abbrev step : ℕ
-step = lineLength (frameSize (version01 .string))
+step = lineSize (version01 .string)
 
 -- what is stored of i strings
 abbrev stored : List ℕ → ℕ → ℕ → List BatteryString
@@ -66,8 +66,7 @@ loop-again c =
     let g = begin o .args in
     let few = few o in (
       omega arith,
-      stored-more noString (stringOf version01) 10 (g .text .now) (g .start) step (o .loop .i) (o .loop .strings) (c .string-at .result) (omega arith)
-          (o .loop .inv .1) (c .string-at .ensures),
+      stored-more noString (stringOf version01) 10 _ _ step (o .loop .i) _ _ (omega arith) (o .loop .inv .1) (c .string-at .ensures),
     )
 
 field-at-requires : tie.Need-field-at-requires Inv-loop μ-loop

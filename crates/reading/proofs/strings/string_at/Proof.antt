@@ -21,7 +21,8 @@ field-at-requires-4 c κs = omega (arith, c .before .before .before .before .pre
 returns : tie.Need-returns
 returns c =
     let start = c .before .before .before .before .before in
-    rw (c .field-at4 .ensures, c .before .field-at3 .ensures, c .before .before .field-at2 .ensures, c .before .before .before .field-at .ensures)
+    let t = c .before .before in
+    rw (c .field-at4 .ensures, c .before .field-at3 .ensures, t .field-at2 .ensures, t .before .field-at .ensures)
     (sym (string-is version01 (start .args .text .now) (start .args .at) (start .pre)))
 
 pub string-at-spec : {M : Type 1} → statement M

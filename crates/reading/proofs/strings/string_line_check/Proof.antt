@@ -4,8 +4,8 @@ use borrow.Author.Needs.{needs}
 use Rattle.faults.specs.declared.Checked.the-variants.{Lawful}
 use Rattle.faults.proofs.Checks.{then-lawful, then-refused}
 use Rattle.rules.specs.Plan.{stringLawful}
-use Rattle.rules.specs.Layout.{frameSize, version01}
-use Rattle.rules.specs.Text.{Line, stringOf, frameCheck, stringLineCheck}
+use Rattle.rules.specs.Layout.{version01}
+use Rattle.rules.specs.Text.{Line, stringOf, stringLineCheck, layoutCheck}
 use Rattle.reading.specs.Positions.{lineAt}
 use Rattle.reading.proofs.Framing.{frameCheck-frame}
 use Rattle.reading.proofs.strings.string_line_check.Statement.{statement}
@@ -21,7 +21,7 @@ abbrev lineOf : tie.After-enum-told → Line
 lineOf c = lineAt (start c .args .text .now) (start c .args .at)
 
 -- what the frame's check said, and what the bounds of the string say
-lawful : (c : tie.After-enum-told) → frameCheck (start c .args .k) (version01 .string .kind) (frameSize (version01 .string)) (lineOf c) ≡ Lawful
+lawful : (c : tie.After-enum-told) → layoutCheck (start c .args .k) (version01 .string) (lineOf c) ≡ Lawful
 lawful c = sym (c .before .before .frame-check .ensures) ∙ c .enum-told .given .1
 
 judged : (c : tie.After-string-lawful) → c .string-lawful .result ≡ stringLawful (stringOf version01 (lineOf (told c)))

@@ -9,7 +9,7 @@ use Rattle.faults.specs.declared.Fault.{Fault}
 use Rattle.faults.specs.declared.Fault.the-variants.{FrameWrong}
 use Rattle.faults.specs.declared.Checked.{Checked}
 use Rattle.faults.specs.declared.Checked.the-variants.{Lawful, Refused}
-use Rattle.rules.specs.Layout.{frameSize, lineLength, version01}
+use Rattle.rules.specs.Layout.{version01, lineSize}
 use Rattle.rules.specs.Text.{stringLineCheck, stringLinesCheck}
 use Rattle.reading.specs.Positions.{linesFrom, lineAt}
 use Rattle.reading.proofs.StringLines.{string-frame, strings-missing, strings-bad, strings-good, strings-end}
@@ -17,7 +17,7 @@ use Rattle.reading.proofs.strings.string_lines_check.Statement.{stateme
 use Rattle.reading.proofs.strings.string_lines_check.Tie as tie
 
 abbrev step : ℕ
-step = lineLength (frameSize (version01 .string))
+step = lineSize (version01 .string)
 
 -- what the lines from the i-th on, of n, give
 abbrev left : List ℕ → ℕ → ℕ → ℕ → Checked
@@ -37,8 +37,8 @@ module _ (text : List ℕ) (start n i : ℕ) where
     missing : length text ≤ start + i * step → left text start n i ≡ Refused FrameWrong (i + 2)
     missing ended = rw one (strings-missing version01 text (start + i * step) (i + 2) (n - (i + 1)) ended)
 
-    bad : start + i * step < length text → (f : Fault) (a : ℕ) → stringLineCheck version01 (i + 2) (lineAt text (start + i * step)) ≡ Refused f a
-        → left text start n i ≡ Refused f a
+    bad : start + i * step < length text → (f : Fault) (a : ℕ)
+        → stringLineCheck version01 (i + 2) (lineAt text (start + i * step)) ≡ Refused f a → left text start n i ≡ Refused f a
     bad inside f a e = rw one (strings-bad version01 text (start + i * step) (i + 2) (n - (i + 1)) inside f a e)
 
     next : stringLineCheck version01 (i + 2) (lineAt text (start + i * step)) ≡ Lawful → left text start n i ≡ left text start n (i + 1)
