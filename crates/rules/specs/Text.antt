@@ -4,6 +4,7 @@
 --     wellFormed line       not empty, of even length, hexadecimal digits only, and ended by its 0a
 --     frameOf line          the bytes that a line writes
 --     fieldOf l f line      the number that the field f says, where the line writes a frame of the layout l
+--     layoutCheck k l line  2, then 3, where line k writes no frame of the layout l
 -- v is the version of the plan file:
 --     stringOf v line, releaseOf v line      what a string line and a release line say
 --     planIn v lines, releasesIn v lines     the plan and the releases that lines write, where they are lawful
