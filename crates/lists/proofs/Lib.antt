@@ -7,3 +7,4 @@ pub mod Filling
 pub mod Counts
 pub mod FirstOf
 pub mod FirstN
+pub mod Parts

@@ -42,8 +42,8 @@ use Rattle.horizon.proofs.Verdict.{pass-exactly, pass-count, overload-exactly, 
 use Rattle.sets.specs.BestSet.{BestSet}
 use Rattle.sets.proofs.Search.{setPasses-exactly, Best, search-best, best-search, search-none, none-search}
 use Rattle.sets.proofs.Permissions.{set-is-plan, search-blind-to-x}
-use Rattle.sound.proofs.History.{kinds-add-up}
-use Rattle.sound.proofs.Answers.{answer-clean-days}
+use Rattle.laws.proofs.History.{kinds-add-up}
+use Rattle.sound.proofs.CleanAnswer.{answer-clean-days}
 use Rattle.verdict.proofs.verdict.Reads as verdict
 use Rattle.verdict.proofs.verdict_with.Reads as verdict-with
 use Rattle.verdict.proofs.search.Reads as search-takers

@@ -24,8 +24,11 @@ use Rattle.rules.specs.Said.{Said, lawful, overload, fail, pass, takers,
 use Rattle.rules.specs.Answer.{answerOf}
 use Rattle.rules.specs.Answer as answers
 use Rattle.rules.specs.Lines.{bytesOf, decimalIn, decimal, refusedLine, verdictLine, assignLine, outcomeLine, linesFor}
-use Rattle.lists.specs.Count.{filled, firstOf}
-use Rattle.rules.specs.Text.{before, linesOf, digitOf, wellFormed, pairsOf, frameOf, numberFrom, fieldAt, nIn, aIn, runIn, stringOf, releaseOf, planIn, releasesIn, frameCheck, headerCheck, stringLineCheck, stringLinesCheck, releaseLineCheck, releaseLinesCheck, bodyCheck, linesCheck, textCheck, lawfulReading, readingOf}
+use Rattle.lists.specs.Count.{filled}
+use Rattle.rules.specs.Layout.{numberFrom, fieldAmong, fieldIn}
+use Rattle.rules.specs.Text.{before, linesOf, digitOf, wellFormed, pairsOf, frameOf, fieldOf, frameCheck, nIn, aIn, runIn, stringOf, releaseOf}
+use Rattle.rules.specs.Text.{planIn, releasesIn, versionCheck, headerCheck, stringLineCheck, stringLinesCheck, releaseLineCheck}
+use Rattle.rules.specs.Text.{releaseLinesCheck, bodyCheck, linesCheck, textCheck, lawfulReading, readingOf}
 
 -- ---- Writing plans and texts down
 
@@ -159,7 +162,8 @@ unfolding
     tooClose outOfOrder releaseLawful unlawfulFrom firstUnlawful
     chosen lateAt newSlot joinFrom joined holder payer taken nextUp given useOf spent morning stateAt useOn lateOn history daysOf missDay runOf
     countCheck numbersCheck stringsCheck multipleCheck planCheck setCheck releasesCheck runCheck verdictAnswer setAnswer searchAnswer runAnswer
-    before linesOf digitOf wellFormed pairsOf frameOf numberFrom fieldAt nIn aIn runIn stringOf releaseOf planIn releasesIn
-    frameCheck headerCheck stringLineCheck stringLinesCheck releaseLineCheck releaseLinesCheck bodyCheck linesCheck textCheck lawfulReading readingOf
+    before linesOf digitOf wellFormed pairsOf frameOf numberFrom fieldAmong fieldIn fieldOf
+    nIn aIn runIn stringOf releaseOf planIn releasesIn frameCheck versionCheck headerCheck
+    stringLineCheck stringLinesCheck releaseLineCheck releaseLinesCheck bodyCheck linesCheck textCheck lawfulReading readingOf
     answers.answered answerOf bytesOf decimalIn decimal refusedLine verdictLine assignLine outcomeLine linesFor
 worked = refl

@@ -17,7 +17,7 @@ use Rattle.lists.proofs.Lists.{by-bool}
 use Rattle.laws.proofs.Lawful.{LawfulPlan}
 use Rattle.laws.proofs.ReleaseList.{str}
 use Rattle.sound.specs.Served.{released, dueOf, ForRelease, Named}
-use Rattle.sound.proofs.Chosen.{at}
+use Rattle.laws.proofs.Slots.{at}
 use Rattle.sound.proofs.Using.{Using, idleDay, keptDay, givenDay, Used, spent-using}
 use Rattle.sound.proofs.Orderly.{Live, Orderly, live-if-on, live-if-waits}
 use Rattle.sound.proofs.Arriving.{morning-orderly}
