@@ -1,5 +1,7 @@
--- Every public function allows one result: two results that meet its own contract are equal, and so is what it leaves of lent memory. `Learnt` is what
--- the `ensures` clauses of a function say of its result, so a clause that is weakened or gone is refused here. The test command asks for a line to each.
+-- Every public function allows one result: two results that meet its own contract are equal, and so is what it leaves of lent memory.
+-- `Learnt` is what
+-- the `ensures` clauses of a function say of its result, so a clause that is weakened or gone is refused here. The test command asks for a
+-- line to each.
 --     κs the lifetimes of what is lent; a the arguments; e, f what holds at the return; r, s two results
 use mathlib.Core.Path.{_≡_, sym, _∙_}
 use contract.Lifetimes.{Lfts}
@@ -57,7 +59,8 @@ one-Day-since κs a e f r s h k = h ∙ sym k
 pub one-Day-before : (κs : Lfts 0) (a : _) (e f : _) (r s : Bool) → Day-before.Learnt κs a r e → Day-before.Learnt κs a s f → r ≡ s
 one-Day-before κs a e f r s h k = h ∙ sym k
 
-pub one-Length-shorter : (κs : Lfts 0) (a : _) (e f : _) (r s : Bool) → Length-shorter.Learnt κs a r e → Length-shorter.Learnt κs a s f → r ≡ s
+pub one-Length-shorter : (κs : Lfts 0) (a : _) (e f : _) (r s : Bool) → Length-shorter.Learnt κs a r e → Length-shorter.Learnt κs a s f
+    → r ≡ s
 one-Length-shorter κs a e f r s h k = h ∙ sym k
 
 -- faults
@@ -65,7 +68,8 @@ pub one-fault-number : (κs : Lfts 0) (a : _) (e f : _) (r s : ℕ) → fault-nu
 one-fault-number κs a e f r s h k = h ∙ sym k
 
 -- rules
-pub one-Plan-moving-cost : (κs : Lfts 0) (a : _) (e f : _) (r s : Length) → Plan-moving-cost.Learnt κs a r e → Plan-moving-cost.Learnt κs a s f → r ≡ s
+pub one-Plan-moving-cost : (κs : Lfts 0) (a : _) (e f : _) (r s : Length) → Plan-moving-cost.Learnt κs a r e
+    → Plan-moving-cost.Learnt κs a s f → r ≡ s
 one-Plan-moving-cost κs a e f r s h k = h ∙ sym k
 
 -- slots
@@ -100,7 +104,8 @@ one-first-unlawful κs a e f r s h k = h ∙ sym k
 pub one-head-check : (κs : Lfts 0) (a : _) (e f : _) (r s : Checked) → head-check.Learnt κs a r e → head-check.Learnt κs a s f → r ≡ s
 one-head-check κs a e f r s h k = h ∙ sym k
 
-pub one-multiple-check : (κs : Lfts 0) (a : _) (e f : _) (r s : Checked) → multiple-check.Learnt κs a r e → multiple-check.Learnt κs a s f → r ≡ s
+pub one-multiple-check : (κs : Lfts 0) (a : _) (e f : _) (r s : Checked) → multiple-check.Learnt κs a r e
+    → multiple-check.Learnt κs a s f → r ≡ s
 one-multiple-check κs a e f r s h k = h ∙ sym k
 
 pub one-plan-check : (κs : Lfts 0) (a : _) (e f : _) (r s : Checked) → plan-check.Learnt κs a r e → plan-check.Learnt κs a s f → r ≡ s

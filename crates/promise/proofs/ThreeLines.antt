@@ -105,12 +105,14 @@ module _ (κs : Lfts 1) (lent : _) (e : _) (r : Answer) (answered : answer.Learn
   pub first-line-answers : Refuses (verdictSays v) → ⊥
   unfolding plan-read
   first-line-answers refuses =
-      verdictOf-answers plan-read (subst (λ w. Refuses (verdictSays w)) (sym (parts .verdict-is) ∙ verdict-lawful plan-read plan-lawful) refuses)
+      verdictOf-answers plan-read (subst (λ w. Refuses (verdictSays w)) (sym (parts .verdict-is) ∙ verdict-lawful plan-read plan-lawful)
+      refuses)
 
   pub second-line-answers : Refuses (assignSays a) → ⊥
   unfolding plan-read
   second-line-answers refuses =
-      searchOf-answers plan-read (subst (λ w. Refuses (assignSays w)) (sym (parts .assign-is) ∙ search-lawful plan-read plan-lawful) refuses)
+      searchOf-answers plan-read (subst (λ w. Refuses (assignSays w)) (sym (parts .assign-is) ∙ search-lawful plan-read plan-lawful)
+      refuses)
 
   pub third-line-answers : Refuses (outcomeSays o) → ⊥
   unfolding plan-read list-read

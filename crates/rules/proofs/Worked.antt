@@ -142,7 +142,8 @@ table =
     ∷ row (read-text sample) (says lawful)
     ∷ row (file sample) (written (bytesOf "verdict pass pairs 44\nassign 1\nrun clean work 8 move 1 idle 11\n"))
     -- its second string with T 1001
-    ∷ row (file (line 18 0x010102000100000014 ++ line 16 0x0201000a00030005 ++ line 16 0x020003e90005000a)) (written (bytesOf "refused 5 line 3\n"))
+    ∷ row (file (line 18 0x010102000100000014 ++ line 16 0x0201000a00030005 ++ line 16 0x020003e90005000a))
+    (written (bytesOf "refused 5 line 3\n"))
     ∷ row (file []) (written (bytesOf "refused 3 line 1\n"))
     -- equal deadlines never take the bank
     ∷ row (run-with level 2 (release 0 1 5 ∷ release 1 2 3 ∷ [])) (says (clean 8 0 12))
@@ -160,8 +161,10 @@ unfolding
     pairsAt allPairs broken firstOf compared judged verdictOf isPass
     permit withSet setPasses setsOf ordered searchOf
     tooClose outOfOrder releaseLawful unlawfulFrom firstUnlawful
-    chosen lateAt newSlot joinFrom joined holder payer taken nextUp given useOf spent morning stateAt useOn lateOn history daysOf missDay runOf
-    countCheck numbersCheck stringsCheck multipleCheck planCheck setCheck releasesCheck runCheck verdictAnswer setAnswer searchAnswer runAnswer
+    chosen lateAt newSlot joinFrom joined holder payer taken nextUp given useOf spent morning stateAt useOn lateOn history daysOf missDay
+    runOf
+    countCheck numbersCheck stringsCheck multipleCheck planCheck setCheck releasesCheck runCheck verdictAnswer setAnswer searchAnswer
+    runAnswer
     before linesOf digitOf wellFormed pairsOf frameOf numberFrom fieldAmong fieldIn fieldOf
     nIn aIn runIn stringOf releaseOf planIn releasesIn frameCheck versionCheck headerCheck
     stringLineCheck stringLinesCheck releaseLineCheck releaseLinesCheck bodyCheck linesCheck textCheck lawfulReading readingOf

@@ -30,7 +30,8 @@ never-misses p rs h passes =
 
 module _ (p : Plan) (w m i : Length) where
   -- how a run that ends clean is counted
-  runOf-clean-days : (rs : List Release) → runOf p rs ≡ Clean w m i → Clean (daysOf p rs isWork) (daysOf p rs isMove) (daysOf p rs isIdle) ≡ Clean w m i
+  runOf-clean-days : (rs : List Release) → runOf p rs ≡ Clean w m i
+      → Clean (daysOf p rs isWork) (daysOf p rs isMove) (daysOf p rs isIdle) ≡ Clean w m i
   unfolding runOf
   runOf-clean-days rs h =
       by-bool (leb (missDay p rs) (p .run .0))

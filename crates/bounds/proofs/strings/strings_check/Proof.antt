@@ -69,7 +69,8 @@ loop-again c =
     let i = at .loop .i in
     let fits : n ≤ length (p .strings) = omega arith in
     let inside : i < n = omega arith in
-    let next = stringsCheck-good (i + 1) n i (p .strings) inside fits (sym (c .before .string-lawful .ensures) ∙ not-false _ (c .if1 .left)) in
+    let next = stringsCheck-good (i + 1) n i (p .strings) inside fits
+    (sym (c .before .string-lawful .ensures) ∙ not-false _ (c .if1 .left)) in
     (omega arith, omega arith, at .loop .inv .2, sym next ∙ at .loop .inv .3)
 
 returns-2 : tie.Need-returns-2 Inv-loop μ-loop
