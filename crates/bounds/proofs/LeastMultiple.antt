@@ -20,7 +20,7 @@ use Rattle.rules.specs.declared.Plan.{Plan}
 use Rattle.rules.specs.Count.{every}
 use Rattle.rules.specs.Plan.{stringsOf, noString, inBounds, commonMultiple, multipleOf}
 use Rattle.laws.proofs.Lists.{by-bool, true-not-false}
-use Rattle.laws.proofs.Lawful.{inBounds-low, inBounds-high, inBounds-yes, inBounds-not, multipleOf-found, multipleOf-over}
+use Rattle.laws.proofs.Lawful.{inBounds-low, inBounds-yes, inBounds-not, multipleOf-found, multipleOf-over}
 use Rattle.bounds.specs.Capped.{capped}
 
 -- ---- capped

@@ -65,7 +65,7 @@ module _ (a b : ℕ) where
   unfolding lcm
   lcm-zero-right none = rw (none, mul-zero a) (zero-div _)
 
-  -- past the bound there is no way back: no number from 1 to bound is a multiple of both
+  -- a step past the bound never comes back: where the least common multiple is not 1 to bound, no number there is a multiple of both
   pub lcm-past : (bound k : ℕ) → (zero < lcm a b → lcm a b ≤ bound → ⊥) → zero < k → k ≤ bound → a ∣ k → b ∣ k → ⊥
   lcm-past bound k out low high h m = dvd-past (lcm a b) bound k out low high (lcm-dvd k h m)
 
@@ -113,7 +113,7 @@ module _ {ℓ} {A : Type ℓ} (f : A → ℕ) where
       lcm-dvd (f x) (lcmOf f (take i xs)) _ (dvd-lcm-left (f x) (lcmOf f xs))
       (dvd-trans _ (lcmOf-take-dvd xs i) (dvd-lcm-right (f x) (lcmOf f xs)))
 
-  -- where the first i are past the bound, all are: no number from 1 to bound is a common multiple
+  -- nor with more in the list: where the first i are past the bound, no number from 1 to bound is a common multiple of all
   pub lcmOf-past : (xs : List A) (i bound k : ℕ) → (zero < lcmOf f (take i xs) → lcmOf f (take i xs) ≤ bound → ⊥)
       → zero < k → k ≤ bound → CommonMultiple f xs k → ⊥
   lcmOf-past xs i bound k out low high h =

@@ -1,10 +1,9 @@
 -- `bounds::periods::multiple` meets its contract: H so far is the least common multiple of the strings done.
-use Prim.Native.Nat.{_-_, _≤_}
+use Prim.Native.Nat.{_-_}
 use mathlib.Core.Path.{_≡_, ap, _∙_}
 use native.Mathlib.Omega.{arith}
 use borrow.Author.Needs.{needs}
 use lib.ListN.{length, take, length-map}
-use Rattle.rules.specs.declared.Plan.{Plan}
 use Rattle.rules.specs.Plan.{stringsOf}
 use Rattle.bounds.proofs.ByPlace.{take-min}
 use Rattle.bounds.proofs.LeastMultiple.{Done, done-start, done-next, done-past, done-end}
