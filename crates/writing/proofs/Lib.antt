@@ -1,0 +1,2 @@
+-- Laws of texts that are written one after the other.
+pub mod Texts

@@ -1,0 +1,29 @@
+-- For the proofs inside this crate: a frame as the code holds it.
+--     numberText size n     the digits of a number in size bytes
+--     cellText c            the digits of a cell
+--     cellsSize cs          the bytes of the cells' numbers
+--     cellsText cs          the digits of the cells, one after the other
+--     Room cells count k    so many cells there are, and k bytes of the page hold their line
+use Prim.Native.Nat.{ℕ, _+_, _*_, _≤_}
+use mathlib.Core.List.{List, flatMap}
+use lib.ListN.{length, take}
+use Rattle.lists.specs.Count.{sumOf}
+use Rattle.writing.specs.declared.cells.Cell.{Cell}
+use Rattle.writing.specs.Written.{numberBytes, byteText}
+
+unfoldable pub numberText : ℕ → ℕ → List ℕ
+numberText size n = flatMap byteText (numberBytes size n)
+
+abbrev pub cellText : Cell → List ℕ
+cellText c = numberText (c .size) (c .value)
+
+unfoldable pub cellsSize : List Cell → ℕ
+cellsSize cs = sumOf (λ c. c .size) cs
+
+unfoldable pub cellsText : List Cell → List ℕ
+cellsText cs = flatMap cellText cs
+
+pub record Room (cells : List Cell) (count k : ℕ) : Type 0 where
+  pub few : count ≤ 7
+  pub there : count ≤ length cells
+  pub bytes : cellsSize (take count cells) * 2 + 1 ≤ k
