@@ -170,3 +170,20 @@ cellsSize-within cs z i (suc k) h within =
           let same : i ≡ k = omega arith in
           rw same (omega arith)
     ]
+
+-- ---- Cells and frames
+
+flatMap-flatMap {ℓ κ ι} : {A : Type ℓ} {B : Type κ} {C : Type ι} (f : A → List B) (g : B → List C) (xs : List A)
+    → flatMap g (flatMap f xs) ≡ flatMap (λ x. flatMap g (f x)) xs
+unfolding flatMap
+flatMap-flatMap f g [] = refl
+flatMap-flatMap f g (x ∷ xs) = flatMap-append g (f x) (flatMap f xs) ∙ ap (λ rest. flatMap g (f x) ++ rest) (flatMap-flatMap f g xs)
+
+-- a cell of one byte for the kind, then those of the fields
+pub cells-frame : (kind : ℕ) (cs : List Cell) → kind % 256 ≡ kind
+    → cellsText (record { size = 1; value = kind } ∷ cs) ≡ flatMap byteText (kind ∷ flatMap (λ c. numberBytes (c .size) (c .value)) cs)
+unfolding cellsText numberText numberBytes flatMap
+cells-frame kind cs small =
+    rw small
+    (ap (λ text. text ++ flatMap cellText cs) (append-nil (byteText kind))
+    ∙ ap (λ rest. byteText kind ++ rest) (sym (flatMap-flatMap (λ c. numberBytes (c .size) (c .value)) byteText cs)))

@@ -4,12 +4,15 @@
 --     cellsSize cs          the bytes of the cells' numbers
 --     cellsText cs          the digits of the cells, one after the other
 --     Room cells count k    so many cells there are, and k bytes of the page hold their line
+--     SaysFrame cells count l says    the first count of seven cells write the frame of the layout l that says so
 use Prim.Native.Nat.{ℕ, _+_, _*_, _≤_}
+use mathlib.Core.Path.{_≡_}
 use mathlib.Core.List.{List, flatMap}
 use lib.ListN.{length, take}
 use Rattle.lists.specs.Count.{sumOf}
+use Rattle.rules.specs.Layout.{Field, Layout, frameSize}
 use Rattle.writing.specs.declared.cells.Cell.{Cell}
-use Rattle.writing.specs.Written.{numberBytes, byteText}
+use Rattle.writing.specs.Written.{numberBytes, byteText, frameBytes}
 
 unfoldable pub numberText : ℕ → ℕ → List ℕ
 numberText size n = flatMap byteText (numberBytes size n)
@@ -27,3 +30,8 @@ pub record Room (cells : List Cell) (count k : ℕ) : Type 0 where
   pub few : count ≤ 7
   pub there : count ≤ length cells
   pub bytes : cellsSize (take count cells) * 2 + 1 ≤ k
+
+pub record SaysFrame (cells : List Cell) (count : ℕ) (l : Layout) (says : Field → ℕ) : Type 0 where
+  pub seven : length cells ≡ 7
+  pub size : cellsSize (take count cells) ≡ frameSize l
+  pub text : cellsText (take count cells) ≡ flatMap byteText (frameBytes l says)

@@ -16,10 +16,8 @@ pub(crate) struct Cell {
 // The first `count` cells as a line.
 pub(crate) fn put_frame(part: &mut [u8], cells: [Cell; 7], count: usize)
     requires { ⌜ Room cells count (length (now part)) ⌝ }
-    ensures exact {
-        λ r. ⌜ now (part .exit) ≡ (cellsText (take count cells) ++ (0x0a ∷ []))
-            ++ drop (cellsSize (take count cells) * 2 + 1) (now (part .entry)) ⌝
-    }
+    ensures exact { λ r. ⌜ now (part .exit) ≡ (cellsText (take count cells) ++ (0x0a ∷ []))
+        ++ drop (cellsSize (take count cells) * 2 + 1) (now (part .entry)) ⌝ }
 {
     let mut at: usize = 0;
     let mut i: usize = 0;

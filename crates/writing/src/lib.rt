@@ -1,6 +1,7 @@
 // A plan and its releases, written as frames into the caller's page.
-mod digits;
 mod cells;
+mod digits;
+mod says;
 
 use faults::Fault;
 

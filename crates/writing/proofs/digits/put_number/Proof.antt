@@ -60,8 +60,7 @@ loop-again c =
     let number : suc k ≡ i = omega arith in
     let known = c .before .before .put-byte .ensures in
     let same = number-step k rest part next (omega arith) known in
-    let before : numberText (suc k) rest ++ drop (suc k * 2) part ≡ numberText i rest ++ drop (i * 2) part = rw number in
-    (
+    let before : numberText (suc k) rest ++ drop (suc k * 2) part ≡ numberText i rest ++ drop (i * 2) part = rw number in (
       omega arith,
       lent-length (k * 2) part (byteText (rest % 256)) next (omega arith) known (omega (arith, byteText-length (rest % 256))) ∙ at-loop .loop .inv .1,
       same ∙ before ∙ at-loop .loop .inv .2,
