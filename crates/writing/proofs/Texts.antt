@@ -10,9 +10,10 @@ use lib.ListN.{length, take, drop, getD, set, length-append, length-drop}
 use lib.Seq.{take-append-seam, drop-append-seam, drop-drop, drop-at, length-take-le, take-all, take-suc, drop-length}
 use borrow.Rule.Slice.PartMut.{putMid, postOf, post-is, same-len-mid}
 use Rattle.lists.specs.Count.{sumOf}
+use Rattle.rules.specs.Layout.{Field, Sized, Layout, sizeOf, frameSize}
 use Rattle.writing.specs.declared.cells.Cell.{Cell}
-use Rattle.writing.specs.Written.{numberBytes, byteText, lineText}
-use Rattle.writing.specs.Cells.{numberText, cellText, cellsSize, cellsText}
+use Rattle.writing.specs.Written.{numberBytes, byteText, frameBytes, lineText}
+use Rattle.writing.specs.Cells.{numberText, cellText, cellsSize, cellsText, SaysFrame}
 
 -- ---- Lists
 
@@ -149,16 +150,6 @@ module _ (cs : List Cell) (z : Cell) (i : ℕ) (h : i < length cs) where
       ap (flatMap cellText) step ∙ flatMap-append cellText (take i cs) (getD cs i z ∷ [])
       ∙ ap (λ rest. flatMap cellText (take i cs) ++ rest) (flatMap-one cellText (getD cs i z) ∙ append-nil (cellText (getD cs i z)))
 
--- what follows is written into the next part: the text so far, then u
-pub next-part : (before t u part next : List ℕ) (a size : ℕ) → length t ≡ a → length u ≡ size → a + size ≤ length part
-    → part ≡ t ++ drop (length t) before → next ≡ u ++ drop size (take (length part - a) (drop a part))
-    → putMid a (length part - a) part next ≡ (t ++ u) ++ drop (length (t ++ u)) before
-next-part before t u part next a size long more room is got =
-    let here : a ≤ length part = omega arith in
-    let both : length (t ++ u) ≡ length t + length u = length-append t u in
-    lent-back a part next here
-    ∙ rw (got, lent-part a part, both, ← long, ← more) (next-text before t u part is)
-
 -- the size of the first cells grows with their number
 pub cellsSize-within : (cs : List Cell) (z : Cell) (i k : ℕ) → i < k → k ≤ length cs → cellsSize (take i cs) + getD cs i z .size ≤ cellsSize (take k cs)
 cellsSize-within cs z i zero h within = absurd (not-suc-le-zero h)
@@ -170,6 +161,29 @@ cellsSize-within cs z i (suc k) h within =
           let same : i ≡ k = omega arith in
           rw same (omega arith)
     ]
+
+-- ---- A text that stands at the head of a part
+
+-- the part holds the text, and behind it what stood there before
+pub record Stands (before text part : List ℕ) : Type 0 where
+  pub size : length part ≡ length before
+  pub is : part ≡ text ++ drop (length text) before
+
+pub stands-none : (before : List ℕ) → Stands before [] before
+stands-none before = record { size = refl; is = refl }
+
+-- what follows is written into the next part
+pub stands-next : (before t u part next : List ℕ) (a size : ℕ) → Stands before t part → length t ≡ a → length u ≡ size → a + size ≤ length part
+    → next ≡ u ++ drop size (take (length part - a) (drop a part)) → Stands before (t ++ u) (putMid a (length part - a) part next)
+stands-next before t u part next a size stands long more room got =
+    let here : a ≤ length part = omega arith in
+    let counted = got ∙ ap (λ k. u ++ drop k (take (length part - a) (drop a part))) (sym more) in
+    record {
+      size = lent-length a part u next here counted (omega arith) ∙ stands .size;
+      is =
+          lent-back a part next here
+          ∙ rw (got, lent-part a part, length-append t u, ← long, ← more) (next-text before t u part (stands .is));
+    }
 
 -- ---- Cells and frames
 
@@ -187,3 +201,31 @@ cells-frame kind cs small =
     rw small
     (ap (λ text. text ++ flatMap cellText cs) (append-nil (byteText kind))
     ∙ ap (λ rest. byteText kind ++ rest) (sym (flatMap-flatMap (λ c. numberBytes (c .size) (c .value)) byteText cs)))
+
+-- ---- Lines
+
+pub lineText-length : (frame : List ℕ) → length (lineText frame) ≡ length frame * 2 + 1
+unfolding lineText
+lineText-length frame = length-append (flatMap byteText frame) (0x0a ∷ []) ∙ ap (λ k. k + 1) (flatMap-length byteText 2 byteText-length frame)
+
+fields-length : (fields : List Sized) (says : Field → ℕ)
+    → length (flatMap (λ s. numberBytes (s .size) (says (s .field))) fields) ≡ sizeOf fields
+unfolding flatMap
+fields-length [] says = refl
+fields-length (s ∷ fields) says =
+    let rest = fields-length fields says in
+    omega (
+      arith,
+      length-append (numberBytes (s .size) (says (s .field))) (flatMap (λ f. numberBytes (f .size) (says (f .field))) fields),
+      numberBytes-length (s .size) (says (s .field)),
+    )
+
+pub frameBytes-length : (l : Layout) (says : Field → ℕ) → length (frameBytes l says) ≡ frameSize l
+unfolding frameBytes
+frameBytes-length l says = omega (arith, fields-length (l .fields) says)
+
+-- what put_frame writes for cells that say a frame
+pub says-line : (cells : List Cell) (count : ℕ) (l : Layout) (says : Field → ℕ) → SaysFrame cells count l says
+    → cellsText (take count cells) ++ (0x0a ∷ []) ≡ lineText (frameBytes l says)
+unfolding lineText
+says-line cells count l says s = ap (λ digits. digits ++ (0x0a ∷ [])) (s .text)

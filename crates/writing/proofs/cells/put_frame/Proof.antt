@@ -1,6 +1,6 @@
 -- `put_frame` meets its contract. Invariant: the cells so far stand at the head of the part, and what stood behind them stays.
 use Prim.Native.Nat.{ℕ, _+_, _*_, _-_, _≤_, _<_}
-use mathlib.Core.Path.{_≡_, refl, sym, ap, _∙_}
+use mathlib.Core.Path.{_≡_, refl, sym, ap, _∙_, subst}
 use mathlib.Core.List.{List, [], _∷_, _++_, flatMap}
 use native.Mathlib.Omega.{arith}
 use lib.ListN.{length, take, drop, getD, length-drop, length-append}
@@ -8,7 +8,7 @@ use borrow.Rule.Slice.PartMut.{putMid}
 use Rattle.writing.specs.declared.cells.Cell.{Cell}
 use Rattle.lists.specs.Count.{sumOf}
 use Rattle.writing.specs.Cells.{numberText, cellsSize, cellsText, Room}
-use Rattle.writing.proofs.Texts.{lent-part, lent-length, next-part, numberText-length, cellsText-length, cellsSize-step, cellsText-step, cellsSize-within}
+use Rattle.writing.proofs.Texts.{lent-part, lent-length, Stands, stands-none, stands-next, numberText-length, cellsText-length, cellsSize-step, cellsText-step, cellsSize-within}
 use Rattle.writing.proofs.cells.put_frame.Statement.{statement}
 use Rattle.writing.proofs.cells.put_frame.Tie as tie
 use Rattle.writing.proofs.cells.put_frame.Reads as reads
@@ -23,20 +23,19 @@ noCell = record { size = 0; value = 0 }
 -- the first i cells stand at the head of the part
 pub record Standing (before : List ℕ) (cells : List Cell) (part : List ℕ) (at i : ℕ) : Type 0 where
   pub place : at ≡ cellsSize (take i cells)
-  pub size : length part ≡ length before
-  pub text : part ≡ cellsText (take i cells) ++ drop (length (cellsText (take i cells))) before
+  pub text : Stands before (cellsText (take i cells)) part
 
 -- there is room for the next cell and for the end
 next-room : (before part : List ℕ) (cells : List Cell) (at i count : ℕ) → Standing before cells part at i → i < count → Room cells count (length before)
     → at * 2 + getD cells i noCell .size * 2 + 1 ≤ length part
-next-room before part cells at i count s h room = omega (arith, s .place, s .size, room .bytes, cellsSize-within cells noCell i count h (room .there))
+next-room before part cells at i count s h room = omega (arith, s .place, s .text .size, room .bytes, cellsSize-within cells noCell i count h (room .there))
 
 -- all cells stand: there is room for the end
 end-room : (before part : List ℕ) (cells : List Cell) (at i count : ℕ) → Standing before cells part at i → i ≡ count → Room cells count (length before)
     → at * 2 + 1 ≤ length part
 end-room before part cells at i count s e room =
     let all : cellsSize (take i cells) ≡ cellsSize (take count cells) = ap (λ k. cellsSize (take k cells)) e in
-    omega (arith, s .place, s .size, room .bytes)
+    omega (arith, s .place, s .text .size, room .bytes)
 
 end-stands : (before part next : List ℕ) (cells : List Cell) (at i count : ℕ) → Standing before cells part at i → i ≡ count → at * 2 + 1 ≤ length part
     → next ≡ (0x0a ∷ []) ++ drop 1 (take (length part - at * 2) (drop (at * 2) part))
@@ -46,8 +45,7 @@ end-stands before part next cells at i count s e room got =
     let so-far : length (cellsText (take i cells)) ≡ at * 2 = cellsText-length (take i cells) ∙ ap (λ k. k * 2) (sym (s .place)) in
     let all : length (cellsText (take count cells) ++ (0x0a ∷ [])) ≡ cellsSize (take count cells) * 2 + 1 =
     length-append (cellsText (take count cells)) (0x0a ∷ []) ∙ ap (λ k. k + 1) (cellsText-length (take count cells)) in
-    next-part before (cellsText (take i cells)) (0x0a ∷ []) part next (at * 2) 1 so-far refl room (s .text) got
-    ∙ rw (e, all)
+    stands-next before (cellsText (take i cells)) (0x0a ∷ []) part next (at * 2) 1 (s .text) so-far refl room got .is ∙ rw (e, all)
 
 -- one cell more stands
 next-stands : (before part next : List ℕ) (cells : List Cell) (at i : ℕ) → Standing before cells part at i → i < length cells
@@ -56,15 +54,13 @@ next-stands : (before part next : List ℕ) (cells : List Cell) (at i : ℕ) →
     → Standing before cells (putMid (at * 2) (length part - at * 2) part next) (at + getD cells i noCell .size) (i + 1)
 next-stands before part next cells at i s h room got =
     let cell = getD cells i noCell in
-    let long = numberText-length (cell .size) (cell .value) in
     let so-far : length (cellsText (take i cells)) ≡ at * 2 = cellsText-length (take i cells) ∙ ap (λ k. k * 2) (sym (s .place)) in
-    let counted = got ∙ ap (λ k. numberText (cell .size) (cell .value) ++ drop k (take (length part - at * 2) (drop (at * 2) part))) (sym long) in
     record {
       place = ap (λ k. k + cell .size) (s .place) ∙ sym (cellsSize-step cells noCell i h);
-      size = lent-length (at * 2) part (numberText (cell .size) (cell .value)) next (omega arith) counted (omega arith) ∙ s .size;
       text =
-          next-part before (cellsText (take i cells)) (numberText (cell .size) (cell .value)) part next (at * 2) (cell .size * 2) so-far long room (s .text) got
-          ∙ ap (λ u. u ++ drop (length u) before) (sym (cellsText-step cells noCell i h));
+          subst (λ text. Stands before text (putMid (at * 2) (length part - at * 2) part next)) (sym (cellsText-step cells noCell i h))
+          (stands-next before (cellsText (take i cells)) (numberText (cell .size) (cell .value)) part next (at * 2) (cell .size * 2) (s .text) so-far
+          (numberText-length (cell .size) (cell .value)) room got);
     }
 
 abbrev Inv-loop : tie.InvT-loop
@@ -75,7 +71,7 @@ abbrev μ-loop : tie.MeasureT-loop
 
 loop-holds : tie.Need-loop-holds Inv-loop μ-loop
 unfolding cellsSize cellsText sumOf flatMap
-loop-holds c = (omega arith, record { place = refl; size = refl; text = refl })
+loop-holds c = (omega arith, record { place = refl; text = stands-none _ })
 
 mul-cell : tie.Need-mul-cell Inv-loop μ-loop
 mul-cell c = omega arith
@@ -182,7 +178,7 @@ same-length c =
     let s = o .before .before in
     let fits = end-room (s .args .part .now) (o .loop .part) (s .args .t2) (o .loop .at) (o .loop .i) (s .args .count) (o .loop .inv .1) (omega arith) (s .pre) in
     lent-length (o .loop .at * 2) (o .loop .part) (0x0a ∷ []) (c .before .before .put-end .last .0) (omega arith) (c .before .before .put-end .ensures) (omega arith)
-    ∙ o .loop .inv .1 .size
+    ∙ o .loop .inv .1 .text .size
 
 returns : tie.Need-returns Inv-loop μ-loop
 returns c =
