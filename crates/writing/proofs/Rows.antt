@@ -6,15 +6,18 @@ use mathlib.Core.List.{List, [], _∷_, _++_, flatMap, append-nil}
 use native.Mathlib.Omega.{arith}
 use native.Mathlib.Numerals.{add-one}
 use native.Mathlib.Nat.{suc-mul, mul-le-mul-right}
-use lib.ListN.{length, take, drop, getD}
+use lib.ListN.{length, take, drop, getD, length-append}
 use lib.Seq.{take-suc, take-all, length-take-le}
 use borrow.Rule.Slice.PartMut.{putMid}
 use Rattle.rules.specs.declared.BatteryString.{BatteryString}
 use Rattle.rules.specs.declared.Plan.{Plan}
 use Rattle.rules.specs.declared.Release.{Release}
+use Rattle.rules.specs.declared.Releases.{Releases}
+use Rattle.rules.specs.Plan.{stringsOf}
+use Rattle.rules.specs.Release.{releasesOf}
 use Rattle.rules.specs.Layout.{Field, Layout, frameSize, lineLength, version01}
 use Rattle.writing.specs.declared.cells.Cell.{Cell}
-use Rattle.writing.specs.Written.{frameBytes, lineText, headerSays, stringSays, releaseSays, headerText, stringText, releaseText}
+use Rattle.writing.specs.Written.{frameBytes, lineText, headerSays, stringSays, releaseSays, headerText, stringText, releaseText, planText}
 use Rattle.writing.specs.Cells.{cellsSize, cellsText, Room, SaysFrame}
 use Rattle.writing.proofs.Texts.{flatMap-append, flatMap-one, flatMap-length, Stands, stands-none, stands-next}
 use Rattle.writing.proofs.Texts.{lineText-length, frameBytes-length, says-line}
@@ -87,3 +90,28 @@ pub line-room : (cells : List Cell) (count : ℕ) (l : Layout) (says : Field →
     → lineLength (frameSize l) ≤ k → Room cells count k
 line-room cells count l says k s few room =
     record { few = few; there = omega (arith, s .seven); bytes = omega (arith, ap (λ n. n * 2 + 1) (s .size)) }
+
+-- ---- The whole text
+
+module _ (p : Plan) (rs : Releases) (strings-many : length (stringsOf p) ≡ p .n) (releases-many : length (releasesOf rs) ≡ rs .count) where
+  pub strings-long : length (flatMap (stringText version01) (stringsOf p)) ≡ p .n * 17
+  strings-long = flatMap-length (stringText version01) 17 stringText-length (stringsOf p) ∙ ap (λ n. n * 17) strings-many
+
+  pub releases-long : length (flatMap (releaseText version01) (releasesOf rs)) ≡ rs .count * 17
+  releases-long = flatMap-length (releaseText version01) 17 releaseText-length (releasesOf rs) ∙ ap (λ n. n * 17) releases-many
+
+  pub text-long : length (planText version01 p (releasesOf rs)) ≡ 19 + p .n * 17 + rs .count * 17
+  unfolding planText
+  text-long =
+      length-append (headerText version01 p ++ flatMap (stringText version01) (stringsOf p)) (flatMap (releaseText version01) (releasesOf rs)) ∙ sum
+    where
+      sum : length (headerText version01 p ++ flatMap (stringText version01) (stringsOf p)) + length (flatMap (releaseText version01) (releasesOf rs))
+          ≡ 19 + p .n * 17 + rs .count * 17
+      sum =
+          omega (
+            arith,
+            headerText-length p,
+            strings-long,
+            releases-long,
+            length-append (headerText version01 p) (flatMap (stringText version01) (stringsOf p)),
+          )

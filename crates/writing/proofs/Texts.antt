@@ -172,6 +172,14 @@ pub record Stands (before text part : List ℕ) : Type 0 where
 pub stands-none : (before : List ℕ) → Stands before [] before
 stands-none before = record { size = refl; is = refl }
 
+-- a text at the head of the whole part
+pub stands-first : (before t part : List ℕ) (size : ℕ) → length t ≡ size → size ≤ length before → part ≡ t ++ drop size before → Stands before t part
+stands-first before t part size long room got =
+    record {
+      size = ap length got ∙ omega (arith, length-append t (drop size before), length-drop size before);
+      is = got ∙ ap (λ k. t ++ drop k before) (sym long);
+    }
+
 -- what follows is written into the next part
 pub stands-next : (before t u part next : List ℕ) (a size : ℕ) → Stands before t part → length t ≡ a → length u ≡ size → a + size ≤ length part
     → next ≡ u ++ drop size (take (length part - a) (drop a part)) → Stands before (t ++ u) (putMid a (length part - a) part next)

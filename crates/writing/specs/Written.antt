@@ -14,7 +14,7 @@ use Rattle.rules.specs.declared.BatteryString.{BatteryString}
 use Rattle.rules.specs.declared.Plan.{Plan}
 use Rattle.rules.specs.declared.Release.{Release}
 use Rattle.rules.specs.Plan.{stringsOf}
-use Rattle.rules.specs.Layout.{Field, Sized, Layout, Frames}
+use Rattle.rules.specs.Layout.{Field, Layout, Frames}
 use Rattle.rules.specs.Layout as layout
 
 unfoldable pub numberBytes : ℕ → ℕ → List ℕ

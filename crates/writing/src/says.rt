@@ -19,7 +19,6 @@ use frames::VERSION;
 use rules::BatteryString;
 use rules::Plan;
 use rules::Release;
-ghost use mathlib.Core.Path.{_≡_};
 ghost use Prim.Native.Nat.{_≤_};
 ghost use Rattle.rules.specs.Layout.{version01};
 ghost use Rattle.writing.specs.Written.{headerSays, stringSays, releaseSays};

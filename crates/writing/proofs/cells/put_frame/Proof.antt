@@ -11,10 +11,6 @@ use Rattle.writing.specs.Cells.{numberText, cellsSize, cellsText, Room}
 use Rattle.writing.proofs.Texts.{lent-part, lent-length, Stands, stands-none, stands-next, numberText-length, cellsText-length, cellsSize-step, cellsText-step, cellsSize-within}
 use Rattle.writing.proofs.cells.put_frame.Statement.{statement}
 use Rattle.writing.proofs.cells.put_frame.Tie as tie
-use Rattle.writing.proofs.cells.put_frame.Reads as reads
-use Rattle.writing.proofs.cells.put_frame.Lts as lts
-use Rattle.writing.proofs.digits.put_end.Reads as put-end-reads
-use Rattle.writing.proofs.digits.put_number.Reads as put-number-reads
 
 -- stands where there is no cell
 abbrev noCell : Cell

@@ -1,5 +1,4 @@
 -- `put_end` meets its contract: the 0a stands where the first byte stood.
-use native.Mathlib.Omega.{arith}
 use borrow.Author.Needs.{needs}
 use Rattle.writing.proofs.Texts.{set-one}
 use Rattle.writing.proofs.digits.put_end.Statement.{statement}

@@ -10,9 +10,6 @@ use Rattle.writing.specs.Cells.{numberText}
 use Rattle.writing.proofs.Texts.{lent-part, lent-length, byteText-length, number-done, number-step}
 use Rattle.writing.proofs.digits.put_number.Statement.{statement}
 use Rattle.writing.proofs.digits.put_number.Tie as tie
-use Rattle.writing.proofs.digits.put_number.Reads as reads
-use Rattle.writing.proofs.digits.put_number.Lts as lts
-use Rattle.writing.proofs.digits.put_byte.Reads as put-byte-reads
 
 abbrev Inv-loop : tie.InvT-loop
 Inv-loop part₀ size n i₀ rest₀ part i rest =

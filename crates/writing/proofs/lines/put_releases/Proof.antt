@@ -1,9 +1,9 @@
 -- `put_releases` meets its contract. Invariant: the lines of the releases so far stand at the head of the part.
 use Prim.Native.Nat.{ℕ, _+_, _-_, _*_, _≤_, _<_}
-use mathlib.Core.Path.{_≡_, sym, ap, _∙_, subst}
+use mathlib.Core.Path.{_≡_, ap, subst}
 use mathlib.Core.List.{List}
 use native.Mathlib.Omega.{arith}
-use lib.ListN.{length, take, drop, getD, length-drop}
+use lib.ListN.{length, take, getD, length-drop}
 use lib.Seq.{length-take-le, getD-take}
 use Rattle.rules.specs.declared.Release.{Release}
 use Rattle.rules.specs.declared.Releases.{Releases}
@@ -16,10 +16,6 @@ use Rattle.writing.proofs.Texts.{lent-part}
 use Rattle.writing.proofs.Rows.{Rows, rows-start, rows-next, rows-end, rows-room, releaseText-length, line-put, line-room}
 use Rattle.writing.proofs.lines.put_releases.Statement.{statement}
 use Rattle.writing.proofs.lines.put_releases.Tie as tie
-use Rattle.writing.proofs.lines.put_releases.Reads as reads
-use Rattle.writing.proofs.lines.put_releases.Lts as lts
-use Rattle.writing.proofs.cells.put_frame.Reads as put-frame-reads
-use Rattle.writing.proofs.says.release_cells.Reads as release-cells-reads
 
 -- the lines of the first i releases
 abbrev Lines : List Release → ℕ → List ℕ → List ℕ → ℕ → Type 0
@@ -111,11 +107,10 @@ loop-again c =
     let i = o .loop .i in
     let made = c .before .before .before .release-cells in
     let this : getD list i noRelease ≡ getD (s .args .rs .list) i noRelease = getD-take (s .args .rs .count) (s .args .rs .list) i noRelease (omega arith) in
-    let put = line-put (made .result) 4 (version01 .release) (releaseSays (getD (s .args .rs .list) i noRelease)) _ _ (made .ensures) (c .before .before .put-frame .ensures) in
-    (
+    let put = line-put (made .result) 4 (version01 .release) (releaseSays (getD (s .args .rs .list) i noRelease)) _ _ (made .ensures) (c .before .before .put-frame .ensures) in (
       omega arith,
       rows-next (releaseText version01) 17 releaseText-length list noRelease (s .args .part .now) (o .loop .part) (c .before .before .put-frame .last .0) i (o .loop .inv .1)
-      (omega (arith, counted (s .args .rs) _ (s .pre))) fits (rw this put),
+          (omega (arith, counted (s .args .rs) _ (s .pre))) fits (rw this put),
     )
 
 same-length : tie.Need-same-length Inv-loop μ-loop

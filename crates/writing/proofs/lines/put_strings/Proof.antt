@@ -1,9 +1,9 @@
 -- `put_strings` meets its contract. Invariant: the lines of the strings so far stand at the head of the part.
 use Prim.Native.Nat.{ℕ, _+_, _-_, _*_, _≤_, _<_}
-use mathlib.Core.Path.{_≡_, sym, ap, _∙_}
+use mathlib.Core.Path.{_≡_, ap}
 use mathlib.Core.List.{List}
 use native.Mathlib.Omega.{arith}
-use lib.ListN.{length, take, drop, getD, length-drop}
+use lib.ListN.{length, take, getD, length-drop}
 use lib.Seq.{length-take-le, getD-take}
 use Rattle.rules.specs.declared.BatteryString.{BatteryString}
 use Rattle.rules.specs.declared.Plan.{Plan}
@@ -15,10 +15,6 @@ use Rattle.writing.proofs.Texts.{lent-part}
 use Rattle.writing.proofs.Rows.{Rows, rows-start, rows-next, rows-end, rows-room, stringText-length, line-put, line-room}
 use Rattle.writing.proofs.lines.put_strings.Statement.{statement}
 use Rattle.writing.proofs.lines.put_strings.Tie as tie
-use Rattle.writing.proofs.lines.put_strings.Reads as reads
-use Rattle.writing.proofs.lines.put_strings.Lts as lts
-use Rattle.writing.proofs.cells.put_frame.Reads as put-frame-reads
-use Rattle.writing.proofs.says.string_cells.Reads as string-cells-reads
 
 -- the lines of the first i of n strings
 abbrev Lines : List BatteryString → ℕ → List ℕ → List ℕ → ℕ → Type 0
@@ -105,11 +101,10 @@ loop-again c =
     let i = o .loop .i in
     let made = c .before .before .before .string-cells in
     let this : getD strings i noString ≡ getD (s .args .p .strings) i noString = getD-take (s .args .p .n) (s .args .p .strings) i noString (omega arith) in
-    let put = line-put (made .result) 5 (version01 .string) (stringSays (getD (s .args .p .strings) i noString)) _ _ (made .ensures) (c .before .before .put-frame .ensures) in
-    (
+    let put = line-put (made .result) 5 (version01 .string) (stringSays (getD (s .args .p .strings) i noString)) _ _ (made .ensures) (c .before .before .put-frame .ensures) in (
       omega arith,
       rows-next (stringText version01) 17 stringText-length strings noString (s .args .part .now) (o .loop .part) (c .before .before .put-frame .last .0) i (o .loop .inv .1)
-      (omega (arith, counted (s .args .p) _ (s .pre))) fits (rw this put),
+          (omega (arith, counted (s .args .p) _ (s .pre))) fits (rw this put),
     )
 
 same-length : tie.Need-same-length Inv-loop μ-loop
