@@ -3,6 +3,7 @@
 --     Layout                the kind of a frame, and its fields in the page's order, each with its size in bytes
 --     frameSize l           the bytes of a frame: one for its kind, then those of its fields
 --     lineLength size       the bytes of text that a frame of that size takes: two digits a byte, and the 0a
+--     lineSize l            the same of a frame of the layout l
 --     numberOf bytes        the number that bytes write, high byte first
 --     kindIn frame          the kind of a frame, its first byte
 --     fieldIn l f frame     the number that the field f of a frame says; 0 where the layout has no such field
@@ -10,7 +11,7 @@
 --     version01             document 01's
 -- A field starts where the one before it ends.
 use Prim.Native.Nat.{ℕ, _+_, _*_}
-use mathlib.Core.Bool.{Bool, cond}
+use mathlib.Core.Bool.{cond}
 use mathlib.Core.List.{List, [], _∷_}
 use lib.Dec.{eqb}
 use lib.ListN.{take, drop}
@@ -64,6 +65,9 @@ frameSize l = 1 + sizeOf (l .fields)
 
 abbrev pub lineLength : ℕ → ℕ
 lineLength size = size * 2 + 1
+
+abbrev pub lineSize : Layout → ℕ
+lineSize l = lineLength (frameSize l)
 
 -- ---- Numbers
 

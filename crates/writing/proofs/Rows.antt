@@ -15,7 +15,7 @@ use Rattle.rules.specs.declared.Release.{Release}
 use Rattle.rules.specs.declared.Releases.{Releases}
 use Rattle.rules.specs.Plan.{stringsOf}
 use Rattle.rules.specs.Release.{releasesOf}
-use Rattle.rules.specs.Layout.{Field, Layout, frameSize, lineLength, version01}
+use Rattle.rules.specs.Layout.{Field, Layout, lineSize, frameSize, version01}
 use Rattle.writing.specs.declared.cells.Cell.{Cell}
 use Rattle.writing.specs.Written.{frameBytes, lineText, headerSays, stringSays, releaseSays, headerText, stringText, releaseText, planText}
 use Rattle.writing.specs.Cells.{cellsSize, cellsText, Room, SaysFrame}
@@ -59,19 +59,19 @@ module _ {ℓ} {A : Type ℓ} (f : A → List ℕ) (k : ℕ) (each : (x : A) →
 
 -- ---- The lines of a plan
 
-pub stringText-length : (s : BatteryString) → length (stringText version01 s) ≡ lineLength (frameSize (version01 .string))
+pub stringText-length : (s : BatteryString) → length (stringText version01 s) ≡ lineSize (version01 .string)
 unfolding stringText
 stringText-length s =
     lineText-length (frameBytes (version01 .string) (stringSays s))
     ∙ ap (λ k. k * 2 + 1) (frameBytes-length (version01 .string) (stringSays s))
 
-pub releaseText-length : (r : Release) → length (releaseText version01 r) ≡ lineLength (frameSize (version01 .release))
+pub releaseText-length : (r : Release) → length (releaseText version01 r) ≡ lineSize (version01 .release)
 unfolding releaseText
 releaseText-length r =
     lineText-length (frameBytes (version01 .release) (releaseSays r))
     ∙ ap (λ k. k * 2 + 1) (frameBytes-length (version01 .release) (releaseSays r))
 
-pub headerText-length : (p : Plan) → length (headerText version01 p) ≡ lineLength (frameSize (version01 .header))
+pub headerText-length : (p : Plan) → length (headerText version01 p) ≡ lineSize (version01 .header)
 unfolding headerText
 headerText-length p =
     lineText-length (frameBytes (version01 .header) (headerSays 1 p))
@@ -80,14 +80,14 @@ headerText-length p =
 -- what put_frame leaves, for cells that say a frame
 pub line-put : (cells : List Cell) (count : ℕ) (l : Layout) (says : Field → ℕ) (part next : List ℕ) → SaysFrame cells count l says
     → next ≡ (cellsText (take count cells) ++ (0x0a ∷ [])) ++ drop (cellsSize (take count cells) * 2 + 1) part
-    → next ≡ lineText (frameBytes l says) ++ drop (lineLength (frameSize l)) part
+    → next ≡ lineText (frameBytes l says) ++ drop (lineSize l) part
 line-put cells count l says part next s got =
     got ∙ ap (λ t. t ++ drop (cellsSize (take count cells) * 2 + 1) part) (says-line cells count l says s)
     ∙ ap (λ k. lineText (frameBytes l says) ++ drop (k * 2 + 1) part) (s .size)
 
 -- and what it asks
 pub line-room : (cells : List Cell) (count : ℕ) (l : Layout) (says : Field → ℕ) (k : ℕ) → SaysFrame cells count l says → count ≤ 7
-    → lineLength (frameSize l) ≤ k → Room cells count k
+    → lineSize l ≤ k → Room cells count k
 line-room cells count l says k s few room =
     record { few = few; there = omega (arith, s .seven); bytes = omega (arith, ap (λ n. n * 2 + 1) (s .size)) }
 

@@ -14,7 +14,7 @@ use Rattle.lists.specs.Count.{All, sumOf}
 use Rattle.rules.specs.declared.Plan.{Plan}
 use Rattle.rules.specs.declared.Releases.{Releases}
 use Rattle.rules.specs.Release.{releasesOf}
-use Rattle.rules.specs.Layout.{Field, Layout, frameSize, lineLength, version01}
+use Rattle.rules.specs.Layout.{Field, Layout, lineSize, frameSize, version01}
 use Rattle.writing.specs.declared.cells.Cell.{Cell}
 use Rattle.writing.specs.Written.{numberBytes, byteText, frameBytes, planText}
 
@@ -43,13 +43,13 @@ pub record SaysFrame (cells : List Cell) (count : ℕ) (l : Layout) (says : Fiel
 pub record StringsFit (p : Plan) (k : ℕ) : Type 0 where
   pub few : p .n ≤ 10
   pub ten : length (p .strings) ≡ 10
-  pub bytes : p .n * lineLength (frameSize (version01 .string)) ≤ k
+  pub bytes : p .n * lineSize (version01 .string) ≤ k
 
 pub record ReleasesFit (rs : Releases) (k : ℕ) : Type 0 where
   pub few : rs .count ≤ 1000
   pub thousand : length (rs .list) ≡ 1000
   pub places : All (λ r. r .place ≤ 10) (releasesOf rs)
-  pub bytes : rs .count * lineLength (frameSize (version01 .release)) ≤ k
+  pub bytes : rs .count * lineSize (version01 .release) ≤ k
 
 pub record PlanFits (p : Plan) (rs : Releases) (k : ℕ) : Type 0 where
   pub strings : StringsFit p k

@@ -6,9 +6,9 @@ mod says;
 
 use faults::Checked;
 use faults::Fault;
-use frames::HEADER_LINE;
-use frames::RELEASE_LINE;
-use frames::STRING_LINE;
+use layouts::HEADER_LINE;
+use layouts::RELEASE_LINE;
+use layouts::STRING_LINE;
 use lines::put_plan;
 use rules::Plan;
 use rules::Releases;

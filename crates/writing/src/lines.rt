@@ -3,9 +3,9 @@ use super::cells::put_frame;
 use super::says::header_cells;
 use super::says::release_cells;
 use super::says::string_cells;
-use frames::HEADER_LINE;
-use frames::RELEASE_LINE;
-use frames::STRING_LINE;
+use layouts::HEADER_LINE;
+use layouts::RELEASE_LINE;
+use layouts::STRING_LINE;
 use rules::Plan;
 use rules::Releases;
 ghost use mathlib.Core.Path.{_≡_};
@@ -14,7 +14,7 @@ ghost use Prim.Native.Nat.{_*_};
 ghost use lib.ListN.{length, drop};
 ghost use Rattle.rules.specs.Plan.{stringsOf};
 ghost use Rattle.rules.specs.Release.{releasesOf};
-ghost use Rattle.rules.specs.Layout.{version01, frameSize, lineLength};
+ghost use Rattle.rules.specs.Layout.{version01, lineSize};
 ghost use Rattle.writing.specs.Written.{stringText, releaseText, planText};
 ghost use Rattle.writing.specs.Cells.{StringsFit, ReleasesFit, PlanFits};
 
@@ -22,7 +22,7 @@ ghost use Rattle.writing.specs.Cells.{StringsFit, ReleasesFit, PlanFits}
 fn put_strings(part: &mut [u8], p: Plan)
     requires { ⌜ StringsFit p (length (now part)) ⌝ }
     ensures exact { λ r. ⌜ now (part .exit) ≡ flatMap (stringText version01) (stringsOf p)
-        ++ drop (length (stringsOf p) * lineLength (frameSize (version01 .string))) (now (part .entry)) ⌝ }
+        ++ drop (length (stringsOf p) * lineSize (version01 .string)) (now (part .entry)) ⌝ }
 {
     let n = p.n;
     let strings = p.strings;
@@ -38,7 +38,7 @@ fn put_strings(part: &mut [u8], p: Plan)
 fn put_releases(part: &mut [u8], rs: Releases)
     requires { ⌜ ReleasesFit rs (length (now part)) ⌝ }
     ensures exact { λ r. ⌜ now (part .exit) ≡ flatMap (releaseText version01) (releasesOf rs)
-        ++ drop (length (releasesOf rs) * lineLength (frameSize (version01 .release))) (now (part .entry)) ⌝ }
+        ++ drop (length (releasesOf rs) * lineSize (version01 .release)) (now (part .entry)) ⌝ }
 {
     let count = rs.count;
     let list = rs.list;
