@@ -9,8 +9,7 @@ use native.Mathlib.Decide.{decLe}
 use native.Mathlib.Numerals.{add-one}
 use borrow.Author.Tests.{lt-ltb, le-ltb, ltb-true, ltb-false, eq-eqb, ne-eqb, not-true}
 use lib.Dec.{ltb, eqb}
-use lib.ListN.{length, take, drop, getD, drop-of-length-le, length-take}
-use lib.Seq.{drop-cons, getD-take, length-take-le}
+use lib.ListN.{length, take, drop, getD}
 use Rattle.days.specs.declared.Day.{Day}
 use Rattle.days.specs.declared.Length.{Length}
 use Rattle.rules.specs.declared.BatteryString.{BatteryString}
@@ -20,6 +19,7 @@ use Rattle.rules.specs.Plan.{stringAt}
 use Rattle.faults.specs.Checks.{inBounds}
 use Rattle.faults.proofs.Checks.{inBounds-low, inBounds-high, inBounds-yes}
 use Rattle.rules.specs.Release.{tooClose, outOfOrder, releaseLawful, unlawfulFrom, noRelease}
+use Rattle.lists.proofs.FirstN.{part-cons, part-end}
 use Rattle.lists.proofs.Lists.{by-bool, and-left, and-right, true-not-false}
 use Rattle.bounds.specs.declared.releases.Last.{Last}
 use Rattle.bounds.specs.declared.releases.Last.the-variants.{Never, On}
@@ -38,7 +38,8 @@ unfolding tooClose lastOf tooSoon
 apart-is t r [] = refl
 apart-is t r (q ∷ seen) = by-bool (eqb (q .place) (r .place)) (λ e. rw e) (λ e. rw e (apart-is t r seen))
 
-pub admits-is : (p : Plan) (seen : List Release) (r : Release) → admits p (latestOf seen) (lastOf (r .place) seen) r ≡ releaseLawful p seen r
+pub admits-is : (p : Plan) (seen : List Release) (r : Release)
+    → admits p (latestOf seen) (lastOf (r .place) seen) r ≡ releaseLawful p seen r
 unfolding admits releaseLawful
 admits-is p seen r = rw (order-is r seen, apart-is (stringAt p (r .place) .t) r seen)
 
@@ -125,32 +126,30 @@ pub lastOf-same : (rs : List Release) (i : ℕ) → lastOf (getD rs i noRelease 
 unfolding lastOf
 lastOf-same rs i = rw (seenTo-next rs i, eq-eqb (getD rs i noRelease .place) (getD rs i noRelease .place) refl)
 
-pub lastOf-other : (rs : List Release) (i k : ℕ) → (getD rs i noRelease .place ≡ k → ⊥) → lastOf k (seenTo rs (i + 1)) ≡ lastOf k (seenTo rs i)
+pub lastOf-other : (rs : List Release) (i k : ℕ) → (getD rs i noRelease .place ≡ k → ⊥)
+    → lastOf k (seenTo rs (i + 1)) ≡ lastOf k (seenTo rs i)
 unfolding lastOf
 lastOf-other rs i k other = rw (seenTo-next rs i, ne-eqb (getD rs i noRelease .place) k other)
 
 module _ (p : Plan) (rs : List Release) (end i : ℕ) (inside : i < end) (fits : end ≤ length rs) where
-  part-cons : drop i (take end rs) ≡ getD rs i noRelease ∷ drop (i + 1) (take end rs)
-  part-cons =
-      let within : i < length (take end rs) = omega (arith, length-take-le end rs fits) in
-      rw (add-one, drop-cons (take end rs) i noRelease within, getD-take end rs i noRelease inside)
-
-  pub unlawfulFrom-good : (k : ℕ) → releaseLawful p (seenTo rs i) (getD rs i noRelease) ≡ true → unlawfulFrom p (seenTo rs i) k (drop i (take end rs)) ≡ unlawfulFrom p (seenTo rs (i + 1)) (k + 1) (drop (i + 1) (take end rs))
+  pub unlawfulFrom-good : (k : ℕ) → releaseLawful p (seenTo rs i) (getD rs i noRelease) ≡ true
+      → unlawfulFrom p (seenTo rs i) k (drop i (take end rs)) ≡ unlawfulFrom p (seenTo rs (i + 1)) (k + 1) (drop (i + 1) (take end rs))
   unfolding unlawfulFrom
-  unlawfulFrom-good k t = rw (part-cons, t, seenTo-next rs i, add-one k)
+  unlawfulFrom-good k t = rw (part-cons end i rs noRelease inside fits, t, seenTo-next rs i, add-one k)
 
-  pub unlawfulFrom-bad : (k : ℕ) → releaseLawful p (seenTo rs i) (getD rs i noRelease) ≡ false → unlawfulFrom p (seenTo rs i) k (drop i (take end rs)) ≡ k
+  pub unlawfulFrom-bad : (k : ℕ) → releaseLawful p (seenTo rs i) (getD rs i noRelease) ≡ false
+      → unlawfulFrom p (seenTo rs i) k (drop i (take end rs)) ≡ k
   unfolding unlawfulFrom
-  unlawfulFrom-bad k e = rw (part-cons, e)
+  unlawfulFrom-bad k e = rw (part-cons end i rs noRelease inside fits, e)
 
 pub unlawfulFrom-end : (p : Plan) (rs : List Release) (end i k : ℕ) → end ≤ i → unlawfulFrom p (seenTo rs i) k (drop i (take end rs)) ≡ 0
 unfolding unlawfulFrom
 unlawfulFrom-end p rs end i k h =
-    let past : length (take end rs) ≤ i = omega (arith, length-take end rs) in
-    rw (drop-of-length-le (take end rs) past)
+    rw (part-end end i rs h)
 
 -- what is admitted has one of the ten places
-pub admitted-few : (p : Plan) (latest : Day) (last : Last) (r : Release) → length (p .strings) ≡ 10 → Admitted p latest last r → r .place ≤ 10
+pub admitted-few : (p : Plan) (latest : Day) (last : Last) (r : Release) → length (p .strings) ≡ 10 → Admitted p latest last r
+    → r .place ≤ 10
 admitted-few p latest last r ten h =
     elim (decLe (r .place) 10) [ yes few ↦ few | no many ↦ absurd (nowhere (omega arith)) ]
   where
@@ -163,7 +162,8 @@ admitted-few p latest last r ten h =
 
 -- a place that no plan has is refused, whatever is remembered
 pub admits-remembered : (p : Plan) (seen : List Release) (last : List Last) (r : Release) → length (p .strings) ≡ 10
-    → ((k : ℕ) → k < 10 → getD last k Never ≡ lastOf (k + 1) seen) → admits p (latestOf seen) (rememberedOf last (r .place)) r ≡ releaseLawful p seen r
+    → ((k : ℕ) → k < 10 → getD last k Never ≡ lastOf (k + 1) seen)
+    → admits p (latestOf seen) (rememberedOf last (r .place)) r ≡ releaseLawful p seen r
 unfolding rememberedOf
 admits-remembered p seen last r ten kept =
     by-bool (inBounds 1 (r .place) 10)

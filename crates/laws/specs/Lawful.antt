@@ -1,4 +1,5 @@
--- What it is for a string, a plan and a release list to be lawful, as facts about their numbers (document 01, "Bounds on a plan"). The checks find
+-- What it is for a string, a plan and a release list to be lawful, as facts about their numbers (document 01, "Bounds on a plan"). The
+-- checks find
 -- nothing exactly there.
 --     LawfulString s        T 1 to 1,000; D 1 to T; C 1 to D; X 0 or 1
 --     LawfulPlan p          the bounds on a plan; H is a common multiple of all T, the least, and at most 100,000

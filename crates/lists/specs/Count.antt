@@ -6,6 +6,7 @@
 --     All P xs              every one of xs has P
 --     keep f xs             those of xs that pass f, in their order
 --     countOf f xs          how many of xs pass f
+--     firstOf f xs          the first of xs that passes f
 --     upFrom k n            the n numbers k, k + 1, ..
 --     filled k z xs         xs, and z to fill k places
 --     leastFrom f k n       the least of the n numbers from k on that passes f, or k + n where none does
@@ -13,6 +14,7 @@
 use Prim.Native.Nat.{ℕ, zero, suc, _+_, _-_, min, max}
 use mathlib.Core.Bool.{Bool, true, false, cond}
 use mathlib.Core.List.{List, [], _∷_, _++_}
+use mathlib.Core.Option.{Option, none, some}
 use lib.ListN.{length, replicate}
 
 module _ {ℓ} {A : Type ℓ} where
@@ -51,6 +53,12 @@ module _ {ℓ} {A : Type ℓ} where
   unfoldable pub countOf : (A → Bool) → List A → ℕ
   countOf f [] = 0
   countOf f (x ∷ xs) = cond (f x) 1 0 + countOf f xs
+
+  unfoldable pub firstOf : (A → Bool) → List A → Option A
+  firstOf f [] = none
+  firstOf f (x ∷ xs) =
+      let later = firstOf f xs in
+      cond (f x) (some x) later
 
 abbrev pub filled {ℓ} : {A : Type ℓ} → ℕ → A → List A → List A
 filled k z xs = xs ++ replicate (k - length xs) z

@@ -1,4 +1,5 @@
--- The user's demands, of what the code answered. UserWords: demand 2. ReadLawful, NeverMisses: demand 3. ThreeLines: what a file's answer can hold.
+-- The user's demands, of what the code answered. UserWords: demand 2. ReadLawful, NeverMisses: demand 3. ThreeLines: what a file's answer
+-- can hold.
 -- ShutOut, OnlyOne: what the contracts rule out. EquationSeven: what the source printed.
 pub mod UserWords
 pub mod ReadLawful

@@ -1,5 +1,7 @@
--- Every public function allows one result: two results that meet its own contract are equal, and so is what it leaves of lent memory. `Learnt` is what
--- the `ensures` clauses of a function say of its result, so a clause that is weakened or gone is refused here. The test command asks for a line to each.
+-- Every public function allows one result: two results that meet its own contract are equal, and so is what it leaves of lent memory.
+-- `Learnt` is what
+-- the `ensures` clauses of a function say of its result, so a clause that is weakened or gone is refused here. The test command asks for a
+-- line to each.
 --     κs the lifetimes of what is lent; a the arguments; e, f what holds at the return; r, s two results
 use mathlib.Core.Path.{_≡_, sym, _∙_}
 use contract.Lifetimes.{Lfts}
@@ -19,9 +21,23 @@ use Rattle.days.proofs.Day.since.Reads as Day-since
 use Rattle.days.proofs.Day.before.Reads as Day-before
 use Rattle.days.proofs.Length.shorter.Reads as Length-shorter
 use Rattle.faults.proofs.fault_number.Reads as fault-number
+use mathlib.Core.List.{List}
+use Rattle.days.specs.declared.Length.{Length}
+use Rattle.rules.specs.declared.Job.{Job}
+use Rattle.rules.specs.declared.Slot.{Slot}
+use Rattle.rules.specs.declared.Use.{Use}
+use Rattle.rules.proofs.Plan.moving_cost.Reads as Plan-moving-cost
+use Rattle.slots.proofs.chosen_place.Reads as chosen-place
+use Rattle.slots.proofs.stopped_job.Reads as stopped-job
+use Rattle.slots.proofs.seated_job.Reads as seated-job
+use Rattle.slots.proofs.spent_job.Reads as spent-job
+use Rattle.slots.proofs.use_for.Reads as use-for
+use Rattle.slots.proofs.empty_slots.Reads as empty-slots
 use Rattle.bounds.proofs.string_lawful.Reads as string-lawful
 use Rattle.bounds.proofs.multiple.Reads as multiple
 use Rattle.bounds.proofs.first_unlawful.Reads as first-unlawful
+use Rattle.bounds.proofs.head_check.Reads as head-check
+use Rattle.bounds.proofs.multiple_check.Reads as multiple-check
 use Rattle.bounds.proofs.plan_check.Reads as plan-check
 use Rattle.bounds.proofs.set_check.Reads as set-check
 use Rattle.bounds.proofs.run_check.Reads as run-check
@@ -43,12 +59,37 @@ one-Day-since κs a e f r s h k = h ∙ sym k
 pub one-Day-before : (κs : Lfts 0) (a : _) (e f : _) (r s : Bool) → Day-before.Learnt κs a r e → Day-before.Learnt κs a s f → r ≡ s
 one-Day-before κs a e f r s h k = h ∙ sym k
 
-pub one-Length-shorter : (κs : Lfts 0) (a : _) (e f : _) (r s : Bool) → Length-shorter.Learnt κs a r e → Length-shorter.Learnt κs a s f → r ≡ s
+pub one-Length-shorter : (κs : Lfts 0) (a : _) (e f : _) (r s : Bool) → Length-shorter.Learnt κs a r e → Length-shorter.Learnt κs a s f
+    → r ≡ s
 one-Length-shorter κs a e f r s h k = h ∙ sym k
 
 -- faults
 pub one-fault-number : (κs : Lfts 0) (a : _) (e f : _) (r s : ℕ) → fault-number.Learnt κs a r e → fault-number.Learnt κs a s f → r ≡ s
 one-fault-number κs a e f r s h k = h ∙ sym k
+
+-- rules
+pub one-Plan-moving-cost : (κs : Lfts 0) (a : _) (e f : _) (r s : Length) → Plan-moving-cost.Learnt κs a r e
+    → Plan-moving-cost.Learnt κs a s f → r ≡ s
+one-Plan-moving-cost κs a e f r s h k = h ∙ sym k
+
+-- slots
+pub one-chosen-place : (κs : Lfts 0) (a : _) (e f : _) (r s : ℕ) → chosen-place.Learnt κs a r e → chosen-place.Learnt κs a s f → r ≡ s
+one-chosen-place κs a e f r s h k = h ∙ sym k
+
+pub one-stopped-job : (κs : Lfts 0) (a : _) (e f : _) (r s : Job) → stopped-job.Learnt κs a r e → stopped-job.Learnt κs a s f → r ≡ s
+one-stopped-job κs a e f r s h k = h ∙ sym k
+
+pub one-seated-job : (κs : Lfts 0) (a : _) (e f : _) (r s : Job) → seated-job.Learnt κs a r e → seated-job.Learnt κs a s f → r ≡ s
+one-seated-job κs a e f r s h k = h ∙ sym k
+
+pub one-spent-job : (κs : Lfts 0) (a : _) (e f : _) (r s : Job) → spent-job.Learnt κs a r e → spent-job.Learnt κs a s f → r ≡ s
+one-spent-job κs a e f r s h k = h ∙ sym k
+
+pub one-use-for : (κs : Lfts 0) (a : _) (e f : _) (r s : Use) → use-for.Learnt κs a r e → use-for.Learnt κs a s f → r ≡ s
+one-use-for κs a e f r s h k = h ∙ sym k
+
+pub one-empty-slots : (κs : Lfts 0) (a : _) (e f : _) (r s : List Slot) → empty-slots.Learnt κs a r e → empty-slots.Learnt κs a s f → r ≡ s
+one-empty-slots κs a e f r s h k = h ∙ sym k
 
 -- bounds
 pub one-string-lawful : (κs : Lfts 0) (a : _) (e f : _) (r s : Bool) → string-lawful.Learnt κs a r e → string-lawful.Learnt κs a s f → r ≡ s
@@ -59,6 +100,13 @@ one-multiple κs a e f r s h k = h ∙ sym k
 
 pub one-first-unlawful : (κs : Lfts 0) (a : _) (e f : _) (r s : ℕ) → first-unlawful.Learnt κs a r e → first-unlawful.Learnt κs a s f → r ≡ s
 one-first-unlawful κs a e f r s h k = h ∙ sym k
+
+pub one-head-check : (κs : Lfts 0) (a : _) (e f : _) (r s : Checked) → head-check.Learnt κs a r e → head-check.Learnt κs a s f → r ≡ s
+one-head-check κs a e f r s h k = h ∙ sym k
+
+pub one-multiple-check : (κs : Lfts 0) (a : _) (e f : _) (r s : Checked) → multiple-check.Learnt κs a r e
+    → multiple-check.Learnt κs a s f → r ≡ s
+one-multiple-check κs a e f r s h k = h ∙ sym k
 
 pub one-plan-check : (κs : Lfts 0) (a : _) (e f : _) (r s : Checked) → plan-check.Learnt κs a r e → plan-check.Learnt κs a s f → r ≡ s
 one-plan-check κs a e f r s h k = h ∙ sym k

@@ -10,7 +10,7 @@
 --     runCheck p rs         planCheck, then 7 (with 1,001), then 8 with the place in the list
 --     verdictAnswer p, setAnswer p m, searchAnswer p, runAnswer p rs    the answers of the entries
 use Prim.Native.Nat.{ℕ, suc, _^_}
-use mathlib.Core.Bool.{not, cond, _&&_}
+use mathlib.Core.Bool.{not, _&&_}
 use mathlib.Core.List.{List, [], _∷_}
 use lib.Dec.{ltb, leb}
 use Rattle.rules.specs.declared.BatteryString.{BatteryString}

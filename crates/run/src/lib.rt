@@ -1,22 +1,21 @@
 // The run, day by day: what the bank does under a plan and a list of releases, and how the run ends.
-mod job; // job.rt: what happens to a job alone
-mod question; // question.rt: what is asked of the slots
-mod slots; // slots.rt: slots by place
+mod change; // change.rt: slots with one job made another
 mod release; // release.rt: step 2
-mod day; // day.rt: the other steps of a day
+mod day; // day.rt: steps 3 to 5
 mod tally; // tally.rt: the days by kind
 
-use day::late_place;
 use day::rest_of_day;
 use days::Day;
 use days::Length;
 use faults::Checked;
 use release::day_after;
-use release::empty_slots;
 use release::join;
 use rules::Outcome;
 use rules::Plan;
 use rules::Releases;
+use slots::Question;
+use slots::chosen_place;
+use slots::empty_slots;
 use tally::Tally;
 use tally::clean;
 use tally::counted;
@@ -57,7 +56,7 @@ fn run_days(p: Plan, rs: Releases) -> Outcome
     let mut next: usize = 0;
     let mut today = Day(0);
     while today.before(end) {
-        let late = late_place(slots, n, today);
+        let late = chosen_place(Question::Late { day: today }, slots, n);
         if late != 0 {
             return Outcome::Miss {
                 day: today,
@@ -81,7 +80,7 @@ fn run_days(p: Plan, rs: Releases) -> Outcome
         tally = counted(tally, used);
         today = day_after(today, Length(1));
     }
-    let late = late_place(slots, n, end);
+    let late = chosen_place(Question::Late { day: end }, slots, n);
     if late != 0 {
         return Outcome::Miss {
             day: end,

@@ -95,12 +95,14 @@ module _ (p : Plan) (rs : List Release) (lawful : LawfulPlan p) (passes : Passes
   account-closes =
       elim (decLe 1 (backlog p d ss)) [
         | yes some ↦
-            let asked = sumTo-some (length (stringsOf p)) (λ j. k j * holdOf p (str p j)) (omega (arith, account .balance, account .within)) in
+            let asked =
+            sumTo-some (length (stringsOf p)) (λ j. k j * holdOf p (str p j)) (omega (arith, account .balance, account .within)) in
             let j = asked .0 in
             let short = asked-short j (asked .2) (account .spans j (asked .1)) in
             let whole : 1 ≤ str p j .d .0 = lawful-str p lawful j (asked .1) .dPos in
             let limit : b ≤ blockLimit p (d - start) =
-            blockLimit-reaches p (d - start) b j (asked .1) (omega arith) (omega (arith, account .within)) (blocker-beyond (account .blocker)) in
+            blockLimit-reaches p (d - start) b j (asked .1) (omega arith) (omega (arith, account .within))
+            (blocker-beyond (account .blocker)) in
             let rule = passes (d - start) b (omega arith) limit in
             absurd (omega (arith, account .balance, account .within, asked-demand))
         | no none ↦ omega arith

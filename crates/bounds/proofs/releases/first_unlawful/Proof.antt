@@ -11,7 +11,7 @@ use Rattle.rules.specs.Release.{firstUnlawful, releasesOf, noRelease}
 use Rattle.bounds.specs.declared.releases.Last.the-variants.{Never}
 use Rattle.bounds.specs.Seen.{rememberedOf, admits}
 use Rattle.bounds.proofs.ByPlace.{take-min}
-use Rattle.bounds.proofs.Walk.{Walk, walk-start, walk-bad, walk-end, walk-low, walk-high, walk-next}
+use Rattle.bounds.proofs.ReleaseWalk.{Walk, walk-start, walk-bad, walk-end, walk-low, walk-high, walk-next}
 use Rattle.bounds.proofs.releases.first_unlawful.Statement.{statement}
 use Rattle.bounds.proofs.releases.first_unlawful.Tie as tie
 
@@ -32,8 +32,7 @@ smaller-requires c κs = search needs
 loop-holds : tie.Need-loop-holds Inv-loop μ-loop
 loop-holds c =
     let start = c .before .before in
-    let g = start .args in
-    walk-start (g .p) (g .rs .list) (c .smaller .result) (replicate 10 Never) (omega arith)
+    walk-start (omega arith)
     (simp length-map at (start .good .1 .0 .1 .1 .1 .0 .1 .0 .1))
     (simp length-map at (start .good .0 .1 .1 .1 .1 .1 .0 .1 .0 .1))
     refl
@@ -55,7 +54,8 @@ add-result : tie.Need-add-result Inv-loop μ-loop
 add-result c = omega arith
 
 -- the releases that count are those of the list
-counted : (c : tie.At-loop Inv-loop μ-loop) → take (c .before .smaller .result) (c .before .before .before .args .rs .list) ≡ releasesOf (c .before .before .before .args .rs)
+counted : (c : tie.At-loop Inv-loop μ-loop)
+    → take (c .before .smaller .result) (c .before .before .before .args .rs .list) ≡ releasesOf (c .before .before .before .args .rs)
 counted c =
     let rs = c .before .before .before .args .rs in
     ap (λ k. take k (rs .list)) (c .before .smaller .ensures) ∙ take-min (rs .count) 1000 (rs .list) (c .loop .inv .thousand)
@@ -74,29 +74,23 @@ turn c = c .before .before .before .before .before
 said : (c : tie.After-admitted Inv-loop μ-loop) → c .admitted .result ≡ admitsHere (turn c)
 said c =
     let at = turn c in
-    c .admitted .ensures ∙ ap (λ v. admits (at .before .before .before .args .p) (at .loop .latest) v (reached at)) (c .before .remembered .ensures)
+    c .admitted .ensures ∙ ap (λ v. admits (at .before .before .before .args .p) (at .loop .latest) v (reached at))
+    (c .before .remembered .ensures)
 
 returns : tie.Need-returns Inv-loop μ-loop
 returns c =
     let at = turn (c .before) in
-    let g = at .before .before .before .args in
-    walk-bad (g .p) (g .rs .list) (at .before .smaller .result) (at .loop .last) (at .loop .latest) (at .loop .i) (at .loop .inv) (omega arith) (sym (said (c .before)) ∙ not-true _ (c .if1 .taken))
-    ∙ ap (firstUnlawful (g .p)) (counted at)
+    walk-bad (at .loop .inv) (omega arith) (sym (said (c .before)) ∙ not-true _ (c .if1 .taken))
+    ∙ ap (firstUnlawful (at .before .before .before .args .p)) (counted at)
 
 passed : (c : tie.Else1 Inv-loop μ-loop) → admitsHere (turn (c .before)) ≡ true
 passed c = sym (said (c .before)) ∙ not-false _ (c .if1 .left)
 
 low : (c : tie.Else1 Inv-loop μ-loop) → 1 ≤ reached (turn (c .before)) .place
-low c =
-    let at = turn (c .before) in
-    let g = at .before .before .before .args in
-    walk-low (g .p) (g .rs .list) (at .before .smaller .result) (at .loop .last) (at .loop .latest) (at .loop .i) (at .loop .inv) (passed c)
+low c = walk-low (turn (c .before) .loop .inv) (passed c)
 
 high : (c : tie.Else1 Inv-loop μ-loop) → reached (turn (c .before)) .place ≤ 10
-high c =
-    let at = turn (c .before) in
-    let g = at .before .before .before .args in
-    walk-high (g .p) (g .rs .list) (at .before .smaller .result) (at .loop .last) (at .loop .latest) (at .loop .i) (at .loop .inv) (passed c)
+high c = walk-high (turn (c .before) .loop .inv) (passed c)
 
 sub-last : tie.Need-sub-last Inv-loop μ-loop
 sub-last c = low c
@@ -114,17 +108,12 @@ loop-less : tie.Need-loop-less Inv-loop μ-loop
 loop-less c = omega arith
 
 loop-again : tie.Need-loop-again Inv-loop μ-loop
-loop-again c =
-    let at = turn (c .before) in
-    let g = at .before .before .before .args in
-    walk-next (g .p) (g .rs .list) (at .before .smaller .result) (at .loop .last) (at .loop .latest) (at .loop .i) (at .loop .inv) (omega arith) (passed c)
+loop-again c = walk-next (turn (c .before) .loop .inv) (omega arith) (passed c)
 
 returns-2 : tie.Need-returns-2 Inv-loop μ-loop
 returns-2 c =
     let at = c .before in
-    let g = at .before .before .before .args in
-    walk-end (g .p) (g .rs .list) (at .before .smaller .result) (at .loop .last) (at .loop .latest) (at .loop .i) (at .loop .inv) (c .loop-test .left)
-    ∙ ap (firstUnlawful (g .p)) (counted at)
+    walk-end (at .loop .inv) (c .loop-test .left) ∙ ap (firstUnlawful (at .before .before .before .args .p)) (counted at)
 
 pub first-unlawful-spec : {M : Type 1} → statement M
 first-unlawful-spec =

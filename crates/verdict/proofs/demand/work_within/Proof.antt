@@ -9,7 +9,7 @@ use Rattle.rules.specs.Plan.{stringsOf, noString}
 use Rattle.laws.proofs.Lawful.{PlanString}
 use Rattle.verdict.specs.Asked.{askedOf, askedBy}
 use Rattle.verdict.proofs.Asked.{askedOf-le}
-use Rattle.verdict.proofs.ByPlace.{string-at, sum-at, sum-end}
+use Rattle.verdict.proofs.StringSums.{string-at, sum-at, sum-end}
 use Rattle.verdict.proofs.demand.work_within.Statement.{statement}
 use Rattle.verdict.proofs.demand.work_within.Tie as tie
 
@@ -37,7 +37,8 @@ array-copy-out-s c = omega (arith, c .before .before .before .pre .0 .lawful .nM
 -- the string of this turn is one of the plan's
 string :
     (c : tie.After-s Inv-loop μ-loop)
-    → PlanString (c .before .before .before .before .args .p) (getD (c .before .before .before .before .args .p .strings) (c .before .before .loop .i) noString)
+    → PlanString (c .before .before .before .before .args .p)
+    (getD (c .before .before .before .before .args .p .strings) (c .before .before .loop .i) noString)
 string c =
     let start = c .before .before .before .before in
     string-at (start .args .p) (start .pre .0) (c .before .before .loop .i) (c .before .loop-test .taken)
@@ -91,8 +92,10 @@ loop-again c =
 returns : tie.Need-returns Inv-loop μ-loop
 returns c =
     let start = c .before .before .before in
-    let kept = sum-end (start .args .p) (start .pre .0) (askedOf (start .args .p) 0 (start .args .w)) (c .before .loop .i) (c .loop-test .left) in
-    let took = sum-end (start .args .p) (start .pre .0) (askedOf (start .args .p) 1 (start .args .w)) (c .before .loop .i) (c .loop-test .left) in
+    let kept = sum-end (start .args .p) (start .pre .0) (askedOf (start .args .p) 0 (start .args .w)) (c .before .loop .i)
+    (c .loop-test .left) in
+    let took = sum-end (start .args .p) (start .pre .0) (askedOf (start .args .p) 1 (start .args .w)) (c .before .loop .i)
+    (c .loop-test .left) in
     (omega (arith, kept), omega (arith, took))
 
 pub work-within-spec : {M : Type 1} → statement M

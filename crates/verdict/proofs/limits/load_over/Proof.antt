@@ -9,7 +9,7 @@ use Rattle.lists.specs.Count.{sumOf}
 use Rattle.rules.specs.Plan.{stringsOf, noString, multipleOf}
 use Rattle.rules.specs.Demand.{holdOf, load}
 use Rattle.verdict.proofs.Blocking.{share-le}
-use Rattle.verdict.proofs.ByPlace.{string-at, sum-at, sum-end}
+use Rattle.verdict.proofs.StringSums.{string-at, sum-at, sum-end}
 use Rattle.verdict.proofs.limits.load_over.Statement.{statement}
 use Rattle.verdict.proofs.limits.load_over.Tie as tie
 
@@ -63,7 +63,8 @@ loop-again c =
     let f : BatteryString → ℕ = λ s. holdOf p s * (multipleOf p / s .t .0) in
     let next = sum-at p (start .pre .0) f (at .loop .i) (c .before .before .loop-test .taken) in
     let share = c .period-share .ensures
-    ∙ ap (λ h. holdOf p (getD (p .strings) (at .loop .i) noString) * (h / getD (p .strings) (at .loop .i) noString .t .0)) (start .pre .1) in
+    ∙ ap (λ h. holdOf p (getD (p .strings) (at .loop .i) noString) * (h / getD (p .strings) (at .loop .i) noString .t .0))
+    (start .pre .1) in
     (omega arith, omega (arith, small c), omega (arith, share, next))
 
 returns : tie.Need-returns Inv-loop μ-loop

@@ -8,7 +8,7 @@ use lib.ListN.{drop}
 use Rattle.lists.specs.Count.{largest}
 use Rattle.rules.specs.Plan.{stringsOf}
 use Rattle.rules.specs.Demand.{blockerHold}
-use Rattle.verdict.proofs.ByPlace.{string-at, largest-at, largest-end}
+use Rattle.verdict.proofs.StringSums.{string-at, largest-at, largest-end}
 use Rattle.verdict.proofs.limits.longest_blocker.Statement.{statement}
 use Rattle.verdict.proofs.limits.longest_blocker.Tie as tie
 
