@@ -1,7 +1,7 @@
 // Files by name.
 use super::say::complain_of;
 
-// What was read into lent room: how many bytes, from its start on. Nothing where the file cannot be read to its end, or to that of the room.
+// What was read into lent room, from its start on: how many bytes. Nothing where the file cannot be read to its end or to the room's.
 pub(crate) enum Got {
     Bytes { count: usize },
     Nothing,

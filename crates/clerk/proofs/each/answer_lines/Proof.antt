@@ -2,7 +2,7 @@
 use Prim.Native.Nat.{_-_, _≤_}
 use mathlib.Core.Path.{_≡_}
 use lib.ListN.{length}
-use borrow.Author.Needs.{needs}
+use native.Mathlib.Omega.{arith}
 use Rattle.clerk.proofs.each.answer_lines.Statement.{statement}
 use Rattle.clerk.proofs.each.answer_lines.Tie as tie
 
@@ -13,55 +13,55 @@ abbrev μ-loop : tie.MeasureT-loop
 μ-loop text₀ count from₀ text from = length text₀ - from
 
 loop-holds : tie.Need-loop-holds Inv-loop μ-loop
-loop-holds c = search needs
+loop-holds c = omega arith
 
 sub-find : tie.Need-sub-find Inv-loop μ-loop
-sub-find c = search needs
+sub-find c = omega arith
 
 part-find-start : tie.Need-part-find-start Inv-loop μ-loop
-part-find-start c = search needs
+part-find-start c = omega arith
 
 part-find-end : tie.Need-part-find-end Inv-loop μ-loop
-part-find-end c = search needs
+part-find-end c = omega arith
 
 find-requires : tie.Need-find-requires Inv-loop μ-loop
-find-requires c κs = search needs
+find-requires c κs = tt
 
 add-end : tie.Need-add-end Inv-loop μ-loop
-add-end c = search needs
+add-end c = omega arith
 
 same-length : tie.Need-same-length Inv-loop μ-loop
-same-length c = search needs
+same-length c = omega arith
 
 returns : tie.Need-returns Inv-loop μ-loop
-returns c = search needs
+returns c = tt
 
 add-next : tie.Need-add-next Inv-loop μ-loop
-add-next c = search needs
+add-next c = omega arith
 
 sub-answer-line : tie.Need-sub-answer-line Inv-loop μ-loop
-sub-answer-line c = search needs
+sub-answer-line c = omega arith
 
 part-answer-line-start : tie.Need-part-answer-line-start Inv-loop μ-loop
-part-answer-line-start c = search needs
+part-answer-line-start c = omega arith
 
 part-answer-line-end : tie.Need-part-answer-line-end Inv-loop μ-loop
-part-answer-line-end c = search needs
+part-answer-line-end c = omega arith
 
 answer-line-requires : tie.Need-answer-line-requires Inv-loop μ-loop
-answer-line-requires c κs = search needs
+answer-line-requires c κs = tt
 
 loop-less : tie.Need-loop-less Inv-loop μ-loop
-loop-less c = search needs
+loop-less c = omega arith
 
 loop-again : tie.Need-loop-again Inv-loop μ-loop
-loop-again c = search needs
+loop-again c = omega arith
 
 same-length-2 : tie.Need-same-length-2 Inv-loop μ-loop
-same-length-2 c = search needs
+same-length-2 c = omega arith
 
 returns-2 : tie.Need-returns-2 Inv-loop μ-loop
-returns-2 c = search needs
+returns-2 c = tt
 
 pub answer-lines-spec : {M : Type 1} → statement M
 answer-lines-spec =

@@ -3,7 +3,6 @@ use Prim.Native.Nat.{_-_, _≤_}
 use mathlib.Core.Path.{_≡_}
 use lib.ListN.{length, length-set}
 use native.Mathlib.Omega.{arith}
-use borrow.Author.Needs.{needs}
 use Rattle.clerk.proofs.each.split.Statement.{statement}
 use Rattle.clerk.proofs.each.split.Tie as tie
 
@@ -14,31 +13,31 @@ abbrev μ-loop : tie.MeasureT-loop
 μ-loop line₀ i₀ line i = length line₀ - i
 
 loop-holds : tie.Need-loop-holds Inv-loop μ-loop
-loop-holds c = search needs
+loop-holds c = omega arith
 
 slice-read-unspaced : tie.Need-slice-read-unspaced Inv-loop μ-loop
-slice-read-unspaced c = search needs
+slice-read-unspaced c = omega arith
 
 unspaced-requires : tie.Need-unspaced-requires Inv-loop μ-loop
-unspaced-requires c κs = search needs
+unspaced-requires c κs = tt
 
 slice-write-line : tie.Need-slice-write-line Inv-loop μ-loop
-slice-write-line c = search needs
+slice-write-line c = omega arith
 
 add-i : tie.Need-add-i Inv-loop μ-loop
-add-i c = search needs
+add-i c = omega arith
 
 loop-less : tie.Need-loop-less Inv-loop μ-loop
-loop-less c = search needs
+loop-less c = omega arith
 
 loop-again : tie.Need-loop-again Inv-loop μ-loop
 loop-again c = simp length-set (omega arith, omega arith)
 
 same-length : tie.Need-same-length Inv-loop μ-loop
-same-length c = search needs
+same-length c = omega arith
 
 returns : tie.Need-returns Inv-loop μ-loop
-returns c = search needs
+returns c = tt
 
 pub split-spec : {M : Type 1} → statement M
 split-spec =
