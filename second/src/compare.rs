@@ -85,7 +85,7 @@ impl Results {
         if self
             .stop
             .as_ref()
-            .is_none_or(|(earlier, _)| first < *earlier)
+            .map_or(true, |(earlier, _)| first < *earlier)
         {
             self.stop = Some((first, stop));
         }
