@@ -1,0 +1,5 @@
+-- A plan has one text. Modules stand in the order in which they build on each other; the theorems are in ReadBack and WriteBack.
+pub mod Digits
+pub mod Fields
+pub mod Ended
+pub mod Framed
