@@ -1,5 +1,6 @@
 -- Frames of a layout and the lines that write them: each says the other.
 --     frameLine frame       the line of a frame
+--     written l says        the line of the layout l whose fields say what says gives them
 --     Framed l line         the line writes a frame of the layout l
 use Prim.Native.Nat.{ℕ, suc, _+_, _*_, _%_, _≤_, _<_}
 use mathlib.Core.Path.{_≡_, refl, sym, ap, _∙_}
@@ -49,6 +50,9 @@ pub frame-is : (frame : List ℕ) → All Small frame → frameOf (frameLine fra
 unfolding frameOf
 frame-is frame small = frame-said frame small
 
+abbrev pub written : Layout → (Field → ℕ) → Line
+written l says = frameLine (frameBytes l says)
+
 module _ (l : Layout) (says : Field → ℕ) (low : l .kind < 256) where
   pub bytes-small : All Small (frameBytes l says)
   unfolding frameBytes
@@ -58,10 +62,7 @@ module _ (l : Layout) (says : Field → ℕ) (low : l .kind < 256) where
   unfolding frameBytes numberFrom
   written-kind = omega arith
 
-  abbrev pub written : Line
-  written = frameLine (frameBytes l says)
-
-  pub written-lawful : (k : ℕ) → layoutCheck k l written ≡ Lawful
+  pub written-lawful : (k : ℕ) → layoutCheck k l (written l says) ≡ Lawful
   unfolding frameCheck
   written-lawful k =
       let size = frameBytes-length l says in
@@ -69,7 +70,7 @@ module _ (l : Layout) (says : Field → ℕ) (low : l .kind < 256) where
       rw (well, frame-is (frameBytes l says) bytes-small, eq-eqb (length (frameBytes l says)) (frameSize l) size,
       eq-eqb (kindIn (frameBytes l says)) (l .kind) written-kind)
 
-  pub written-says : Fits (l .fields) says → Says (l .fields) says (drop 1 (frameOf written))
+  pub written-says : Fits (l .fields) says → Says (l .fields) says (drop 1 (frameOf (written l says)))
   unfolding frameBytes
   written-says fits = rw (frame-is (frameBytes l says) bytes-small) (fields-said (l .fields) says fits)
 

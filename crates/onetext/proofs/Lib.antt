@@ -3,3 +3,4 @@ pub mod Digits
 pub mod Fields
 pub mod Ended
 pub mod Framed
+pub mod Written
