@@ -4,3 +4,4 @@ pub mod Fields
 pub mod Ended
 pub mod Framed
 pub mod Written
+pub mod Passed
