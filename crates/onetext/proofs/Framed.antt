@@ -67,8 +67,12 @@ module _ (l : Layout) (says : Field → ℕ) (low : l .kind < 256) where
   written-lawful k =
       let size = frameBytes-length l says in
       let well = line-well (frameBytes l says) bytes-small (omega arith) in
-      rw (well, frame-is (frameBytes l says) bytes-small, eq-eqb (length (frameBytes l says)) (frameSize l) size,
-      eq-eqb (kindIn (frameBytes l says)) (l .kind) written-kind)
+      rw (
+        well,
+        frame-is (frameBytes l says) bytes-small,
+        eq-eqb (length (frameBytes l says)) (frameSize l) size,
+        eq-eqb (kindIn (frameBytes l says)) (l .kind) written-kind,
+      )
 
   pub written-says : Fits (l .fields) says → Says (l .fields) says (drop 1 (frameOf (written l says)))
   unfolding frameBytes

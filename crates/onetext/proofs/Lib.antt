@@ -5,3 +5,4 @@ pub mod Ended
 pub mod Framed
 pub mod Written
 pub mod Passed
+pub mod ReadBack
