@@ -6,3 +6,4 @@ pub mod Framed
 pub mod Written
 pub mod Passed
 pub mod ReadBack
+pub mod WriteBack
