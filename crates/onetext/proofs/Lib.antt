@@ -1,4 +1,5 @@
--- A plan has one text. Modules stand in the order in which they build on each other; the theorems are in ReadBack and WriteBack.
+-- A plan has one text. Modules stand in the order in which they build on each other; the theorems are in ReadBack,
+-- WriteBack and InPage.
 pub mod Digits
 pub mod Fields
 pub mod Ended
@@ -7,3 +8,4 @@ pub mod Written
 pub mod Passed
 pub mod ReadBack
 pub mod WriteBack
+pub mod InPage

@@ -173,9 +173,18 @@ module _ (p : Plan) (rs : Releases) (lawful : runCheck p rs ≡ Lawful) (ten : l
   unfolding linesCheck
   lines-lawful = rw (header-passes p (run-is .plan), plan-said) body-lawful
 
-  pub reading-what-was-written : readingOf (savedText p rs) ≡ lawfulText p rs
-  unfolding readingOf textCheck lawfulReading
-  reading-what-was-written =
-      let long = saved-long p rs [] 0 lawful ten thousand in
-      let short = le-ltb 65536 (length (savedText p rs)) (omega (arith, run-is .plan .nMax, run-is .few)) in
-      rw (short, lines-saved p rs, lines-lawful, plan-said, releases-said)
+-- places after the n-th and releases after the count come back blank
+pub reading-what-was-written : (p : Plan) (rs : Releases) → length (p .strings) ≡ 10 → length (rs .list) ≡ 1000 → runCheck p rs ≡ Lawful
+    → readingOf (savedText p rs) ≡ lawfulText p rs
+unfolding readingOf textCheck lawfulReading
+reading-what-was-written p rs ten thousand lawful =
+    let run = runCheck-lawful p rs lawful in
+    let long = saved-long p rs [] 0 lawful ten thousand in
+    let short = le-ltb 65536 (length (savedText p rs)) (omega (arith, run .plan .nMax, run .few)) in
+    rw (
+      short,
+      lines-saved p rs,
+      lines-lawful p rs lawful ten thousand,
+      plan-said p rs lawful ten thousand,
+      releases-said p rs lawful ten thousand,
+    )
