@@ -5,12 +5,12 @@ use mathlib.Core.Path.{_≡_, refl, sym, ap, _∙_}
 use mathlib.Core.Bool.{true, false}
 use mathlib.Core.List.{List, [], _∷_, _++_, flatMap, append-assoc}
 use native.Mathlib.Omega.{arith}
-use borrow.Author.Tests.{eqb-true, eq-eqb, ne-eqb}
+use borrow.Author.Tests.{eqb-true, ne-eqb}
 use lib.Dec.{eqb}
 use Rattle.lists.specs.Count.{All}
 use Rattle.lists.proofs.Lists.{by-bool, true-not-false}
 use Rattle.rules.specs.Text.{Line, before, linesOf, digitOf}
-use Rattle.onetext.proofs.Digits.{Digit}
+use Rattle.onetext.proofs.HexBytes.{Digit}
 
 abbrev pub lineBytes : Line → List ℕ
 lineBytes line = line .bytes ++ (0x0a ∷ [])

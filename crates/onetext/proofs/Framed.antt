@@ -2,26 +2,26 @@
 --     frameLine frame       the line of a frame
 --     written l says        the line of the layout l whose fields say what says gives them
 --     Framed l line         the line writes a frame of the layout l
-use Prim.Native.Nat.{ℕ, suc, _+_, _*_, _%_, _≤_, _<_}
-use mathlib.Core.Path.{_≡_, refl, sym, ap, _∙_}
-use mathlib.Core.Bool.{Bool, true, false, not, _&&_}
+use Prim.Native.Nat.{ℕ, _%_, _<_}
+use mathlib.Core.Path.{_≡_, refl, ap, _∙_}
+use mathlib.Core.Bool.{true, not, _&&_}
 use mathlib.Core.List.{List, [], _∷_, _++_, flatMap}
 use native.Mathlib.Omega.{arith}
 use borrow.Author.Tests.{lt-ltb, ltb-true, eq-eqb, eqb-true, not-false}
 use lib.Dec.{ltb, eqb}
-use lib.ListN.{length, take, drop}
+use lib.ListN.{length, drop}
 use Rattle.lists.specs.Count.{All, every}
 use Rattle.lists.proofs.Lists.{all-map, every-all, and-left, and-right}
 use Rattle.faults.specs.Checks.{refuseIf}
 use Rattle.faults.specs.declared.Fault.the-variants.{LineMalformed, FrameWrong}
 use Rattle.faults.specs.declared.Checked.the-variants.{Lawful}
 use Rattle.faults.proofs.Checks.{then-first, then-second, refuseIf-not}
-use Rattle.rules.specs.Layout.{Field, Layout, Sized, frameSize, sizeOf, numberFrom, kindIn}
-use Rattle.rules.specs.Text.{Line, digitOf, wellFormed, pairsOf, frameOf, frameCheck, layoutCheck}
+use Rattle.rules.specs.Layout.{Field, Layout, frameSize, numberFrom, kindIn}
+use Rattle.rules.specs.Text.{Line, digitOf, wellFormed, frameOf, frameCheck, layoutCheck}
 use Rattle.writing.specs.Written.{byteText, frameBytes, lineText}
 use Rattle.writing.proofs.Texts.{flatMap-length, byteText-length, frameBytes-length}
-use Rattle.onetext.proofs.Digits.{Small, Digit, frame-digits, frame-said, frame-written, frame-small}
-use Rattle.onetext.proofs.Fields.{Says, Fits, fieldBytes, fields-said, fields-written, fields-small}
+use Rattle.onetext.proofs.HexBytes.{Small, Digit, frame-digits, frame-said, frame-written, frame-small}
+use Rattle.onetext.proofs.Numbers.{Says, Fits, fields-said, fields-written, fields-small}
 use Rattle.onetext.proofs.Ended.{lineBytes}
 
 abbrev pub frameLine : List ℕ → Line

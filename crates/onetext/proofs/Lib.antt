@@ -1,10 +1,10 @@
 -- A plan has one text. Modules stand in the order in which they build on each other; the theorems are in ReadBack,
 -- WriteBack and InPage.
-pub mod Digits
-pub mod Fields
+pub mod HexBytes
+pub mod Numbers
 pub mod Ended
 pub mod Framed
-pub mod Written
+pub mod PlanLines
 pub mod Passed
 pub mod ReadBack
 pub mod WriteBack

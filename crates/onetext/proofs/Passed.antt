@@ -1,11 +1,11 @@
 -- The lines of a lawful plan and its releases pass every check of the reader.
-use Prim.Native.Nat.{ℕ, suc, _+_, _-_, _≤_, _<_}
-use mathlib.Core.Path.{_≡_, refl, sym, ap, _∙_}
+use Prim.Native.Nat.{ℕ, suc, _+_, _≤_}
+use mathlib.Core.Path.{_≡_, refl, ap}
 use mathlib.Core.Bool.{true}
 use mathlib.Core.List.{List, [], _∷_, _++_, map}
 use native.Mathlib.Omega.{arith}
 use borrow.Author.Tests.{le-ltb}
-use lib.ListN.{length, take, getD}
+use lib.ListN.{length}
 use lib.Seq.{take-at}
 use Rattle.lists.specs.Count.{All, leastFrom}
 use Rattle.lists.proofs.Lists.{by-bool}
@@ -13,7 +13,7 @@ use Rattle.faults.specs.declared.Checked.the-variants.{Lawful}
 use Rattle.rules.specs.declared.BatteryString.{BatteryString}
 use Rattle.rules.specs.declared.Plan.{Plan}
 use Rattle.rules.specs.declared.Release.{Release}
-use Rattle.rules.specs.Plan.{stringsOf, stringLawful, noString, commonMultiple, multipleOf}
+use Rattle.rules.specs.Plan.{stringsOf, commonMultiple, multipleOf}
 use Rattle.rules.specs.Release.{releaseLawful, unlawfulFrom}
 use Rattle.rules.specs.Layout.{version01}
 use Rattle.rules.specs.Text.{Line, headerCheck, versionCheck, stringLineCheck, stringLinesCheck, releaseLineCheck, releaseLinesCheck}
@@ -22,8 +22,8 @@ use Rattle.laws.proofs.Lawful.{headCheck-good, stringLawful-yes}
 use Rattle.writing.specs.Written.{headerSays, stringSays, releaseSays}
 use Rattle.onetext.specs.OneText.{blankPlan}
 use Rattle.onetext.proofs.Framed.{written-lawful}
-use Rattle.onetext.proofs.Written.{headerLine, stringLine, releaseLine, Brief}
-use Rattle.onetext.proofs.Written.{version-said, n-said, a-said, run-said, string-said, release-said}
+use Rattle.onetext.proofs.PlanLines.{headerLine, stringLine, releaseLine, Brief}
+use Rattle.onetext.proofs.PlanLines.{version-said, n-said, a-said, run-said, string-said, release-said}
 
 -- ---- The header and the strings
 

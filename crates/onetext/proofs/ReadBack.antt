@@ -6,11 +6,9 @@ use native.Mathlib.Omega.{arith}
 use borrow.Author.Tests.{le-ltb}
 use lib.ListN.{length, take, drop, getD, length-map}
 use lib.Seq.{take-at, drop-at, length-take-le}
-use Rattle.days.specs.Days.{days}
-use Rattle.lists.specs.Count.{All, filled}
+use Rattle.lists.specs.Count.{All}
 use Rattle.lists.proofs.Lists.{all-by, all-map, all-getD}
 use Rattle.faults.specs.declared.Checked.the-variants.{Lawful}
-use Rattle.faults.proofs.Checks.{then-lawful}
 use Rattle.rules.specs.declared.BatteryString.{BatteryString}
 use Rattle.rules.specs.declared.Plan.{Plan}
 use Rattle.rules.specs.declared.Release.{Release}
@@ -30,10 +28,10 @@ use Rattle.writing.specs.Saved.{savedText}
 use Rattle.writing.proofs.Texts.{flatMap-append}
 use Rattle.writing.proofs.Saving.{saved-long}
 use Rattle.onetext.specs.OneText.{blankPlan, blankReleases, lawfulText}
-use Rattle.onetext.proofs.Digits.{frame-digits, all-append}
+use Rattle.onetext.proofs.HexBytes.{frame-digits, all-append}
 use Rattle.onetext.proofs.Ended.{lineBytes, textOf, Ended, Digits, lines-said}
 use Rattle.onetext.proofs.Framed.{lineText-is, written, bytes-small}
-use Rattle.onetext.proofs.Written.{headerLine, stringLine, releaseLine, Brief, n-said, a-said, run-said, string-said, release-said}
+use Rattle.onetext.proofs.PlanLines.{headerLine, stringLine, releaseLine, Brief, n-said, a-said, run-said, string-said, release-said}
 use Rattle.onetext.proofs.Passed.{header-passes, strings-pass, releases-pass, blank-multiple, blank-lawful}
 
 -- ---- Lines made of what they say
@@ -48,7 +46,8 @@ module _ {ℓ} {A : Type ℓ} (line : A → Line) where
   all-lines P each [] = tt
   all-lines P each (x ∷ xs) = (each x, all-lines P each xs)
 
-  said-back : (P : A → Type 0) (said : Line → A) → ((x : A) → P x → said (line x) ≡ x) → (xs : List A) → All P xs → map said (map line xs) ≡ xs
+  said-back : (P : A → Type 0) (said : Line → A) → ((x : A) → P x → said (line x) ≡ x) → (xs : List A) → All P xs
+      → map said (map line xs) ≡ xs
   said-back P said each [] h = refl
   said-back P said each (x ∷ xs) h = rw (each x (h .0), said-back P said each xs (h .1))
 
@@ -60,6 +59,14 @@ written-digits l says low = frame-digits (frameBytes l says) (bytes-small l says
 abbrev savedLines : Plan → Releases → List Line
 savedLines p rs = headerLine p ∷ (map stringLine (stringsOf p) ++ map releaseLine (releasesOf rs))
 
+string-text : (s : BatteryString) → stringText version01 s ≡ lineBytes (stringLine s)
+unfolding stringText
+string-text s = lineText-is (frameBytes (version01 .string) (stringSays s))
+
+release-text : (r : Release) → releaseText version01 r ≡ lineBytes (releaseLine r)
+unfolding releaseText
+release-text r = lineText-is (frameBytes (version01 .release) (releaseSays r))
+
 module _ (p : Plan) (rs : Releases) where
   all-saved : (P : Line → Type 0) → ((l : Layout) (says : Field → ℕ) → l .kind < 256 → P (written l says)) → All P (savedLines p rs)
   all-saved P each =
@@ -69,10 +76,10 @@ module _ (p : Plan) (rs : Releases) where
       (header, all-append P (map stringLine (stringsOf p)) (map releaseLine (releasesOf rs)) strings releases)
 
   saved-is : savedText p rs ≡ textOf (savedLines p rs)
-  unfolding savedText planText headerText stringText releaseText flatMap
+  unfolding savedText planText headerText flatMap
   saved-is =
-      let strings = texts-are stringLine (stringText version01) (λ s. lineText-is (frameBytes (version01 .string) (stringSays s))) (stringsOf p) in
-      let releases = texts-are releaseLine (releaseText version01) (λ r. lineText-is (frameBytes (version01 .release) (releaseSays r))) (releasesOf rs) in
+      let strings = texts-are stringLine (stringText version01) string-text (stringsOf p) in
+      let releases = texts-are releaseLine (releaseText version01) release-text (releasesOf rs) in
       append-assoc (headerText version01 p) _ _
       ∙ rw (lineText-is (frameBytes (version01 .header) (headerSays 1 p)), strings, releases)
       (ap (λ rest. lineBytes (headerLine p) ++ rest)
@@ -85,28 +92,33 @@ module _ (p : Plan) (rs : Releases) where
 
 -- ---- What they say
 
-module _ (p : Plan) (rs : Releases) (lawful : runCheck p rs ≡ Lawful) (ten : length (p .strings) ≡ 10) (thousand : length (rs .list) ≡ 1000) where
+-- lawful, in arrays of the code's lengths
+abbrev Savable : Plan → Releases → Type 0
+Savable p rs = (length (p .strings) ≡ 10) × (length (rs .list) ≡ 1000) × (runCheck p rs ≡ Lawful)
+
+module _ (p : Plan) (rs : Releases) (h : Savable p rs) where
   run-is : LawfulRun p rs
-  run-is = runCheck-lawful p rs lawful
+  run-is = runCheck-lawful p rs (h .2)
 
   strings-many : length (stringsOf p) ≡ p .n
-  strings-many = length-take-le (p .n) (p .strings) (omega (arith, run-is .plan .nMax))
+  strings-many = length-take-le (p .n) (p .strings) (omega (arith, h .0, run-is .plan .nMax))
 
   releases-many : length (releasesOf rs) ≡ rs .count
-  releases-many = length-take-le (rs .count) (rs .list) (omega (arith, run-is .few))
+  releases-many = length-take-le (rs .count) (rs .list) (omega (arith, h .1, run-is .few))
 
   brief : All Brief (releasesOf rs)
-  brief = all-by Brief (releasesOf rs) noRelease (λ i h. each i h)
+  brief = all-by Brief (releasesOf rs) noRelease each
     where
       working : (i : ℕ) → stringAt p i .c .0 ≤ 1000
       working i =
           all-getD (λ s. s .c .0 ≤ 1000) (stringsOf p) (i - 1) noString
-          (all-map LawfulString (λ s. s .c .0 ≤ 1000) (λ s ok. omega (arith, ok .tMax, ok .dMax, ok .cMax)) (stringsOf p) (run-is .plan .each))
+          (all-map LawfulString (λ s. s .c .0 ≤ 1000) (λ s ok. omega (arith, ok .tMax, ok .dMax, ok .cMax)) (stringsOf p)
+          (run-is .plan .each))
           (omega arith)
 
       each : (i : ℕ) → i < length (releasesOf rs) → Brief (getD (releasesOf rs) i noRelease)
-      each i h =
-          let ok = release-lawful p (releasesOf rs) (run-is .none-bad) i h in
+      each i k =
+          let ok = release-lawful p (releasesOf rs) (run-is .none-bad) i k in
           record {
             place = omega (arith, ok .placeMax, run-is .plan .nMax);
             day = omega (arith, ok .early, run-is .plan .runMax);
@@ -160,8 +172,8 @@ module _ (p : Plan) (rs : Releases) (lawful : runCheck p rs ≡ Lawful) (ten : l
   releases-all : releaseLinesCheck version01 (blankPlan p) (p .n + 2) 1 [] releases ≡ Lawful
   releases-all =
       let few = run-is .few in
-      releases-pass p (blankPlan p) (blank-lawful p strings-many) (p .n + 2) 1 1 [] (releasesOf rs) brief (omega (arith, releases-many)) (omega arith)
-      none-unlawful
+      releases-pass p (blankPlan p) (blank-lawful p strings-many) (p .n + 2) 1 1 [] (releasesOf rs) brief
+      (omega (arith, releases-many)) (omega arith) none-unlawful
 
   body-lawful : bodyCheck version01 (blankPlan p) (strings ++ releases) ≡ Lawful
   unfolding bodyCheck
@@ -184,7 +196,7 @@ reading-what-was-written p rs ten thousand lawful =
     rw (
       short,
       lines-saved p rs,
-      lines-lawful p rs lawful ten thousand,
-      plan-said p rs lawful ten thousand,
-      releases-said p rs lawful ten thousand,
+      lines-lawful p rs (ten, thousand, lawful),
+      plan-said p rs (ten, thousand, lawful),
+      releases-said p rs (ten, thousand, lawful),
     )

@@ -27,7 +27,7 @@ use Rattle.rules.specs.Text.{bodyCheck, linesCheck, textCheck}
 use Rattle.writing.specs.Written.{headerSays, stringSays, releaseSays, headerText, stringText, releaseText, planText}
 use Rattle.writing.specs.Saved.{savedText}
 use Rattle.writing.proofs.Texts.{flatMap-append}
-use Rattle.onetext.proofs.Digits.{all-append}
+use Rattle.onetext.proofs.HexBytes.{all-append}
 use Rattle.onetext.proofs.Ended.{lineBytes, textOf, Ended, lines-written}
 use Rattle.onetext.proofs.Framed.{Framed, layout-framed, framed-written}
 
@@ -55,15 +55,15 @@ header-back header lines h =
 
 -- ---- Lines that pass the checks write frames
 
-strings-framed : (k m : ℕ) (lines : List Line) → stringLinesCheck version01 k m lines ≡ Lawful → All (Framed (version01 .string)) (take m lines)
+strings-framed : (k m : ℕ) (lines : List Line) → stringLinesCheck version01 k m lines ≡ Lawful
+    → All (Framed (version01 .string)) (take m lines)
 unfolding stringLinesCheck stringLineCheck
 strings-framed k zero lines h = tt
 strings-framed k (suc m) [] h = tt
 strings-framed k (suc m) (line ∷ lines) h =
     let later = stringLinesCheck version01 (suc k) m lines in
     let frame = layoutCheck k (version01 .string) line in
-    let here = then-first (stringLineCheck version01 k line) later h in
-    (
+    let here = then-first (stringLineCheck version01 k line) later h in (
       layout-framed (version01 .string) line k (then-first frame (stringCheck k (stringOf version01 line)) here),
       strings-framed (suc k) m lines (then-second (stringLineCheck version01 k line) later h),
     )
@@ -81,18 +81,18 @@ releases-framed p k j seen [] h = tt
 releases-framed p k j seen (line ∷ lines) h =
     let later = releaseLinesCheck version01 p (suc k) (suc j) (releaseOf version01 line ∷ seen) lines in
     let frame = layoutCheck k (version01 .release) line in
-    let here = then-first (releaseLineCheck version01 p k j seen line) later h in
-    (
+    let here = then-first (releaseLineCheck version01 p k j seen line) later h in (
       layout-framed (version01 .release) line k (then-first frame _ here),
       releases-framed p (suc k) (suc j) (releaseOf version01 line ∷ seen) lines
-      (then-second (releaseLineCheck version01 p k j seen line) later h),
+          (then-second (releaseLineCheck version01 p k j seen line) later h),
     )
 
-module _ {ℓ} {A : Type ℓ} (l : Layout) (said : Line → A) (text : A → List ℕ) (each : (line : Line) → Framed l line → text (said line) ≡ lineBytes line) where
-  texts-back : (lines : List Line) → All (Framed l) lines → flatMap text (map said lines) ≡ textOf lines
+module _ {ℓ} {A : Type ℓ} (l : Layout) (said : Line → A) (text : A → List ℕ) where
+  texts-back : ((line : Line) → Framed l line → text (said line) ≡ lineBytes line) → (lines : List Line) → All (Framed l) lines
+      → flatMap text (map said lines) ≡ textOf lines
   unfolding flatMap
-  texts-back [] h = refl
-  texts-back (line ∷ lines) h = rw (each line (h .0), texts-back lines (h .1))
+  texts-back each [] h = refl
+  texts-back each (line ∷ lines) h = rw (each line (h .0), texts-back each lines (h .1))
 
 all-ended : (l : Layout) (lines : List Line) → All (Framed l) lines → All Ended lines
 all-ended l lines h = all-map (Framed l) Ended (λ line f. f .ended) lines h
@@ -140,9 +140,9 @@ module _ (header : Line) (lines : List Line) (h : linesCheck version01 (header �
   lines-ended = (
     header-ended,
     subst (All Ended) (take-append-drop (plan .n) lines)
-    (all-append Ended (take (plan .n) lines) (drop (plan .n) lines)
-    (all-ended (version01 .string) (take (plan .n) lines) string-lines)
-    (all-ended (version01 .release) (drop (plan .n) lines) release-lines)),
+        (all-append Ended (take (plan .n) lines) (drop (plan .n) lines)
+        (all-ended (version01 .string) (take (plan .n) lines) string-lines)
+        (all-ended (version01 .release) (drop (plan .n) lines) release-lines)),
   )
 
   strings-are : stringsOf plan ≡ map (stringOf version01) (take (plan .n) lines)
@@ -159,11 +159,13 @@ module _ (header : Line) (lines : List Line) (h : linesCheck version01 (header �
   unfolding savedText planText flatMap
   lines-back =
       let first = header-back header lines head in
-      let second = texts-back (version01 .string) (stringOf version01) (stringText version01) string-back (take (plan .n) lines) string-lines in
-      let third = texts-back (version01 .release) (releaseOf version01) (releaseText version01) release-back (drop (plan .n) lines) release-lines in
-      let whole = flatMap-append lineBytes (take (plan .n) lines) (drop (plan .n) lines) in
+      let front = take (plan .n) lines in
+      let back = drop (plan .n) lines in
+      let second = texts-back (version01 .string) (stringOf version01) (stringText version01) string-back front string-lines in
+      let third = texts-back (version01 .release) (releaseOf version01) (releaseText version01) release-back back release-lines in
+      let whole = flatMap-append lineBytes front back in
       rw (strings-are, releases-are, first, second, third)
-      (append-assoc (lineBytes header) (textOf (take (plan .n) lines)) (textOf (drop (plan .n) lines))
+      (append-assoc (lineBytes header) (textOf front) (textOf back)
       ∙ ap (λ rest. lineBytes header ++ rest) (sym whole ∙ ap textOf (take-append-drop (plan .n) lines)))
 
 read-back : (lines : List Line) → linesCheck version01 lines ≡ Lawful

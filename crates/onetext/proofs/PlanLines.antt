@@ -1,5 +1,5 @@
 -- The lines of a lawful plan, and what they say to the reader: the header, a string, a release.
-use Prim.Native.Nat.{ℕ, _≤_, _<_}
+use Prim.Native.Nat.{_≤_}
 use mathlib.Core.Path.{_≡_}
 use native.Mathlib.Omega.{arith}
 use Rattle.rules.specs.declared.BatteryString.{BatteryString}
@@ -11,7 +11,7 @@ use Rattle.rules.specs.Text.{Line, frameOf, fieldOf, nIn, aIn, runIn, stringOf,
 use lib.ListN.{drop}
 use Rattle.laws.specs.Lawful.{LawfulString, LawfulPlan}
 use Rattle.writing.specs.Written.{headerSays, stringSays, releaseSays}
-use Rattle.onetext.proofs.Fields.{Says, Fits}
+use Rattle.onetext.proofs.Numbers.{Says}
 use Rattle.onetext.proofs.Framed.{written, written-says}
 
 abbrev pub headerLine : Plan → Line

@@ -1,7 +1,7 @@
 -- Numbers and the bytes that write them, fields and the frames that hold them: each says the other.
 --     Says fs says bytes    the fields fs of the bytes say what says gives them
 --     Fits fs says          what says gives each of the fields fs can be written in its bytes
-use Prim.Native.Nat.{ℕ, zero, suc, _+_, _*_, _/_, _%_, _^_, _≤_, _<_}
+use Prim.Native.Nat.{ℕ, zero, suc, _+_, _*_, _/_, _%_, _^_, _<_}
 use mathlib.Core.Path.{_≡_, refl, sym, ap, _∙_}
 use mathlib.Core.List.{List, [], _∷_, _++_, flatMap, append-assoc, append-nil}
 use native.Mathlib.Omega.{arith}
@@ -12,7 +12,7 @@ use Rattle.lists.specs.Count.{All}
 use Rattle.rules.specs.Layout.{Field, Sized, sizeOf, numberFrom, numberOf}
 use Rattle.writing.specs.Written.{numberBytes}
 use Rattle.writing.proofs.Texts.{numberBytes-length}
-use Rattle.onetext.proofs.Digits.{Small, all-append}
+use Rattle.onetext.proofs.HexBytes.{Small, all-append}
 
 -- ---- Numbers
 
@@ -101,7 +101,8 @@ fields-written [] says [] h e s = refl
 fields-written [] says (b ∷ bytes) h e s = absurd (omega arith)
 fields-written (f ∷ fs) says bytes h e s =
     let front : length (take (f .size) bytes) ≡ f .size = length-take-le (f .size) bytes (omega arith) in
-    let first = ap (numberBytes (f .size)) (sym (s .0)) ∙ number-written (f .size) (take (f .size) bytes) (all-take (f .size) bytes h) front in
+    let number = number-written (f .size) (take (f .size) bytes) (all-take (f .size) bytes h) front in
+    let first = ap (numberBytes (f .size)) (sym (s .0)) ∙ number in
     let size = length-drop (f .size) bytes in
     let rest = fields-written fs says (drop (f .size) bytes) (all-drop (f .size) bytes h) (omega arith) (s .1) in
     rw (first, rest) (take-append-drop (f .size) bytes)
@@ -110,4 +111,5 @@ pub fields-small : (fs : List Sized) (says : Field → ℕ) → All Small (flatM
 unfolding flatMap
 fields-small [] says = tt
 fields-small (s ∷ fs) says =
-    all-append Small (fieldBytes says s) (flatMap (fieldBytes says) fs) (numberBytes-small (s .size) (says (s .field))) (fields-small fs says)
+    all-append Small (fieldBytes says s) (flatMap (fieldBytes says) fs) (numberBytes-small (s .size) (says (s .field)))
+    (fields-small fs says)
