@@ -43,7 +43,8 @@ module _ {ℓ} {A : Type ℓ} (f : A → List ℕ) (k : ℕ) (each : (x : A) →
       → Rows before (putMid (i * k) (length part - i * k) part next) (i + 1)
   rows-next before part next i s h room got =
       subst (λ text. Stands before text (putMid (i * k) (length part - i * k) part next)) (sym (step i h))
-      (stands-next before (flatMap f (take i xs)) (f (getD xs i z)) part next (i * k) k s (so-far i (omega arith)) (each (getD xs i z)) room got)
+      (stands-next before (flatMap f (take i xs)) (f (getD xs i z)) part next (i * k) k s (so-far i (omega arith)) (each (getD xs i z))
+      room got)
 
   -- all of them stand
   pub rows-end : (before part : List ℕ) (i : ℕ) → Rows before part i → i ≡ length xs → part ≡ flatMap f xs ++ drop (length xs * k) before
@@ -52,7 +53,8 @@ module _ {ℓ} {A : Type ℓ} (f : A → List ℕ) (k : ℕ) (each : (x : A) →
       s .is ∙ rw (all, flatMap-length f k each xs)
 
   -- there is room for the next
-  pub rows-room : (before part : List ℕ) (i : ℕ) → Rows before part i → i < length xs → length xs * k ≤ length before → i * k + k ≤ length part
+  pub rows-room : (before part : List ℕ) (i : ℕ) → Rows before part i → i < length xs → length xs * k ≤ length before
+      → i * k + k ≤ length part
   rows-room before part i s h room =
       let more : suc i * k ≤ length xs * k = mul-le-mul-right k h in
       omega (arith, s .size, suc-mul i k)
@@ -103,9 +105,12 @@ module _ (p : Plan) (rs : Releases) (strings-many : length (stringsOf p) ≡ p .
   pub text-long : length (planText version01 p (releasesOf rs)) ≡ 19 + p .n * 17 + rs .count * 17
   unfolding planText
   text-long =
-      length-append (headerText version01 p ++ flatMap (stringText version01) (stringsOf p)) (flatMap (releaseText version01) (releasesOf rs)) ∙ sum
+      length-append (headerText version01 p ++ flatMap (stringText version01) (stringsOf p))
+      (flatMap (releaseText version01) (releasesOf rs)) ∙ sum
     where
-      sum : length (headerText version01 p ++ flatMap (stringText version01) (stringsOf p)) + length (flatMap (releaseText version01) (releasesOf rs))
+      sum :
+          length (headerText version01 p ++ flatMap (stringText version01) (stringsOf p)) + length
+          (flatMap (releaseText version01) (releasesOf rs))
           ≡ 19 + p .n * 17 + rs .count * 17
       sum =
           omega (

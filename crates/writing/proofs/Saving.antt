@@ -52,7 +52,8 @@ noRoom-fits page at text here h =
 -- ---- The answer and the page
 
 module _ (p : Plan) (rs : Releases) (page : List ℕ) (at : ℕ) where
-  pub saved-refused : (f : Fault) (k : ℕ) → runCheck p rs ≡ checked.Refused f k → (savedAnswer p rs page at ≡ Refused f k) × (savedPage p rs page at ≡ page)
+  pub saved-refused : (f : Fault) (k : ℕ) → runCheck p rs ≡ checked.Refused f k
+      → (savedAnswer p rs page at ≡ Refused f k) × (savedPage p rs page at ≡ page)
   unfolding savedAnswer savedPage saveCheck
   saved-refused f k h = (rw h, rw h)
 
@@ -87,7 +88,8 @@ module _ (p : Plan) (rs : Releases) (page : List ℕ) (at : ℕ) where
         pub plan-fits : PlanFits p rs (length (take (length page - at) (drop at page)))
         unfolding savedText
         plan-fits =
-            let long : length (take (length page - at) (drop at page)) ≡ length page - at = ap length (lent-part at page) ∙ length-drop at page in
+            let long : length (take (length page - at) (drop at page)) ≡ length page - at = ap length (lent-part at page) ∙ length-drop at
+            page in
             record {
               strings = record { few = run-is .plan .nMax; ten = ten; bytes = omega arith };
               releases = record { few = run-is .few; thousand = thousand; places = places; bytes = omega arith };

@@ -57,12 +57,20 @@ lent-back a page part h =
     let behind : postOf a (length page - a) page ≡ [] = post-is a (length page) page h ∙ drop-length page in
     rw behind (ap (λ rest. take a page ++ rest) (append-nil part))
 
-pub lent-length : (a : ℕ) (page part next : List ℕ) → a ≤ length page → next ≡ part ++ drop (length part) (take (length page - a) (drop a page))
+pub lent-length : (a : ℕ) (page part next : List ℕ) → a ≤ length page
+    → next ≡ part ++ drop (length part) (take (length page - a) (drop a page))
     → length part + a ≤ length page → length (putMid a (length page - a) page next) ≡ length page
 lent-length a page part next h is room =
     same-len-mid a (length page - a) page next
     (ap length (is ∙ ap (λ rest. part ++ drop (length part) rest) (lent-part a page))
-    ∙ omega (arith, length-append part (drop (length part) (drop a page)), length-drop (length part) (drop a page), length-drop a page, ap length (lent-part a page)))
+    ∙ omega (
+      arith,
+      length-append part (drop (length part) (drop a page)),
+      length-drop (length part) (drop a page),
+      length-drop a page,
+      ap
+          length (lent-part a page),
+    ))
 
 -- the first bytes of a part, stored one by one
 pub set-one : (part : List ℕ) (a : ℕ) → 1 ≤ length part → set part 0 a ≡ (a ∷ []) ++ drop 1 part
@@ -116,8 +124,10 @@ pub number-done : (i n : ℕ) (part whole : List ℕ) → i ≡ 0 → numberText
 number-done i n part whole none h = rw (none, numberText-none n) at h
 
 -- one byte more, ahead of those that stand from the place 2 × (k + 1) on
-pub number-step : (k n : ℕ) (part next : List ℕ) → k * 2 + 2 ≤ length part → next ≡ byteText (n % 256) ++ drop 2 (take (length part - k * 2) (drop (k * 2) part))
-    → numberText k (n / 256) ++ drop (k * 2) (putMid (k * 2) (length part - k * 2) part next) ≡ numberText (suc k) n ++ drop (suc k * 2) part
+pub number-step : (k n : ℕ) (part next : List ℕ) → k * 2 + 2 ≤ length part
+    → next ≡ byteText (n % 256) ++ drop 2 (take (length part - k * 2) (drop (k * 2) part))
+    → numberText k (n / 256) ++ drop (k * 2) (putMid (k * 2) (length part - k * 2) part next) ≡ numberText (suc k) n ++ drop (suc k * 2)
+    part
 number-step k n part next room is =
     let whole = lent-back (k * 2) part next (omega arith) in
     let front : length (take (k * 2) part) ≡ k * 2 = length-take-le (k * 2) part (omega arith) in
@@ -151,10 +161,12 @@ module _ (cs : List Cell) (z : Cell) (i : ℕ) (h : i < length cs) where
       ∙ ap (λ rest. flatMap cellText (take i cs) ++ rest) (flatMap-one cellText (getD cs i z) ∙ append-nil (cellText (getD cs i z)))
 
 -- the size of the first cells grows with their number
-pub cellsSize-within : (cs : List Cell) (z : Cell) (i k : ℕ) → i < k → k ≤ length cs → cellsSize (take i cs) + getD cs i z .size ≤ cellsSize (take k cs)
+pub cellsSize-within : (cs : List Cell) (z : Cell) (i k : ℕ) → i < k → k ≤ length cs
+    → cellsSize (take i cs) + getD cs i z .size ≤ cellsSize (take k cs)
 cellsSize-within cs z i zero h within = absurd (not-suc-le-zero h)
 cellsSize-within cs z i (suc k) h within =
-    let next : cellsSize (take (suc k) cs) ≡ cellsSize (take k cs) + getD cs k z .size = ap (λ m. cellsSize (take m cs)) (sym (add-one k)) ∙ cellsSize-step cs z k (omega arith) in
+    let next : cellsSize (take (suc k) cs) ≡ cellsSize (take k cs) + getD cs k z .size = ap (λ m. cellsSize (take m cs)) (sym (add-one k))
+    ∙ cellsSize-step cs z k (omega arith) in
     elim (decLe (suc i) k) [
       | yes earlier ↦ omega (arith, cellsSize-within cs z i k earlier (omega arith))
       | no last ↦
@@ -173,7 +185,8 @@ pub stands-none : (before : List ℕ) → Stands before [] before
 stands-none before = record { size = refl; is = refl }
 
 -- a text at the head of the whole part
-pub stands-first : (before t part : List ℕ) (size : ℕ) → length t ≡ size → size ≤ length before → part ≡ t ++ drop size before → Stands before t part
+pub stands-first : (before t part : List ℕ) (size : ℕ) → length t ≡ size → size ≤ length before → part ≡ t ++ drop size before
+    → Stands before t part
 stands-first before t part size long room got =
     record {
       size = ap length got ∙ omega (arith, length-append t (drop size before), length-drop size before);
@@ -181,7 +194,8 @@ stands-first before t part size long room got =
     }
 
 -- what follows is written into the next part
-pub stands-next : (before t u part next : List ℕ) (a size : ℕ) → Stands before t part → length t ≡ a → length u ≡ size → a + size ≤ length part
+pub stands-next : (before t u part next : List ℕ) (a size : ℕ) → Stands before t part → length t ≡ a → length u ≡ size
+    → a + size ≤ length part
     → next ≡ u ++ drop size (take (length part - a) (drop a part)) → Stands before (t ++ u) (putMid a (length part - a) part next)
 stands-next before t u part next a size stands long more room got =
     let here : a ≤ length part = omega arith in
@@ -214,7 +228,8 @@ cells-frame kind cs small =
 
 pub lineText-length : (frame : List ℕ) → length (lineText frame) ≡ length frame * 2 + 1
 unfolding lineText
-lineText-length frame = length-append (flatMap byteText frame) (0x0a ∷ []) ∙ ap (λ k. k + 1) (flatMap-length byteText 2 byteText-length frame)
+lineText-length frame = length-append (flatMap byteText frame) (0x0a ∷ []) ∙ ap (λ k. k + 1)
+    (flatMap-length byteText 2 byteText-length frame)
 
 fields-length : (fields : List Sized) (says : Field → ℕ)
     → length (flatMap (λ s. numberBytes (s .size) (says (s .field))) fields) ≡ sizeOf fields

@@ -5,7 +5,8 @@
 --     frameBytes l says     the frame of the layout l whose fields say what says gives them
 --     lineText frame        the line of a frame: the digits of its bytes, and the 0a
 --     headerSays, stringSays, releaseSays     what each field of a frame says
---     planText v p rs       the text of a plan and its releases in the version v: the header's line, a line for each string, a line for each release
+--     planText v p rs       the text of a plan and its releases in the version v: the header's line, a line for each string, a line for
+--                           each release
 use Prim.Native.Nat.{ℕ, zero, suc, _+_, _/_, _%_}
 use mathlib.Core.Bool.{cond}
 use mathlib.Core.List.{List, [], _∷_, _++_, flatMap}

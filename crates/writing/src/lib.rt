@@ -21,7 +21,8 @@ pub enum Saved {
     Text { length: usize },
 }
 
-// The plan's text goes into the page from `at` on; the bytes ahead of it and behind it stay. 4 to 8 as for numbers, then 9 with 0 where there is
+// The plan's text goes into the page from `at` on; the bytes ahead of it and behind it stay. 4 to 8 as for numbers, then 9 with 0 where
+// there is
 // no room; then no byte of the page is another.
 pub fn write(p: Plan, rs: Releases, page: &mut [u8], at: usize) -> Saved
     ensures exact { λ r. ⌜ r ≡ savedAnswer p rs (now (page .entry)) at ⌝ }

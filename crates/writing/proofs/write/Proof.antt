@@ -1,4 +1,5 @@
--- `write` meets its contract: the check decides, then the room; where there is room, the part from the place on comes back with the text at its head.
+-- `write` meets its contract: the check decides, then the room; where there is room, the part from the place on comes back with the text
+-- at its head.
 use Prim.Native.Nat.{_+_, _*_, _≤_}
 use mathlib.Core.Path.{_≡_, sym, _∙_}
 use native.Mathlib.Omega.{arith}
@@ -63,7 +64,8 @@ returns-2 : tie.Need-returns-2
 returns-2 c =
     let told = c .before .before in
     let s = start told in
-    let said = saved-short (s .args .p) (s .args .rs) (s .args .page .now) (s .args .at) (lawful told) (ten told) (thousand told) (c .if2 .taken) in
+    let said = saved-short (s .args .p) (s .args .rs) (s .args .page .now) (s .args .at) (lawful told) (ten told) (thousand told)
+    (c .if2 .taken) in
     (sym (said .0), sym (said .1))
 
 sub-put-plan : tie.Need-sub-put-plan
@@ -79,7 +81,8 @@ put-plan-requires : tie.Need-put-plan-requires
 put-plan-requires c κs =
     let told = c .before .before .before in
     let s = start told in
-    plan-fits (s .args .p) (s .args .rs) (s .args .page .now) (s .args .at) (lawful told) (ten told) (thousand told) (omega arith) (omega arith)
+    plan-fits (s .args .p) (s .args .rs) (s .args .page .now) (s .args .at) (lawful told) (ten told) (thousand told) (omega arith)
+    (omega arith)
 
 enum-known-checked : tie.Need-enum-known-checked
 enum-known-checked c = search needs
@@ -92,7 +95,8 @@ returns-3 c =
     let told = c .before .before .before .before .before .before in
     let s = start told in
     let said =
-    saved-written (s .args .p) (s .args .rs) (s .args .page .now) (s .args .at) (lawful told) (ten told) (thousand told) (omega arith) (omega arith) _
+    saved-written (s .args .p) (s .args .rs) (s .args .page .now) (s .args .at) (lawful told) (ten told) (thousand told) (omega arith)
+    (omega arith) _
     (c .before .before .put-plan .ensures) in
     (sym (said .0), sym (said .1))
 
@@ -101,7 +105,8 @@ returns-4 c =
     let known = c .before in
     let check = known .before .before in
     let s = check .before .before in
-    let said = saved-refused (s .args .p) (s .args .rs) (s .args .page .now) (s .args .at) _ _ (sym (check .run-check .ensures) ∙ known .checked .given .1) in
+    let said = saved-refused (s .args .p) (s .args .rs) (s .args .page .now) (s .args .at) _ _
+    (sym (check .run-check .ensures) ∙ known .checked .given .1) in
     (sym (said .0), sym (said .1))
 
 pub write-spec : {M : Type 1} → statement M

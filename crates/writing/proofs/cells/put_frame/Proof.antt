@@ -22,18 +22,22 @@ pub record Standing (before : List ℕ) (cells : List Cell) (part : List ℕ) (a
   pub text : Stands before (cellsText (take i cells)) part
 
 -- there is room for the next cell and for the end
-next-room : (before part : List ℕ) (cells : List Cell) (at i count : ℕ) → Standing before cells part at i → i < count → Room cells count (length before)
+next-room : (before part : List ℕ) (cells : List Cell) (at i count : ℕ) → Standing before cells part at i → i < count
+    → Room cells count (length before)
     → at * 2 + getD cells i noCell .size * 2 + 1 ≤ length part
-next-room before part cells at i count s h room = omega (arith, s .place, s .text .size, room .bytes, cellsSize-within cells noCell i count h (room .there))
+next-room before part cells at i count s h room = omega
+    (arith, s .place, s .text .size, room .bytes, cellsSize-within cells noCell i count h (room .there))
 
 -- all cells stand: there is room for the end
-end-room : (before part : List ℕ) (cells : List Cell) (at i count : ℕ) → Standing before cells part at i → i ≡ count → Room cells count (length before)
+end-room : (before part : List ℕ) (cells : List Cell) (at i count : ℕ) → Standing before cells part at i → i ≡ count
+    → Room cells count (length before)
     → at * 2 + 1 ≤ length part
 end-room before part cells at i count s e room =
     let all : cellsSize (take i cells) ≡ cellsSize (take count cells) = ap (λ k. cellsSize (take k cells)) e in
     omega (arith, s .place, s .text .size, room .bytes)
 
-end-stands : (before part next : List ℕ) (cells : List Cell) (at i count : ℕ) → Standing before cells part at i → i ≡ count → at * 2 + 1 ≤ length part
+end-stands : (before part next : List ℕ) (cells : List Cell) (at i count : ℕ) → Standing before cells part at i → i ≡ count
+    → at * 2 + 1 ≤ length part
     → next ≡ (0x0a ∷ []) ++ drop 1 (take (length part - at * 2) (drop (at * 2) part))
     → putMid (at * 2) (length part - at * 2) part next
     ≡ (cellsText (take count cells) ++ (0x0a ∷ [])) ++ drop (cellsSize (take count cells) * 2 + 1) before
@@ -46,7 +50,8 @@ end-stands before part next cells at i count s e room got =
 -- one cell more stands
 next-stands : (before part next : List ℕ) (cells : List Cell) (at i : ℕ) → Standing before cells part at i → i < length cells
     → at * 2 + getD cells i noCell .size * 2 ≤ length part
-    → next ≡ numberText (getD cells i noCell .size) (getD cells i noCell .value) ++ drop (getD cells i noCell .size * 2) (take (length part - at * 2) (drop (at * 2) part))
+    → next ≡ numberText (getD cells i noCell .size) (getD cells i noCell .value) ++ drop (getD cells i noCell .size * 2)
+    (take (length part - at * 2) (drop (at * 2) part))
     → Standing before cells (putMid (at * 2) (length part - at * 2) part next) (at + getD cells i noCell .size) (i + 1)
 next-stands before part next cells at i s h room got =
     let cell = getD cells i noCell in
@@ -55,7 +60,8 @@ next-stands before part next cells at i s h room got =
       place = ap (λ k. k + cell .size) (s .place) ∙ sym (cellsSize-step cells noCell i h);
       text =
           subst (λ text. Stands before text (putMid (at * 2) (length part - at * 2) part next)) (sym (cellsText-step cells noCell i h))
-          (stands-next before (cellsText (take i cells)) (numberText (cell .size) (cell .value)) part next (at * 2) (cell .size * 2) (s .text) so-far
+          (stands-next before (cellsText (take i cells)) (numberText (cell .size) (cell .value)) part next (at * 2) (cell .size * 2)
+          (s .text) so-far
           (numberText-length (cell .size) (cell .value)) room got);
     }
 
@@ -79,35 +85,40 @@ mul-put-number : tie.Need-mul-put-number Inv-loop μ-loop
 mul-put-number c =
     let o = c .before .before in
     let s = o .before .before in
-    let fits = next-room (s .args .part .now) (o .loop .part) (s .args .t2) (o .loop .at) (o .loop .i) (s .args .count) (o .loop .inv .1) (omega arith) (s .pre) in
+    let fits = next-room (s .args .part .now) (o .loop .part) (s .args .t2) (o .loop .at) (o .loop .i) (s .args .count) (o .loop .inv .1)
+    (omega arith) (s .pre) in
     omega arith
 
 sub-put-number : tie.Need-sub-put-number Inv-loop μ-loop
 sub-put-number c =
     let o = c .before .before in
     let s = o .before .before in
-    let fits = next-room (s .args .part .now) (o .loop .part) (s .args .t2) (o .loop .at) (o .loop .i) (s .args .count) (o .loop .inv .1) (omega arith) (s .pre) in
+    let fits = next-room (s .args .part .now) (o .loop .part) (s .args .t2) (o .loop .at) (o .loop .i) (s .args .count) (o .loop .inv .1)
+    (omega arith) (s .pre) in
     omega arith
 
 part-put-number-start : tie.Need-part-put-number-start Inv-loop μ-loop
 part-put-number-start c =
     let o = c .before .before in
     let s = o .before .before in
-    let fits = next-room (s .args .part .now) (o .loop .part) (s .args .t2) (o .loop .at) (o .loop .i) (s .args .count) (o .loop .inv .1) (omega arith) (s .pre) in
+    let fits = next-room (s .args .part .now) (o .loop .part) (s .args .t2) (o .loop .at) (o .loop .i) (s .args .count) (o .loop .inv .1)
+    (omega arith) (s .pre) in
     omega arith
 
 part-put-number-end : tie.Need-part-put-number-end Inv-loop μ-loop
 part-put-number-end c =
     let o = c .before .before in
     let s = o .before .before in
-    let fits = next-room (s .args .part .now) (o .loop .part) (s .args .t2) (o .loop .at) (o .loop .i) (s .args .count) (o .loop .inv .1) (omega arith) (s .pre) in
+    let fits = next-room (s .args .part .now) (o .loop .part) (s .args .t2) (o .loop .at) (o .loop .i) (s .args .count) (o .loop .inv .1)
+    (omega arith) (s .pre) in
     omega arith
 
 put-number-requires : tie.Need-put-number-requires Inv-loop μ-loop
 put-number-requires c κs =
     let o = c .before .before .before in
     let s = o .before .before in
-    let fits = next-room (s .args .part .now) (o .loop .part) (s .args .t2) (o .loop .at) (o .loop .i) (s .args .count) (o .loop .inv .1) (omega arith) (s .pre) in
+    let fits = next-room (s .args .part .now) (o .loop .part) (s .args .t2) (o .loop .at) (o .loop .i) (s .args .count) (o .loop .inv .1)
+    (omega arith) (s .pre) in
     let a = o .loop .at * 2 in
     rw (lent-part a (o .loop .part)) (omega (arith, length-drop a (o .loop .part)))
 
@@ -115,7 +126,8 @@ add-at : tie.Need-add-at Inv-loop μ-loop
 add-at c =
     let o = c .before .before .before .before .before .before in
     let s = o .before .before in
-    let fits = next-room (s .args .part .now) (o .loop .part) (s .args .t2) (o .loop .at) (o .loop .i) (s .args .count) (o .loop .inv .1) (omega arith) (s .pre) in
+    let fits = next-room (s .args .part .now) (o .loop .part) (s .args .t2) (o .loop .at) (o .loop .i) (s .args .count) (o .loop .inv .1)
+    (omega arith) (s .pre) in
     omega arith
 
 add-i : tie.Need-add-i Inv-loop μ-loop
@@ -128,43 +140,52 @@ loop-again : tie.Need-loop-again Inv-loop μ-loop
 loop-again c =
     let o = c .before .before .before .before .before .before in
     let s = o .before .before in
-    let fits = next-room (s .args .part .now) (o .loop .part) (s .args .t2) (o .loop .at) (o .loop .i) (s .args .count) (o .loop .inv .1) (omega arith) (s .pre) in
-    let next = c .before .before .put-number .last .0 in
-    (omega arith, next-stands (s .args .part .now) (o .loop .part) next (s .args .t2) (o .loop .at) (o .loop .i) (o .loop .inv .1) (omega (arith, s .pre .there)) (omega arith) (c .before .before .put-number .ensures))
+    let fits = next-room (s .args .part .now) (o .loop .part) (s .args .t2) (o .loop .at) (o .loop .i) (s .args .count) (o .loop .inv .1)
+    (omega arith) (s .pre) in
+    let next = c .before .before .put-number .last .0 in (
+      omega arith,
+      next-stands (s .args .part .now) (o .loop .part) next (s .args .t2) (o .loop .at) (o .loop .i) (o .loop .inv .1)
+          (omega (arith, s .pre .there)) (omega arith) (c .before .before .put-number .ensures),
+    )
 
 mul-put-end : tie.Need-mul-put-end Inv-loop μ-loop
 mul-put-end c =
     let o = c .before in
     let s = o .before .before in
-    let fits = end-room (s .args .part .now) (o .loop .part) (s .args .t2) (o .loop .at) (o .loop .i) (s .args .count) (o .loop .inv .1) (omega arith) (s .pre) in
+    let fits = end-room (s .args .part .now) (o .loop .part) (s .args .t2) (o .loop .at) (o .loop .i) (s .args .count) (o .loop .inv .1)
+    (omega arith) (s .pre) in
     omega arith
 
 sub-put-end : tie.Need-sub-put-end Inv-loop μ-loop
 sub-put-end c =
     let o = c .before in
     let s = o .before .before in
-    let fits = end-room (s .args .part .now) (o .loop .part) (s .args .t2) (o .loop .at) (o .loop .i) (s .args .count) (o .loop .inv .1) (omega arith) (s .pre) in
+    let fits = end-room (s .args .part .now) (o .loop .part) (s .args .t2) (o .loop .at) (o .loop .i) (s .args .count) (o .loop .inv .1)
+    (omega arith) (s .pre) in
     omega arith
 
 part-put-end-start : tie.Need-part-put-end-start Inv-loop μ-loop
 part-put-end-start c =
     let o = c .before in
     let s = o .before .before in
-    let fits = end-room (s .args .part .now) (o .loop .part) (s .args .t2) (o .loop .at) (o .loop .i) (s .args .count) (o .loop .inv .1) (omega arith) (s .pre) in
+    let fits = end-room (s .args .part .now) (o .loop .part) (s .args .t2) (o .loop .at) (o .loop .i) (s .args .count) (o .loop .inv .1)
+    (omega arith) (s .pre) in
     omega arith
 
 part-put-end-end : tie.Need-part-put-end-end Inv-loop μ-loop
 part-put-end-end c =
     let o = c .before in
     let s = o .before .before in
-    let fits = end-room (s .args .part .now) (o .loop .part) (s .args .t2) (o .loop .at) (o .loop .i) (s .args .count) (o .loop .inv .1) (omega arith) (s .pre) in
+    let fits = end-room (s .args .part .now) (o .loop .part) (s .args .t2) (o .loop .at) (o .loop .i) (s .args .count) (o .loop .inv .1)
+    (omega arith) (s .pre) in
     omega arith
 
 put-end-requires : tie.Need-put-end-requires Inv-loop μ-loop
 put-end-requires c κs =
     let o = c .before .before in
     let s = o .before .before in
-    let fits = end-room (s .args .part .now) (o .loop .part) (s .args .t2) (o .loop .at) (o .loop .i) (s .args .count) (o .loop .inv .1) (omega arith) (s .pre) in
+    let fits = end-room (s .args .part .now) (o .loop .part) (s .args .t2) (o .loop .at) (o .loop .i) (s .args .count) (o .loop .inv .1)
+    (omega arith) (s .pre) in
     let a = o .loop .at * 2 in
     rw (lent-part a (o .loop .part)) (omega (arith, length-drop a (o .loop .part)))
 
@@ -172,16 +193,20 @@ same-length : tie.Need-same-length Inv-loop μ-loop
 same-length c =
     let o = c .before .before .before .before .before in
     let s = o .before .before in
-    let fits = end-room (s .args .part .now) (o .loop .part) (s .args .t2) (o .loop .at) (o .loop .i) (s .args .count) (o .loop .inv .1) (omega arith) (s .pre) in
-    lent-length (o .loop .at * 2) (o .loop .part) (0x0a ∷ []) (c .before .before .put-end .last .0) (omega arith) (c .before .before .put-end .ensures) (omega arith)
+    let fits = end-room (s .args .part .now) (o .loop .part) (s .args .t2) (o .loop .at) (o .loop .i) (s .args .count) (o .loop .inv .1)
+    (omega arith) (s .pre) in
+    lent-length (o .loop .at * 2) (o .loop .part) (0x0a ∷ []) (c .before .before .put-end .last .0) (omega arith)
+    (c .before .before .put-end .ensures) (omega arith)
     ∙ o .loop .inv .1 .text .size
 
 returns : tie.Need-returns Inv-loop μ-loop
 returns c =
     let o = c .before .before .before .before .before in
     let s = o .before .before in
-    let fits = end-room (s .args .part .now) (o .loop .part) (s .args .t2) (o .loop .at) (o .loop .i) (s .args .count) (o .loop .inv .1) (omega arith) (s .pre) in
-    end-stands (s .args .part .now) (o .loop .part) (c .before .before .put-end .last .0) (s .args .t2) (o .loop .at) (o .loop .i) (s .args .count) (o .loop .inv .1)
+    let fits = end-room (s .args .part .now) (o .loop .part) (s .args .t2) (o .loop .at) (o .loop .i) (s .args .count) (o .loop .inv .1)
+    (omega arith) (s .pre) in
+    end-stands (s .args .part .now) (o .loop .part) (c .before .before .put-end .last .0) (s .args .t2) (o .loop .at) (o .loop .i)
+    (s .args .count) (o .loop .inv .1)
     (omega arith) fits (c .before .before .put-end .ensures)
 
 pub put-frame-spec : {M : Type 1} → statement M

@@ -1,4 +1,5 @@
--- `put_number` meets its contract. Invariant: the digits of the bytes that are still to come, with what stands from their place on, are the whole.
+-- `put_number` meets its contract. Invariant: the digits of the bytes that are still to come, with what stands from their place on, are
+-- the whole.
 use Prim.Native.Nat.{suc, _≤_, _*_, _-_, _%_}
 use mathlib.Core.Path.{_≡_, refl, _∙_}
 use native.Mathlib.Nat.{mod-lt}
@@ -39,8 +40,11 @@ part-put-byte-end c = omega arith
 put-byte-requires : tie.Need-put-byte-requires Inv-loop μ-loop
 put-byte-requires c κs =
     let part = c .before .before .loop .part in
-    let a = (c .before .before .loop .i - 1) * 2 in
-    (rw (lent-part a part) (omega (arith, length-drop a part)), omega (arith, mod-lt (c .before .before .loop .rest) {m = 256} (omega arith)))
+    let a = (c .before .before .loop .i - 1) * 2 in (
+      rw (lent-part a part) (omega (arith, length-drop a part)),
+      omega
+          (arith, mod-lt (c .before .before .loop .rest) {m = 256} (omega arith)),
+    )
 
 loop-less : tie.Need-loop-less Inv-loop μ-loop
 loop-less c = omega arith
@@ -59,7 +63,8 @@ loop-again c =
     let same = number-step k rest part next (omega arith) known in
     let before : numberText (suc k) rest ++ drop (suc k * 2) part ≡ numberText i rest ++ drop (i * 2) part = rw number in (
       omega arith,
-      lent-length (k * 2) part (byteText (rest % 256)) next (omega arith) known (omega (arith, byteText-length (rest % 256))) ∙ at-loop .loop .inv .1,
+      lent-length (k * 2) part (byteText (rest % 256)) next (omega arith) known (omega (arith, byteText-length (rest % 256))) ∙ at-loop
+          .loop .inv .1,
       same ∙ before ∙ at-loop .loop .inv .2,
     )
 

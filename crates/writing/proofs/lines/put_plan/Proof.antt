@@ -1,4 +1,5 @@
--- `put_plan` meets its contract: the header's line, then the strings' lines in the next part, then the releases' lines in the part after that.
+-- `put_plan` meets its contract: the header's line, then the strings' lines in the next part, then the releases' lines in the part after
+-- that.
 use Prim.Native.Nat.{ℕ, _+_, _-_, _*_, _≤_}
 use mathlib.Core.Path.{_≡_, ap, _∙_}
 use mathlib.Core.List.{List, [], _∷_, _++_, flatMap}
@@ -36,7 +37,8 @@ module _ (p : Plan) (rs : Releases) (before : List ℕ) (fits : PlanFits p rs (l
   -- ---- The header, the strings, the releases
 
   header-stands : (cells : List Cell) (part : List ℕ) → SaysFrame cells 5 (version01 .header) (headerSays 1 p)
-      → part ≡ (cellsText (take 5 cells) ++ (0x0a ∷ [])) ++ drop (cellsSize (take 5 cells) * 2 + 1) before → Stands before (headerText version01 p) part
+      → part ≡ (cellsText (take 5 cells) ++ (0x0a ∷ [])) ++ drop (cellsSize (take 5 cells) * 2 + 1) before → Stands before
+      (headerText version01 p) part
   unfolding headerText
   header-stands cells part says got =
       stands-first before (headerText version01 p) part 19 (headerText-length p) (omega (arith, room p rs (length before) fits))
@@ -46,12 +48,14 @@ module _ (p : Plan) (rs : Releases) (before : List ℕ) (fits : PlanFits p rs (l
       → next ≡ flatMap (stringText version01) (stringsOf p) ++ drop (length (stringsOf p) * 17) (take (length part - 19) (drop 19 part))
       → Stands before (headerText version01 p ++ flatMap (stringText version01) (stringsOf p)) (putMid 19 (length part - 19) part next)
   strings-stand part next stands got =
-      stands-next before (headerText version01 p) (flatMap (stringText version01) (stringsOf p)) part next 19 (length (stringsOf p) * 17) stands (headerText-length p)
+      stands-next before (headerText version01 p) (flatMap (stringText version01) (stringsOf p)) part next 19 (length (stringsOf p) * 17)
+      stands (headerText-length p)
       (flatMap-length (stringText version01) 17 stringText-length (stringsOf p))
       (omega (arith, room p rs (length before) fits, stands .size, ap (λ n. n * 17) (strings-many p rs (length before) fits))) got
 
   releases-stand : (part next : List ℕ) → Stands before (headerText version01 p ++ flatMap (stringText version01) (stringsOf p)) part
-      → next ≡ flatMap (releaseText version01) (releasesOf rs) ++ drop (length (releasesOf rs) * 17) (take (length part - (19 + p .n * 17)) (drop (19 + p .n * 17) part))
+      → next ≡ flatMap (releaseText version01) (releasesOf rs) ++ drop (length (releasesOf rs) * 17)
+      (take (length part - (19 + p .n * 17)) (drop (19 + p .n * 17) part))
       → Stands before (planText version01 p (releasesOf rs)) (putMid (19 + p .n * 17) (length part - (19 + p .n * 17)) part next)
   unfolding planText
   releases-stand part next stands got =
@@ -59,7 +63,8 @@ module _ (p : Plan) (rs : Releases) (before : List ℕ) (fits : PlanFits p rs (l
       let strings = flatMap (stringText version01) (stringsOf p) in
       let releases = flatMap (releaseText version01) (releasesOf rs) in
       stands-next before (head ++ strings) releases part next (19 + p .n * 17) (length (releasesOf rs) * 17) stands
-      (length-append head strings ∙ omega (arith, headerText-length p, strings-long p rs (strings-many p rs (length before) fits) (releases-many p rs (length before) fits)))
+      (length-append head strings ∙ omega
+      (arith, headerText-length p, strings-long p rs (strings-many p rs (length before) fits) (releases-many p rs (length before) fits)))
       (flatMap-length (releaseText version01) 17 releaseText-length (releasesOf rs))
       (omega (arith, room p rs (length before) fits, stands .size, ap (λ n. n * 17) (releases-many p rs (length before) fits))) got
 
@@ -73,14 +78,17 @@ header-cells-requires c κs = search needs
 put-frame-requires : tie.Need-put-frame-requires
 put-frame-requires c κs =
     let s = c .before .before .before in
-    line-room (c .header-cells .result) 5 (version01 .header) _ _ (c .header-cells .ensures) (omega arith) (omega (arith, room (s .args .p) (s .args .rs) _ (s .pre)))
+    line-room (c .header-cells .result) 5 (version01 .header) _ _ (c .header-cells .ensures) (omega arith)
+    (omega (arith, room (s .args .p) (s .args .rs) _ (s .pre)))
 
 -- ---- What stands after each part
 
-headed : (c : tie.After-slice-known2) → Stands (start c .args .part .now) (headerText version01 (start c .args .p)) (c .before .before .put-frame .last .0)
+headed : (c : tie.After-slice-known2)
+    → Stands (start c .args .part .now) (headerText version01 (start c .args .p)) (c .before .before .put-frame .last .0)
 headed c =
     let s = start c in
-    header-stands (s .args .p) (s .args .rs) (s .args .part .now) (s .pre) _ _ (c .before .before .before .header-cells .ensures) (c .before .before .put-frame .ensures)
+    header-stands (s .args .p) (s .args .rs) (s .args .part .now) (s .pre) _ _ (c .before .before .before .header-cells .ensures)
+    (c .before .before .put-frame .ensures)
 
 -- the page after the strings
 abbrev page-two : (c : tie.After-slice-known3) → List ℕ
@@ -95,7 +103,8 @@ stringed : (c : tie.After-slice-known3)
     (page-two c)
 stringed c =
     let s = start (c .before .before .before .before) in
-    strings-stand (s .args .p) (s .args .rs) (s .args .part .now) (s .pre) _ _ (headed (c .before .before .before .before)) (c .before .before .put-strings .ensures)
+    strings-stand (s .args .p) (s .args .rs) (s .args .part .now) (s .pre) _ _ (headed (c .before .before .before .before))
+    (c .before .before .put-strings .ensures)
 
 -- there is room for all that follows
 room-at : (c : tie.After-slice-known2) → 19 + start c .args .p .n * 17 + start c .args .rs .count * 17 ≤ length (start c .args .part .now)
@@ -154,7 +163,8 @@ returns : tie.Need-returns
 returns c =
     let known = c .before .before .before .before in
     let s = start (known .before .before .before .before) in
-    releases-stand (s .args .p) (s .args .rs) (s .args .part .now) (s .pre) (page-two known) _ (stringed known) (c .before .before .put-releases .ensures) .is
+    releases-stand (s .args .p) (s .args .rs) (s .args .part .now) (s .pre) (page-two known) _ (stringed known)
+    (c .before .before .put-releases .ensures) .is
 
 pub put-plan-spec : {M : Type 1} → statement M
 put-plan-spec =

@@ -25,10 +25,12 @@ Lines list count before part i = Rows (releaseText version01) 17 releaseText-len
 counted : (rs : Releases) (k : ℕ) → ReleasesFit rs k → length (releasesOf rs) ≡ rs .count
 counted rs k fit = length-take-le (rs .count) (rs .list) (omega (arith, fit .few, fit .thousand))
 
-next-room : (rs : Releases) (before part : List ℕ) (i : ℕ) → ReleasesFit rs (length before) → Lines (rs .list) (rs .count) before part i → i < rs .count
+next-room : (rs : Releases) (before part : List ℕ) (i : ℕ) → ReleasesFit rs (length before)
+    → Lines (rs .list) (rs .count) before part i → i < rs .count
     → i * 17 + 17 ≤ length part
 next-room rs before part i fit rows h =
-    rows-room (releaseText version01) 17 releaseText-length (releasesOf rs) noRelease before part i rows (omega (arith, counted rs (length before) fit))
+    rows-room (releaseText version01) 17 releaseText-length (releasesOf rs) noRelease before part i rows
+    (omega (arith, counted rs (length before) fit))
     (omega (arith, ap (λ n. n * 17) (counted rs (length before) fit), fit .bytes))
 
 abbrev Inv-loop : tie.InvT-loop
@@ -38,7 +40,11 @@ abbrev μ-loop : tie.MeasureT-loop
 μ-loop part₀ count list i₀ part i = count - i
 
 loop-holds : tie.Need-loop-holds Inv-loop μ-loop
-loop-holds c = (omega arith, rows-start (releaseText version01) 17 releaseText-length (releasesOf (c .before .before .args .rs)) noRelease _)
+loop-holds c = (
+  omega arith,
+  rows-start (releaseText version01) 17 releaseText-length (releasesOf (c .before .before .args .rs)) noRelease
+      _,
+)
 
 mul-r : tie.Need-mul-r Inv-loop μ-loop
 mul-r c = omega arith
@@ -80,7 +86,8 @@ release-cells-requires c κs =
     let s = o .before .before .before in
     let rs = s .args .rs in
     let this = getD-take (rs .count) (rs .list) (o .loop .i) noRelease (omega arith) in
-    subst (λ r. r .place ≤ 10) this (all-at (λ r. r .place ≤ 10) (releasesOf rs) noRelease (s .pre .places) (o .loop .i) (omega (arith, counted rs _ (s .pre))))
+    subst (λ r. r .place ≤ 10) this
+    (all-at (λ r. r .place ≤ 10) (releasesOf rs) noRelease (s .pre .places) (o .loop .i) (omega (arith, counted rs _ (s .pre))))
 
 put-frame-requires : tie.Need-put-frame-requires Inv-loop μ-loop
 put-frame-requires c κs =
@@ -89,7 +96,8 @@ put-frame-requires c κs =
     let fits = next-room (s .args .rs) (s .args .part .now) (o .loop .part) (o .loop .i) (s .pre) (o .loop .inv .1) (omega arith) in
     let a = o .loop .i * 17 in
     rw (lent-part a (o .loop .part))
-    (line-room (c .release-cells .result) 4 (version01 .release) _ _ (c .release-cells .ensures) (omega arith) (omega (arith, length-drop a (o .loop .part))))
+    (line-room (c .release-cells .result) 4 (version01 .release) _ _ (c .release-cells .ensures) (omega arith)
+    (omega (arith, length-drop a (o .loop .part))))
 
 add-i : tie.Need-add-i Inv-loop μ-loop
 add-i c = omega arith
@@ -106,10 +114,13 @@ loop-again c =
     let list = releasesOf (s .args .rs) in
     let i = o .loop .i in
     let made = c .before .before .before .release-cells in
-    let this : getD list i noRelease ≡ getD (s .args .rs .list) i noRelease = getD-take (s .args .rs .count) (s .args .rs .list) i noRelease (omega arith) in
-    let put = line-put (made .result) 4 (version01 .release) (releaseSays (getD (s .args .rs .list) i noRelease)) _ _ (made .ensures) (c .before .before .put-frame .ensures) in (
+    let this : getD list i noRelease ≡ getD (s .args .rs .list) i noRelease = getD-take (s .args .rs .count) (s .args .rs .list) i
+    noRelease (omega arith) in
+    let put = line-put (made .result) 4 (version01 .release) (releaseSays (getD (s .args .rs .list) i noRelease)) _ _ (made .ensures)
+    (c .before .before .put-frame .ensures) in (
       omega arith,
-      rows-next (releaseText version01) 17 releaseText-length list noRelease (s .args .part .now) (o .loop .part) (c .before .before .put-frame .last .0) i (o .loop .inv .1)
+      rows-next (releaseText version01) 17 releaseText-length list noRelease (s .args .part .now) (o .loop .part)
+          (c .before .before .put-frame .last .0) i (o .loop .inv .1)
           (omega (arith, counted (s .args .rs) _ (s .pre))) fits (rw this put),
     )
 
@@ -120,7 +131,8 @@ returns : tie.Need-returns Inv-loop μ-loop
 returns c =
     let o = c .before in
     let s = o .before .before .before in
-    rows-end (releaseText version01) 17 releaseText-length (releasesOf (s .args .rs)) noRelease (s .args .part .now) (o .loop .part) (o .loop .i) (o .loop .inv .1)
+    rows-end (releaseText version01) 17 releaseText-length (releasesOf (s .args .rs)) noRelease (s .args .part .now) (o .loop .part)
+    (o .loop .i) (o .loop .inv .1)
     (omega (arith, counted (s .args .rs) _ (s .pre)))
 
 pub put-releases-spec : {M : Type 1} → statement M

@@ -27,7 +27,8 @@ counted p k fit = length-take-le (p .n) (p .strings) (omega (arith, fit .few, fi
 next-room : (p : Plan) (before part : List ℕ) (i : ℕ) → StringsFit p (length before) → Lines (p .strings) (p .n) before part i → i < p .n
     → i * 17 + 17 ≤ length part
 next-room p before part i fit rows h =
-    rows-room (stringText version01) 17 stringText-length (stringsOf p) noString before part i rows (omega (arith, counted p (length before) fit))
+    rows-room (stringText version01) 17 stringText-length (stringsOf p) noString before part i rows
+    (omega (arith, counted p (length before) fit))
     (omega (arith, ap (λ n. n * 17) (counted p (length before) fit), fit .bytes))
 
 abbrev Inv-loop : tie.InvT-loop
@@ -83,7 +84,8 @@ put-frame-requires c κs =
     let fits = next-room (s .args .p) (s .args .part .now) (o .loop .part) (o .loop .i) (s .pre) (o .loop .inv .1) (omega arith) in
     let a = o .loop .i * 17 in
     rw (lent-part a (o .loop .part))
-    (line-room (c .string-cells .result) 5 (version01 .string) _ _ (c .string-cells .ensures) (omega arith) (omega (arith, length-drop a (o .loop .part))))
+    (line-room (c .string-cells .result) 5 (version01 .string) _ _ (c .string-cells .ensures) (omega arith)
+    (omega (arith, length-drop a (o .loop .part))))
 
 add-i : tie.Need-add-i Inv-loop μ-loop
 add-i c = omega arith
@@ -100,10 +102,13 @@ loop-again c =
     let strings = stringsOf (s .args .p) in
     let i = o .loop .i in
     let made = c .before .before .before .string-cells in
-    let this : getD strings i noString ≡ getD (s .args .p .strings) i noString = getD-take (s .args .p .n) (s .args .p .strings) i noString (omega arith) in
-    let put = line-put (made .result) 5 (version01 .string) (stringSays (getD (s .args .p .strings) i noString)) _ _ (made .ensures) (c .before .before .put-frame .ensures) in (
+    let this : getD strings i noString ≡ getD (s .args .p .strings) i noString = getD-take (s .args .p .n) (s .args .p .strings) i noString
+    (omega arith) in
+    let put = line-put (made .result) 5 (version01 .string) (stringSays (getD (s .args .p .strings) i noString)) _ _ (made .ensures)
+    (c .before .before .put-frame .ensures) in (
       omega arith,
-      rows-next (stringText version01) 17 stringText-length strings noString (s .args .part .now) (o .loop .part) (c .before .before .put-frame .last .0) i (o .loop .inv .1)
+      rows-next (stringText version01) 17 stringText-length strings noString (s .args .part .now) (o .loop .part)
+          (c .before .before .put-frame .last .0) i (o .loop .inv .1)
           (omega (arith, counted (s .args .p) _ (s .pre))) fits (rw this put),
     )
 
@@ -114,7 +119,8 @@ returns : tie.Need-returns Inv-loop μ-loop
 returns c =
     let o = c .before in
     let s = o .before .before .before in
-    rows-end (stringText version01) 17 stringText-length (stringsOf (s .args .p)) noString (s .args .part .now) (o .loop .part) (o .loop .i) (o .loop .inv .1)
+    rows-end (stringText version01) 17 stringText-length (stringsOf (s .args .p)) noString (s .args .part .now) (o .loop .part)
+    (o .loop .i) (o .loop .inv .1)
     (omega (arith, counted (s .args .p) _ (s .pre)))
 
 pub put-strings-spec : {M : Type 1} → statement M
