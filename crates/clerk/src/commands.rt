@@ -87,7 +87,7 @@ pub(crate) fn decimal(word: &[u8]) -> Number {
             return Number::Malformed;
         }
         let d = digit - 48;
-        if (18446744073709551615 - d) / 10 < value {
+        if (u64::MAX - d) / 10 < value {
             return Number::Malformed;
         }
         value = value * 10 + d;
