@@ -2,23 +2,28 @@
 
 mod batch;
 mod chance;
+mod clerk;
 mod compare;
+mod complaints;
 mod desk;
+mod edges;
 mod faults;
 mod mix;
 mod options;
 mod plans;
 mod rules;
+mod saving;
 mod selftest;
+mod stop;
 mod tally;
 mod writing;
 
-use batch::Stop;
 use compare::compare_all;
 use options::{task, Comparison, Task, USAGE};
 use rules::answer::Answer;
 use std::path::Path;
 use std::process::ExitCode;
+use stop::Stop;
 
 /// Status where nothing could be compared.
 const UNABLE: u8 = 2;
@@ -43,8 +48,10 @@ fn run_comparison(job: &Comparison) -> ExitCode {
                 print!("{tally}");
             }
             println!(
-                "second: {} files, seed {}, no difference",
-                job.files, job.seed
+                "second: {} files, {} answers, seed {}, no difference",
+                job.files,
+                tally.answers(),
+                job.seed
             );
             ExitCode::SUCCESS
         }

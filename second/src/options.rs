@@ -5,6 +5,7 @@ use std::str::FromStr;
 
 pub const USAGE: &str =
     "usage: second --desk PATH [--files N] [--seed S] [--batch B] [--keep DIR] [--tally]
+       second --clerk PATH [--files N] [--seed S] [--batch B] [--keep DIR] [--tally]
        second --answer FILE
        second --selftest";
 
@@ -14,8 +15,14 @@ pub enum Task {
     Selftest,
 }
 
+/// The program that is compared with this one.
+pub enum Program {
+    Desk(PathBuf),
+    Clerk(PathBuf),
+}
+
 pub struct Comparison {
-    pub desk: PathBuf,
+    pub program: Program,
     pub files: u64,
     pub seed: u64,
     pub batch: u64,
@@ -23,16 +30,27 @@ pub struct Comparison {
     pub tally: bool,
 }
 
+/// Files that are also asked about one by one, each by a start of its own.
+const ASKED_ALONE: u64 = 48;
+
+impl Comparison {
+    /// Spreads the files asked about alone evenly over all files.
+    pub fn asks_alone(&self, file: u64) -> bool {
+        file * ASKED_ALONE / self.files != (file + 1) * ASKED_ALONE / self.files
+    }
+}
+
 /// Reads the arguments; nothing if they ask for no task or have a word too many.
 pub fn task(mut words: impl Iterator<Item = String>) -> Option<Task> {
-    let mut desk = None;
+    let mut program = None;
     let (mut files, mut seed, mut batch) = (50_000, 1, 200);
     let (mut keep, mut tally) = (None, false);
     while let Some(word) = words.next() {
         match word.as_str() {
             "--answer" => return words.next().map(|path| Task::Answer(path.into())),
             "--selftest" => return Some(Task::Selftest),
-            "--desk" => desk = Some(value(&mut words)?),
+            "--desk" => program = Some(Program::Desk(value(&mut words)?)),
+            "--clerk" => program = Some(Program::Clerk(value(&mut words)?)),
             "--files" => files = value(&mut words)?,
             "--seed" => seed = value(&mut words)?,
             "--batch" => batch = value(&mut words)?,
@@ -45,7 +63,7 @@ pub fn task(mut words: impl Iterator<Item = String>) -> Option<Task> {
         return None;
     }
     Some(Task::Compare(Comparison {
-        desk: desk?,
+        program: program?,
         files,
         seed,
         batch,

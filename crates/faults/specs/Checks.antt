@@ -8,7 +8,7 @@ use mathlib.Core.Bool.{Bool, cond, _&&_}
 use lib.Dec.{leb}
 use Rattle.faults.specs.declared.Fault.{Fault}
 use Rattle.faults.specs.declared.Fault.the-variants.{TextTooLong, LineMalformed, FrameWrong, StringCount}
-use Rattle.faults.specs.declared.Fault.the-variants.{OutOfBounds, MultipleOver, ReleaseTooMany, ReleaseUnlawful}
+use Rattle.faults.specs.declared.Fault.the-variants.{OutOfBounds, MultipleOver, ReleaseTooMany, ReleaseUnlawful, NoRoom}
 use Rattle.faults.specs.declared.Checked.{Checked}
 use Rattle.faults.specs.declared.Checked.the-variants.{Lawful, Refused}
 
@@ -21,6 +21,7 @@ faultNumber OutOfBounds = 5
 faultNumber MultipleOver = 6
 faultNumber ReleaseTooMany = 7
 faultNumber ReleaseUnlawful = 8
+faultNumber NoRoom = 9
 
 abbrev pub then : Checked → Checked → Checked
 then Lawful next = next

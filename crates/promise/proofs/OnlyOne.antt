@@ -42,6 +42,8 @@ use Rattle.bounds.proofs.plan_check.Reads as plan-check
 use Rattle.bounds.proofs.set_check.Reads as set-check
 use Rattle.bounds.proofs.run_check.Reads as run-check
 use Rattle.reading.proofs.read.Reads as read
+use Rattle.writing.specs.declared.Saved.{Saved}
+use Rattle.writing.proofs.write.Reads as write
 use Rattle.verdict.proofs.verdict.Reads as verdict
 use Rattle.verdict.proofs.verdict_with.Reads as verdict-with
 use Rattle.verdict.proofs.search.Reads as search-takers
@@ -121,6 +123,11 @@ one-run-check κs a e f r s h k = h ∙ sym k
 pub one-read : (κs : Lfts 1) (a : _) (e f : _) (r s : Reading) → read.Learnt κs a r e → read.Learnt κs a s f
     → (r ≡ s) × (e .0 .now ≡ f .0 .now)
 one-read κs a e f r s h k = (h .0 ∙ sym (k .0), h .1 ∙ sym (k .1))
+
+-- writing: the page is lent
+pub one-write : (κs : Lfts 1) (a : _) (e f : _) (r s : Saved) → write.Learnt κs a r e → write.Learnt κs a s f
+    → (r ≡ s) × (e .1 .1 .0 .now ≡ f .1 .1 .0 .now)
+one-write κs a e f r s h k = (h .0 ∙ sym (k .0), h .1 ∙ sym (k .1))
 
 -- verdict
 pub one-verdict : (κs : Lfts 0) (a : _) (e f : _) (r s : Verdict) → verdict.Learnt κs a r e → verdict.Learnt κs a s f → r ≡ s

@@ -1,5 +1,5 @@
 // Hexadecimal digits, and the numbers that fields of a frame say, high byte first.
-use super::layout::Field;
+use layouts::Field;
 ghost use mathlib.Core.Path.{_≡_};
 ghost use Prim.Native.Nat.{_+_, _*_, _<_, _≤_};
 ghost use lib.ListN.{length, drop};

@@ -1,10 +1,10 @@
 // One line of the text: is it well formed, and is it the frame that is wanted?
 use super::digits::digits_ahead;
 use super::digits::field_at;
-use super::layout::KIND;
-use super::layout::Layout;
 use faults::Checked;
 use faults::Fault;
+use layouts::KIND;
+use layouts::Layout;
 ghost use mathlib.Core.Path.{_≡_};
 ghost use Prim.Native.Nat.{_≤_};
 ghost use lib.ListN.{length, drop};

@@ -1,15 +1,15 @@
 // The header line.
 use super::digits::field_at;
 use super::frames::frame_check;
-use super::layout::HEADER;
-use super::layout::HEADER_COUNT;
-use super::layout::HEADER_MOVING;
-use super::layout::HEADER_RUN;
-use super::layout::HEADER_VERSION;
-use super::layout::VERSION;
 use days::Length;
 use faults::Checked;
 use faults::Fault;
+use layouts::HEADER;
+use layouts::HEADER_COUNT;
+use layouts::HEADER_MOVING;
+use layouts::HEADER_RUN;
+use layouts::HEADER_VERSION;
+use layouts::VERSION;
 ghost use mathlib.Core.Path.{_≡_};
 ghost use Rattle.rules.specs.Layout.{version01, frameSize};
 ghost use Rattle.rules.specs.Text.{headerCheck};

@@ -4,7 +4,6 @@
 mod digits;
 mod frames;
 mod header;
-mod layout;
 mod releases;
 mod strings;
 
@@ -14,9 +13,9 @@ use digits::field_at;
 use faults::Checked;
 use faults::Fault;
 use header::header_check;
-use layout::HEADER_COUNT;
-use layout::HEADER_LINE;
-use layout::STRING_LINE;
+use layouts::HEADER_COUNT;
+use layouts::HEADER_LINE;
+use layouts::STRING_LINE;
 use releases::release_frames;
 use releases::releases_in;
 use rules::BatteryString;

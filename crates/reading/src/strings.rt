@@ -1,17 +1,17 @@
 // The string lines, one after the other.
 use super::digits::field_at;
 use super::frames::frame_check;
-use super::layout::HEADER_MOVING;
-use super::layout::HEADER_RUN;
-use super::layout::STRING;
-use super::layout::STRING_C;
-use super::layout::STRING_D;
-use super::layout::STRING_LINE;
-use super::layout::STRING_T;
-use super::layout::STRING_X;
 use days::Length;
 use faults::Checked;
 use faults::Fault;
+use layouts::HEADER_MOVING;
+use layouts::HEADER_RUN;
+use layouts::STRING;
+use layouts::STRING_C;
+use layouts::STRING_D;
+use layouts::STRING_LINE;
+use layouts::STRING_T;
+use layouts::STRING_X;
 use rules::BatteryString;
 use rules::Plan;
 ghost use mathlib.Core.Path.{_≡_};

@@ -13,85 +13,85 @@ pub struct Layout {
     pub size: usize,
 }
 
-pub(crate) const KIND: Field = Field { at: 0, size: 1 };
+pub const KIND: Field = Field { at: 0, size: 1 };
 
 // The header: version, n, A, N.
-pub(crate) const VERSION: u32 = 1;
+pub const VERSION: u32 = 1;
 
-pub(crate) const HEADER_VERSION: Field = Field {
+pub const HEADER_VERSION: Field = Field {
     at: KIND.size,
     size: 1,
 };
 
-pub(crate) const HEADER_COUNT: Field = Field {
+pub const HEADER_COUNT: Field = Field {
     at: HEADER_VERSION.at + HEADER_VERSION.size,
     size: 1,
 };
 
-pub(crate) const HEADER_MOVING: Field = Field {
+pub const HEADER_MOVING: Field = Field {
     at: HEADER_COUNT.at + HEADER_COUNT.size,
     size: 2,
 };
 
-pub(crate) const HEADER_RUN: Field = Field {
+pub const HEADER_RUN: Field = Field {
     at: HEADER_MOVING.at + HEADER_MOVING.size,
     size: 4,
 };
 
-pub(crate) const HEADER: Layout = Layout {
+pub const HEADER: Layout = Layout {
     kind: 1,
     size: HEADER_RUN.at + HEADER_RUN.size,
 };
 
-pub(crate) const HEADER_LINE: usize = HEADER.size * 2 + 1;
+pub const HEADER_LINE: usize = HEADER.size * 2 + 1;
 
 // A string: X, T, C, D.
-pub(crate) const STRING_X: Field = Field {
+pub const STRING_X: Field = Field {
     at: KIND.size,
     size: 1,
 };
 
-pub(crate) const STRING_T: Field = Field {
+pub const STRING_T: Field = Field {
     at: STRING_X.at + STRING_X.size,
     size: 2,
 };
 
-pub(crate) const STRING_C: Field = Field {
+pub const STRING_C: Field = Field {
     at: STRING_T.at + STRING_T.size,
     size: 2,
 };
 
-pub(crate) const STRING_D: Field = Field {
+pub const STRING_D: Field = Field {
     at: STRING_C.at + STRING_C.size,
     size: 2,
 };
 
-pub(crate) const STRING: Layout = Layout {
+pub const STRING: Layout = Layout {
     kind: 2,
     size: STRING_D.at + STRING_D.size,
 };
 
-pub(crate) const STRING_LINE: usize = STRING.size * 2 + 1;
+pub const STRING_LINE: usize = STRING.size * 2 + 1;
 
 // A release: place, day, need.
-pub(crate) const RELEASE_PLACE: Field = Field {
+pub const RELEASE_PLACE: Field = Field {
     at: KIND.size,
     size: 1,
 };
 
-pub(crate) const RELEASE_DAY: Field = Field {
+pub const RELEASE_DAY: Field = Field {
     at: RELEASE_PLACE.at + RELEASE_PLACE.size,
     size: 4,
 };
 
-pub(crate) const RELEASE_NEED: Field = Field {
+pub const RELEASE_NEED: Field = Field {
     at: RELEASE_DAY.at + RELEASE_DAY.size,
     size: 2,
 };
 
-pub(crate) const RELEASE: Layout = Layout {
+pub const RELEASE: Layout = Layout {
     kind: 3,
     size: RELEASE_NEED.at + RELEASE_NEED.size,
 };
 
-pub(crate) const RELEASE_LINE: usize = RELEASE.size * 2 + 1;
+pub const RELEASE_LINE: usize = RELEASE.size * 2 + 1;
