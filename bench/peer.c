@@ -1,4 +1,4 @@
-// A plain C peer of the verdict and the search (document 01), and a clock for both.
+// A plain C peer of the plan's check, the verdict and the search (document 01), and a clock for them.
 // It declares what it uses of the C library itself: the kit's compiler builds it for x86-64 on any machine, without headers.
 typedef unsigned int uint32_t;
 typedef unsigned long uint64_t;
@@ -14,14 +14,17 @@ int clock_gettime(int, struct timespec *);
 typedef struct { uint32_t t, c, d, x; } String;
 typedef struct { uint32_t n, a, run; String s[10]; } Plan;
 
+uint64_t entry_multiple(size_t n, const uint32_t *numbers, size_t count);
+uint64_t entry_check(size_t n, const uint32_t *numbers, size_t count);
 uint64_t entry_verdict(size_t n, const uint32_t *numbers, size_t count);
 uint64_t entry_search(size_t n, const uint32_t *numbers, size_t count);
 
 static uint32_t gcd(uint32_t a, uint32_t b) { while (b) { uint32_t r = a % b; a = b; b = r; } return a; }
 
+// Euclid's way. With a T of 0 there is no common multiple from 1 on
 static uint32_t multiple(const Plan *p) {
     uint64_t h = 1;
-    for (uint32_t i = 0; i < p->n; i++) { h = h / gcd(h, p->s[i].t) * p->s[i].t; if (h > 100000) return 100001; }
+    for (uint32_t i = 0; i < p->n; i++) { h = h / gcd(h, p->s[i].t) * p->s[i].t; if (h < 1 || h > 100000) return 100001; }
     return h;
 }
 
@@ -128,6 +131,55 @@ static void clocked(const char *name, const Plan *p, int searching) {
         best[2] / best[0], best[1] * 1e3, best[2] / best[1], said[0] == said[2] && said[1] == said[2] ? "same" : "DIFFERENT");
 }
 
+// a check is too short for the clock: 1,000 in a row. Both sides make a plan of the numbers
+enum { CHECKS = 1000 };
+
+static uint64_t __attribute__((noinline)) peer_check(size_t n, const uint32_t *numbers, size_t count) {
+    Plan p;
+    if (count < 43) return 0;
+    memcpy(&p, numbers, sizeof p);
+    p.n = n;
+    return lawful(&p);
+}
+
+static void clocked_check(const char *name, const uint32_t *t) {
+    Plan p = {10, 0, 1000, {{0}}};
+    for (int i = 0; i < 10; i++) p.s[i] = (String){t[i], 1, 1, 0};
+    uint32_t v[43];
+    numbers_of(&p, v);
+    uint64_t (*check[2])(size_t, const uint32_t *, size_t) = {peer_check, entry_check};
+    double best[2] = {1e9, 1e9};
+    uint64_t said[2] = {0};
+    for (int round = 0; round < 15; round++)
+        for (int who = 0; who < 2; who++) {
+            double start = now();
+            for (int k = 0; k < CHECKS; k++) said[who] = check[who](p.n, v, 43);
+            double spent = (now() - start) / CHECKS;
+            if (spent < best[who]) best[who] = spent;
+        }
+    printf("%-30s ours %8.3f us  peer %9.3f (ratio %4.2f)  H %u  %s\n", name, best[1] * 1e6, best[0] * 1e6, best[1] / best[0], multiple(&p),
+        said[0] == said[1] && entry_multiple(p.n, v, 43) == multiple(&p) ? "same" : "DIFFERENT");
+}
+
+// periods of any size, 0 among them
+static void random_periods(int count) {
+    int bad = 0, found = 0;
+    for (int k = 0; k < count; k++) {
+        Plan p = {0};
+        uint32_t v[43];
+        p.n = 1 + rand() % 10;
+        for (uint32_t i = 0; i < 10; i++) {
+            uint32_t large = (uint32_t)rand() * 2 + rand() % 2, small = (uint32_t)(rand() % 200) >> rand() % 9;
+            p.s[i].t = rand() % 50 == 0 ? large : small;
+        }
+        numbers_of(&p, v);
+        uint32_t h = multiple(&p);
+        bad += h != entry_multiple(p.n, v, 43);
+        found += h <= 100000;
+    }
+    printf("%d random lists of periods: %d differ (H found for %d)\n", count, bad, found);
+}
+
 static void random_plans(int count) {
     int bad = 0, kinds[4] = {0};
     srand(7);
@@ -149,6 +201,13 @@ static void random_plans(int count) {
 
 int main(void) {
     random_plans(20000);
+    random_periods(20000);
+    // the slowest to count up to: eight of the ten divide every number
+    clocked_check("check, H 99,999", (const uint32_t[]){1, 1, 1, 1, 1, 1, 1, 1, 369, 271});
+    clocked_check("check, H over", (const uint32_t[]){1, 1, 1, 1, 1, 1, 1, 1, 991, 997});
+    // the slowest by Euclid's way: no ten lawful strings take more than 31 remainders, or 43 where the last makes H too large
+    clocked_check("check, 31 remainders", (const uint32_t[]){1, 1, 1, 1, 2, 3, 9, 5, 16, 445});
+    clocked_check("check, 43 remainders, H over", (const uint32_t[]){1, 1, 1, 2, 4, 6, 20, 13, 178, 883});
     // a blocker of 900 days, nine short strings that may take the bank
     Plan blocked = {10, 0, 1000, {{1000, 900, 1000, 0}, {768, 1, 10, 1}, {960, 1, 20, 1}, {640, 1, 30, 1}, {500, 1, 40, 1}, {800, 1, 50, 1},
         {750, 1, 60, 1}, {600, 1, 70, 1}, {480, 1, 80, 1}, {400, 1, 90, 1}}};

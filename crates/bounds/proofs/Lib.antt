@@ -1,3 +1,4 @@
 pub mod ByPlace
+pub mod LeastMultiple
 pub mod Seen
 pub mod ReleaseWalk

@@ -1,48 +1,54 @@
-// H, the least common multiple of all T, by trying one number after the other up to the bound.
+// H, the least common multiple of all T, string after string: a product over the greatest common divisor, which Euclid's way finds.
 use super::strings::counted;
 use rules::Plan;
 ghost use mathlib.Core.Path.{_≡_};
-ghost use Prim.Native.Nat.{_%_};
-ghost use lib.Dec.{eqb};
-ghost use Rattle.rules.specs.Plan.{stringsOf, commonMultiple, multipleOf};
+ghost use Prim.Native.Nat.{_≤_};
+ghost use Rattle.numbers.specs.Divisors.{gcd};
+ghost use Rattle.numbers.specs.Multiples.{lcm};
+ghost use Rattle.rules.specs.Plan.{multipleOf};
+ghost use Rattle.bounds.specs.Capped.{capped};
 
-// Whether h is a whole number of periods t. Nothing but 0 is a whole number of periods of no days.
-fn whole(h: u32, t: u32) -> bool
-    ensures exact { λ r. ⌜ r ≡ eqb (h % t) 0 ⌝ }
+// The greatest common divisor: what divides two numbers divides the rest of their division too.
+fn common_divisor(a: u32, b: u32) -> u32
+    ensures exact { λ r. ⌜ r ≡ gcd a b ⌝ }
 {
-    if t == 0 {
-        return h == 0;
+    let mut number = a;
+    let mut divisor = b;
+    while 0 < divisor {
+        let rest = number % divisor;
+        number = divisor;
+        divisor = rest;
     }
-    h % t == 0
+    number
 }
 
-// Whether every T of the plan divides h.
-fn common(p: Plan, h: u32) -> bool
-    ensures exact { λ r. ⌜ r ≡ commonMultiple (stringsOf p) h ⌝ }
+// The least common multiple of h and t, or 100,001 where that is not 1 to 100,000. The product is made only once it is known to fit.
+fn next_multiple(h: u32, t: u32) -> u32
+    requires { ⌜ 1 ≤ h ⌝ }
+    ensures exact { λ r. ⌜ r ≡ capped 100000 (lcm h t) ⌝ }
 {
-    let n = counted(p);
-    let strings = p.strings;
-    let mut i: usize = 0;
-    while i < n {
-        let s = strings[i];
-        if !whole(h, s.t.0) {
-            return false;
-        }
-        i += 1;
+    if t < 1 {
+        return 100001;
     }
-    true
+    let part = h / common_divisor(h, t);
+    if 100000 / t < part { 100001 } else { part * t }
 }
 
 // H, or 100,001 where it is over 100,000.
 pub fn multiple(p: Plan) -> u32
     ensures exact { λ r. ⌜ r ≡ multipleOf p ⌝ }
 {
+    let n = counted(p);
+    let strings = p.strings;
     let mut h: u32 = 1;
-    while h <= 100000 {
-        if common(p, h) {
+    let mut i: usize = 0;
+    while i < n {
+        let s = strings[i];
+        h = next_multiple(h, s.t.0);
+        if 100000 < h {
             return h;
         }
-        h += 1;
+        i += 1;
     }
     h
 }

@@ -1,0 +1,3 @@
+-- Numbers apart from any plan. Read: Divisors, Multiples.
+pub mod Divisors
+pub mod Multiples
