@@ -12,6 +12,8 @@ pub enum Fault {
     MultipleOver,
     ReleaseTooMany,
     ReleaseUnlawful,
+    NoRoom,
+    NoSuchDate,
 }
 
 // Whether all rules were met; if not, the first fault, and where: a line, a place, or 0 for the whole.
@@ -33,5 +35,7 @@ pub fn fault_number(f: Fault) -> u32
         Fault::MultipleOver => 6,
         Fault::ReleaseTooMany => 7,
         Fault::ReleaseUnlawful => 8,
+        Fault::NoRoom => 9,
+        Fault::NoSuchDate => 10,
     }
 }

@@ -1,0 +1,20 @@
+-- Where a day lies, for inner use: no promise to a caller speaks of these.
+--     InYear day k rest       day lies in year 2000 + k, `rest` days after its first
+--     InMonth f day m rest    day, counted in its year from 0, lies in month m, `rest` days after its first; f days in February
+use Prim.Native.Nat.{ℕ, _+_, _-_, _≤_, _<_}
+use mathlib.Core.Path.{_≡_}
+use lib.ListN.{take, getD}
+use Rattle.lists.specs.Count.{sumOf}
+use Rattle.calendar.specs.Years.{yearLength, monthsWith}
+use Rattle.calendar.specs.Numbers.{daysBeforeYear}
+
+pub record InYear (day k rest : ℕ) : Type 0 where
+  pub adds : daysBeforeYear (2000 + k) + rest ≡ day
+  pub within : rest < yearLength (2000 + k)
+  pub last : k ≤ 399
+
+pub record InMonth (f day m rest : ℕ) : Type 0 where
+  pub adds : sumOf (λ n. n) (take (m - 1) (monthsWith f)) + rest ≡ day
+  pub within : rest < getD (monthsWith f) (m - 1) 0
+  pub january : 1 ≤ m
+  pub december : m ≤ 12

@@ -1,0 +1,32 @@
+-- Yearly tests, edition 1 (document 02, W-203): a month and a day; the test falls in each year in which that date exists.
+--     years                 the years of the calendar
+--     inYear t y            the date of the test t in year y
+--     yearlyDates t         the dates on which t falls
+--     inNoYear t            its month and day exist in no year
+--     yearlyDays t a e      the days on which t falls from day a to day e, both counted
+use Prim.Native.Nat.{ℕ}
+use mathlib.Core.Bool.{Bool}
+use mathlib.Core.List.{List, map}
+use lib.Dec.{eqb}
+use lib.ListN.{length}
+use Rattle.lists.specs.Count.{keep, upFrom}
+use Rattle.faults.specs.Checks.{inBounds}
+use Rattle.calendar.specs.declared.Date.{Date}
+use Rattle.calendar.specs.declared.YearlyDate.{YearlyDate}
+use Rattle.calendar.specs.Dates.{date, dateExists}
+use Rattle.calendar.specs.Numbers.{dayNumber}
+
+abbrev pub years : List ℕ
+years = upFrom 2000 400
+
+abbrev pub inYear : YearlyDate → ℕ → Date
+inYear t y = date y (t .month) (t .day)
+
+unfoldable pub yearlyDates : YearlyDate → List Date
+yearlyDates t = keep dateExists (map (inYear t) years)
+
+unfoldable pub inNoYear : YearlyDate → Bool
+inNoYear t = eqb (length (yearlyDates t)) 0
+
+unfoldable pub yearlyDays : YearlyDate → ℕ → ℕ → List ℕ
+yearlyDays t a e = keep (λ k. inBounds a k e) (map dayNumber (yearlyDates t))
