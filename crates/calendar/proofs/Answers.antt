@@ -1,18 +1,24 @@
 -- Laws of the calendar's answers: which case holds.
 use Prim.Native.Nat.{ℕ, _≤_, _<_}
 use mathlib.Core.Path.{_≡_}
-use mathlib.Core.Bool.{true, false}
-use borrow.Author.Tests.{le-leb, lt-leb}
+use mathlib.Core.Bool.{Bool, true, false, _||_}
+use mathlib.Core.List.{List, _++_}
+use lib.Dec.{ltb}
+use lib.ListN.{length, drop}
+use borrow.Author.Tests.{le-leb, lt-leb, lt-ltb, le-ltb}
 use Rattle.days.specs.Days.{day}
-use Rattle.faults.specs.declared.Fault.the-variants.{NoSuchDate}
+use Rattle.faults.specs.declared.Fault.the-variants.{NoRoom, NoSuchDate}
 use Rattle.calendar.specs.declared.Date.{Date}
 use Rattle.calendar.specs.declared.WhichDate.the-variants as which-date
 use Rattle.calendar.specs.declared.WhichDay.the-variants as which-day
 use Rattle.calendar.specs.declared.WhichWeekday.the-variants as which-weekday
+use Rattle.calendar.specs.declared.YearlyDate.{YearlyDate}
+use Rattle.calendar.specs.declared.Listed.the-variants as listed
 use Rattle.calendar.specs.Dates.{dateExists}
 use Rattle.calendar.specs.Numbers.{dayNumber, dateOf, lastDay}
 use Rattle.calendar.specs.Weekdays.{weekdayOf}
-use Rattle.calendar.specs.Refusals.{dateAnswer, dayAnswer, weekdayAnswer}
+use Rattle.calendar.specs.Yearly.{inNoYear, yearlyDays}
+use Rattle.calendar.specs.Refusals.{dateAnswer, dayAnswer, weekdayAnswer, yearlyCheck, listedIf, storedIf, yearlyAnswer, yearlyListed}
 
 pub dateAnswer-is : (k : ℕ) → k ≤ lastDay → dateAnswer k ≡ which-date.Is (dateOf k)
 unfolding dateAnswer
@@ -37,3 +43,28 @@ weekdayAnswer-is d h = rw h
 pub weekdayAnswer-refused : (d : Date) → dateExists d ≡ false → weekdayAnswer d ≡ which-weekday.Refused NoSuchDate 0
 unfolding weekdayAnswer
 weekdayAnswer-refused d h = rw h
+
+-- ---- The yearly list
+
+module _ (t : YearlyDate) (a e : ℕ) (list : List ℕ) where
+  abbrev pub noSuch : Bool
+  noSuch = inNoYear t || ltb lastDay a || ltb lastDay e
+
+  pub yearly-no-such : noSuch ≡ true → (yearlyAnswer t a e (length list) ≡ listed.Refused NoSuchDate 0) × (yearlyListed t a e list ≡ list)
+  unfolding yearlyCheck listedIf storedIf yearlyAnswer yearlyListed
+  yearly-no-such bad = (rw bad, rw bad)
+
+  pub yearly-no-room : noSuch ≡ false → length list < length (yearlyDays t a e)
+      → (yearlyAnswer t a e (length list) ≡ listed.Refused NoRoom 0) × (yearlyListed t a e list ≡ list)
+  unfolding yearlyCheck listedIf storedIf yearlyAnswer yearlyListed
+  yearly-no-room good short =
+      let over = lt-ltb (length list) (length (yearlyDays t a e)) short in
+      (rw (good, over), rw (good, over))
+
+  pub yearly-listed : noSuch ≡ false → length (yearlyDays t a e) ≤ length list
+      → (yearlyAnswer t a e (length list) ≡ listed.Days (length (yearlyDays t a e)))
+      × (yearlyListed t a e list ≡ yearlyDays t a e ++ drop (length (yearlyDays t a e)) list)
+  unfolding yearlyCheck listedIf storedIf yearlyAnswer yearlyListed
+  yearly-listed good room =
+      let fits = le-ltb (length list) (length (yearlyDays t a e)) room in
+      (rw (good, fits), rw (good, fits))

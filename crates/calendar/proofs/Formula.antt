@@ -87,3 +87,9 @@ module _ (f day m rest : ℕ) (few : f ≤ 30) where
         january = x .january;
         december = x .december;
       }
+
+-- a month is never longer than in a leap year
+pub month-longest : (f m : ℕ) → f ≤ 29 → 1 ≤ m → m ≤ 12 → getD (monthsWith f) (m - 1) 0 ≤ getD (monthsWith 29) (m - 1) 0
+unfolding upFrom monthsWith
+month-longest f m few low high =
+    upFrom-all (λ m. getD (monthsWith f) (m - 1) 0 ≤ getD (monthsWith 29) (m - 1) 0) 1 12 (omega arith) m low (omega arith)

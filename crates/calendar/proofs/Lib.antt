@@ -8,5 +8,7 @@ pub mod Existing
 pub mod Order
 pub mod BothWays
 pub mod Places
+pub mod SomeYear
+pub mod YearByYear
 pub mod Answers
 pub mod Worked

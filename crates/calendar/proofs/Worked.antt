@@ -7,7 +7,7 @@ use Rattle.calendar.specs.declared.YearlyDate.{YearlyDate}
 use Rattle.calendar.specs.Years.{leapYear, yearLength, monthsWith, monthLengths, monthLength}
 use Rattle.calendar.specs.Dates.{date, dateExists, dateAfter}
 use Rattle.calendar.specs.Numbers.{daysBeforeYear, daysBeforeMonth, dayNumber, dateOf}
-use Rattle.calendar.specs.Yearly.{yearlyDates, inNoYear, yearlyDays}
+use Rattle.calendar.specs.Yearly.{datesIn, daysIn, yearlyDays}
 
 pub t1 : dayNumber (date 2399 12 31) ≡ 146096
 unfolding leapYear yearLength monthsWith monthLengths monthLength daysBeforeYear daysBeforeMonth dayNumber sumOf upFrom
@@ -18,5 +18,5 @@ unfolding leapYear yearLength monthsWith monthLengths monthLength dateAfter date
 t2 = refl
 
 pub t3 : yearlyDays (record { month = 2; day = 29 }) 0 5000 ≡ 59 ∷ 1520 ∷ 2981 ∷ 4442 ∷ []
-unfolding leapYear yearLength monthsWith monthLengths monthLength daysBeforeYear daysBeforeMonth dayNumber sumOf upFrom keep yearlyDates yearlyDays dateExists
+unfolding leapYear yearLength monthsWith monthLengths monthLength daysBeforeYear daysBeforeMonth dayNumber sumOf upFrom keep datesIn daysIn dateExists
 t3 = refl

@@ -1,10 +1,14 @@
 -- Where a day lies, for inner use: no promise to a caller speaks of these.
 --     InYear day k rest       day lies in year 2000 + k, `rest` days after its first
 --     InMonth f day m rest    day, counted in its year from 0, lies in month m, `rest` days after its first; f days in February
+--     fallDays fall           the day on which a test falls in a year, or none
 use Prim.Native.Nat.{ℕ, _+_, _-_, _≤_, _<_}
 use mathlib.Core.Path.{_≡_}
+use mathlib.Core.List.{List, [], _∷_}
 use lib.ListN.{take, getD}
 use Rattle.lists.specs.Count.{sumOf}
+use Rattle.calendar.specs.declared.listing.Fall.{Fall}
+use Rattle.calendar.specs.declared.listing.Fall.the-variants.{On, Never}
 use Rattle.calendar.specs.Years.{yearLength, monthsWith}
 use Rattle.calendar.specs.Numbers.{daysBeforeYear}
 
@@ -18,3 +22,7 @@ pub record InMonth (f day m rest : ℕ) : Type 0 where
   pub within : rest < getD (monthsWith f) (m - 1) 0
   pub january : 1 ≤ m
   pub december : m ≤ 12
+
+abbrev pub fallDays : Fall → List ℕ
+fallDays (On k) = k ∷ []
+fallDays Never = []

@@ -1,9 +1,10 @@
 -- Yearly tests, edition 1 (document 02, W-203): a month and a day; the test falls in each year in which that date exists.
 --     years                 the years of the calendar
 --     inYear t y            the date of the test t in year y
---     yearlyDates t         the dates on which t falls
+--     datesIn t ys          the dates on which t falls in the years ys
 --     inNoYear t            its month and day exist in no year
---     yearlyDays t a e      the days on which t falls from day a to day e, both counted
+--     daysIn t a e ys       the days on which t falls in the years ys, from day a to day e, both counted
+--     yearlyDays t a e      the days on which t falls from day a to day e
 use Prim.Native.Nat.{ℕ}
 use mathlib.Core.Bool.{Bool}
 use mathlib.Core.List.{List, map}
@@ -22,11 +23,14 @@ years = upFrom 2000 400
 abbrev pub inYear : YearlyDate → ℕ → Date
 inYear t y = date y (t .month) (t .day)
 
-unfoldable pub yearlyDates : YearlyDate → List Date
-yearlyDates t = keep dateExists (map (inYear t) years)
+unfoldable pub datesIn : YearlyDate → List ℕ → List Date
+datesIn t ys = keep dateExists (map (inYear t) ys)
 
 unfoldable pub inNoYear : YearlyDate → Bool
-inNoYear t = eqb (length (yearlyDates t)) 0
+inNoYear t = eqb (length (datesIn t years)) 0
 
-unfoldable pub yearlyDays : YearlyDate → ℕ → ℕ → List ℕ
-yearlyDays t a e = keep (λ k. inBounds a k e) (map dayNumber (yearlyDates t))
+unfoldable pub daysIn : YearlyDate → ℕ → ℕ → List ℕ → List ℕ
+daysIn t a e ys = keep (λ k. inBounds a k e) (map dayNumber (datesIn t ys))
+
+abbrev pub yearlyDays : YearlyDate → ℕ → ℕ → List ℕ
+yearlyDays t a e = daysIn t a e years

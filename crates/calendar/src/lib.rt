@@ -1,10 +1,12 @@
 // The Gregorian calendar from 1 January 2000, which is day 0, to 31 December 2399 (document 02, W-203). Knows no plan.
+mod listing;
 mod month;
 mod year;
 
 use days::Day;
 use faults::Checked;
 use faults::Fault;
+pub use listing::yearly;
 use month::in_month;
 use month::month_length;
 use month::month_start;
@@ -20,7 +22,7 @@ ghost use Rattle.calendar.specs.Weekdays.{weekdayOf};
 ghost use Rattle.calendar.specs.Refusals.{dateAnswer, dayAnswer, weekdayAnswer};
 
 // 31 December 2399.
-const LAST_DAY: u32 = 146096;
+pub(crate) const LAST_DAY: u32 = 146096;
 
 // A day of a month of a year. It may not exist: every function that is given one says so.
 pub struct Date {

@@ -4,3 +4,4 @@ pub mod Least
 pub mod Order
 pub mod Sums
 pub mod Filling
+pub mod Storing
