@@ -11,4 +11,6 @@ pub mod Places
 pub mod SomeYear
 pub mod YearByYear
 pub mod Answers
+pub mod Texts
+pub mod RoundTrip
 pub mod Worked

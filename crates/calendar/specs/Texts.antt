@@ -74,11 +74,11 @@ fits [] (b ∷ bs) = false
 fits (c ∷ cs) [] = false
 fits (c ∷ cs) (b ∷ bs) = fitsAt c b && fits cs bs
 
-abbrev pub dateForm : List ℕ
-dateForm = 0x30 ∷ 0x30 ∷ 0x30 ∷ 0x30 ∷ hyphen ∷ 0x30 ∷ 0x30 ∷ hyphen ∷ 0x30 ∷ 0x30 ∷ []
-
 abbrev pub yearlyForm : List ℕ
 yearlyForm = 0x30 ∷ 0x30 ∷ hyphen ∷ 0x30 ∷ 0x30 ∷ []
+
+abbrev pub dateForm : List ℕ
+dateForm = 0x30 ∷ 0x30 ∷ 0x30 ∷ 0x30 ∷ hyphen ∷ yearlyForm
 
 unfoldable pub dateIn : List ℕ → Date
 dateIn text = date (number (take 4 text)) (number (take 2 (drop 5 text))) (number (take 2 (drop 8 text)))

@@ -1,6 +1,7 @@
 // The Gregorian calendar from 1 January 2000, which is day 0, to 31 December 2399 (document 02, W-203). Knows no plan.
 mod listing;
 mod month;
+mod text;
 mod year;
 
 use days::Day;
@@ -10,6 +11,10 @@ pub use listing::yearly;
 use month::in_month;
 use month::month_length;
 use month::month_start;
+pub use text::date_read;
+pub use text::date_text;
+pub use text::yearly_read;
+pub use text::yearly_text;
 use year::february;
 use year::in_year;
 use year::year_start;
