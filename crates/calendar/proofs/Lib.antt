@@ -1,5 +1,6 @@
--- Laws of the calendar. Years, Months, Weekdays: of the definitions. Existing, Order, BothWays: dates and day numbers agree. Formula, Places: the months and
--- years by arithmetic. Answers: which case of an answer holds. Worked: the page's dates, one table.
+-- Laws of the calendar. Years, Months, Weekdays: of the definitions. Existing, Order, BothWays: dates and day numbers agree.
+-- Cycle: the calendar repeats. SomeYear, YearByYear, YearlyDays: yearly tests. Formula, Places: years and months by arithmetic.
+-- Answers, Texts: which case of an answer holds. RoundTrip: a date's text, there and back. Worked: the page's dates, one table.
 pub mod Years
 pub mod Months
 pub mod Weekdays
@@ -8,8 +9,10 @@ pub mod Existing
 pub mod Order
 pub mod BothWays
 pub mod Places
+pub mod Cycle
 pub mod SomeYear
 pub mod YearByYear
+pub mod YearlyDays
 pub mod Answers
 pub mod Texts
 pub mod RoundTrip

@@ -23,7 +23,8 @@ pub februaryOf-year : (y : ℕ) → yearLength y ≡ 337 + februaryOf y
 unfolding yearLength
 februaryOf-year y = by-bool (leapYear y) (λ t. rw t) (λ e. rw e)
 
-pub placed-date : (day k rest m left : ℕ) → InYear day k rest → InMonth (februaryOf (2000 + k)) rest m left → date (2000 + k) m (left + 1) ≡ dateOf day
+pub placed-date : (day k rest m left : ℕ) → InYear day k rest → InMonth (februaryOf (2000 + k)) rest m left
+    → date (2000 + k) m (left + 1) ≡ dateOf day
 unfolding daysBeforeMonth monthLengths monthLength
 placed-date day k rest m left y x = sym (ap dateOf (sym number) ∙ dateOf-dayNumber d (exists d there))
   where

@@ -140,7 +140,10 @@ record Cut (c : ℕ) (cs text : List ℕ) : Type 0 where
 cut : (c : ℕ) (cs text : List ℕ) → fits (c ∷ cs) text ≡ true → Cut c cs text
 unfolding fits
 cut c cs [] h = absurd (true-not-false (sym h))
-cut c cs (b ∷ bs) h = record { first = b; rest = bs; whole = refl; here = and-left (fitsAt c b) (fits cs bs) h; after = and-right (fitsAt c b) (fits cs bs) h }
+cut c cs (b ∷ bs) h =
+    let here = and-left (fitsAt c b) (fits cs bs) h in
+    let after = and-right (fitsAt c b) (fits cs bs) h in
+    record { first = b; rest = bs; whole = refl; here = here; after = after }
 
 ended : (text : List ℕ) → fits [] text ≡ true → text ≡ []
 unfolding fits

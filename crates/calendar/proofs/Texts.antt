@@ -34,7 +34,8 @@ pub fits-other-length : (form text : List ℕ) → (length form ≡ length text 
 fits-other-length form text other = by-bool (fits form text) (λ t. absurd (other (fits-length form text t))) (λ e. e)
 
 module _ (form text : List ℕ) (i : ℕ) (h : i < length form) (g : i < length text) where
-  pub fits-next : fitsAt (getD form i 0) (getD text i 0) ≡ true → fits (drop i form) (drop i text) ≡ fits (drop (i + 1) form) (drop (i + 1) text)
+  pub fits-next : fitsAt (getD form i 0) (getD text i 0) ≡ true
+      → fits (drop i form) (drop i text) ≡ fits (drop (i + 1) form) (drop (i + 1) text)
   unfolding fits
   fits-next here = rw (add-one i, drop-cons form i 0 h, drop-cons text i 0 g, here)
 
@@ -57,7 +58,8 @@ unfolding numberAfter
 number-two text at room =
     rw (add-one at, drop-cons text at 0 (omega arith), drop-cons text (suc at) 0 (omega arith)) (omega arith)
 
-pub number-four : (text : List ℕ) → 4 ≤ length text → number (take 4 text) ≡ 100 * number (take 2 (drop 0 text)) + number (take 2 (drop 2 text))
+pub number-four : (text : List ℕ) → 4 ≤ length text
+    → number (take 4 text) ≡ 100 * number (take 2 (drop 0 text)) + number (take 2 (drop 2 text))
 unfolding numberAfter
 number-four [] h = absurd (omega arith)
 number-four (a ∷ []) h = absurd (omega arith)
@@ -67,7 +69,8 @@ number-four (a ∷ b ∷ c ∷ d ∷ rest) h = omega arith
 
 -- ---- Reading
 
-pub dateReading-is : (text : List ℕ) → fits dateForm text ≡ true → dateExists (dateIn text) ≡ true → dateReading text ≡ which-date.Is (dateIn text)
+pub dateReading-is : (text : List ℕ) → fits dateForm text ≡ true → dateExists (dateIn text) ≡ true
+    → dateReading text ≡ which-date.Is (dateIn text)
 unfolding dateReading
 dateReading-is text form there = rw (form, there)
 
@@ -75,11 +78,13 @@ pub dateReading-form : (text : List ℕ) → fits dateForm text ≡ false → da
 unfolding dateReading
 dateReading-form text form = rw form
 
-pub dateReading-none : (text : List ℕ) → fits dateForm text ≡ true → dateExists (dateIn text) ≡ false → dateReading text ≡ which-date.Refused NoSuchDate 0
+pub dateReading-none : (text : List ℕ) → fits dateForm text ≡ true → dateExists (dateIn text) ≡ false
+    → dateReading text ≡ which-date.Refused NoSuchDate 0
 unfolding dateReading
 dateReading-none text form there = rw (form, there)
 
-pub yearlyReading-is : (text : List ℕ) → fits yearlyForm text ≡ true → inNoYear (yearlyIn text) ≡ false → yearlyReading text ≡ which-yearly.Is (yearlyIn text)
+pub yearlyReading-is : (text : List ℕ) → fits yearlyForm text ≡ true → inNoYear (yearlyIn text) ≡ false
+    → yearlyReading text ≡ which-yearly.Is (yearlyIn text)
 unfolding yearlyReading
 yearlyReading-is text form there = rw (form, there)
 
@@ -87,7 +92,8 @@ pub yearlyReading-form : (text : List ℕ) → fits yearlyForm text ≡ false �
 unfolding yearlyReading
 yearlyReading-form text form = rw form
 
-pub yearlyReading-none : (text : List ℕ) → fits yearlyForm text ≡ true → inNoYear (yearlyIn text) ≡ true → yearlyReading text ≡ which-yearly.Refused NoSuchDate 0
+pub yearlyReading-none : (text : List ℕ) → fits yearlyForm text ≡ true → inNoYear (yearlyIn text) ≡ true
+    → yearlyReading text ≡ which-yearly.Refused NoSuchDate 0
 unfolding yearlyReading
 yearlyReading-none text form there = rw (form, there)
 
@@ -106,18 +112,22 @@ yearlyIn-pairs text m d month day = rw (month, day)
 
 -- ---- Writing
 
-pub dateWriting-is : (d : Date) → dateExists d ≡ true → dateWriting d ≡ record { checked = checked.Lawful; bytes = dateText d }
+pub dateWriting-is : (d : Date) → dateExists d ≡ true
+    → dateWriting d ≡ record { checked = checked.Lawful; bytes = dateText d }
 unfolding dateWriting
 dateWriting-is d h = rw h
 
-pub dateWriting-refused : (d : Date) → dateExists d ≡ false → dateWriting d ≡ record { checked = checked.Refused NoSuchDate 0; bytes = replicate 10 0 }
+pub dateWriting-refused : (d : Date) → dateExists d ≡ false
+    → dateWriting d ≡ record { checked = checked.Refused NoSuchDate 0; bytes = replicate 10 0 }
 unfolding dateWriting
 dateWriting-refused d h = rw h
 
-pub yearlyWriting-is : (t : YearlyDate) → inNoYear t ≡ false → yearlyWriting t ≡ record { checked = checked.Lawful; bytes = yearlyText t }
+pub yearlyWriting-is : (t : YearlyDate) → inNoYear t ≡ false
+    → yearlyWriting t ≡ record { checked = checked.Lawful; bytes = yearlyText t }
 unfolding yearlyWriting
 yearlyWriting-is t h = rw h
 
-pub yearlyWriting-refused : (t : YearlyDate) → inNoYear t ≡ true → yearlyWriting t ≡ record { checked = checked.Refused NoSuchDate 0; bytes = replicate 5 0 }
+pub yearlyWriting-refused : (t : YearlyDate) → inNoYear t ≡ true
+    → yearlyWriting t ≡ record { checked = checked.Refused NoSuchDate 0; bytes = replicate 5 0 }
 unfolding yearlyWriting
 yearlyWriting-refused t h = rw h

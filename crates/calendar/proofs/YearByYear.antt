@@ -67,13 +67,17 @@ module _ (t : YearlyDate) (a e : ℕ) where
   before-first : (y : ℕ) → 2000 ≤ y → daysBeforeYear (y + 1) ≤ a → daysIn t a e (y ∷ []) ≡ []
   before-first y from over =
       by-bool (dateExists (inYear t y))
-      (λ h. daysIn-outside y h (inBounds-not a (dayNumber (inYear t y)) e (λ low high. omega (arith, dayNumber-to-year (inYear t y) (existing _ h)))))
+      (λ h.
+      let end = dayNumber-to-year (inYear t y) (existing (inYear t y) h) in
+      daysIn-outside y h (inBounds-not a (dayNumber (inYear t y)) e (λ low high. omega arith)))
       (daysIn-absent y)
 
   after-last : (y : ℕ) → e < daysBeforeYear y → daysIn t a e (y ∷ []) ≡ []
   after-last y over =
       by-bool (dateExists (inYear t y))
-      (λ h. daysIn-outside y h (inBounds-not a (dayNumber (inYear t y)) e (λ low high. omega (arith, dayNumber-from-year (inYear t y) (existing _ h)))))
+      (λ h.
+      let start = dayNumber-from-year (inYear t y) (existing (inYear t y) h) in
+      daysIn-outside y h (inBounds-not a (dayNumber (inYear t y)) e (λ low high. omega arith)))
       (daysIn-absent y)
 
   pub none-before : (y n m : ℕ) → 2000 ≤ y → daysBeforeYear (y + n) ≤ a → daysIn t a e (upFrom y (n + m)) ≡ daysIn t a e (upFrom (y + n) m)

@@ -6,4 +6,5 @@ pub mod Weekdays
 pub mod Yearly
 pub mod Refusals
 pub mod Texts
+pub mod Said
 pub mod Places

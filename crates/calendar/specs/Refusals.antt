@@ -1,11 +1,12 @@
--- What the calendar answers (document 02, W-203). 10 comes before any other answer, for a date that does not exist, a month and day that exist in no
--- year, and a day outside the range; then 9, exactly when the lent list has fewer places than there are days to list. Both come with 0.
+-- What the calendar answers (document 02, W-203). 10 comes before any other answer: for a date that does not exist, a month and day that
+-- exist in no year, and a day outside the range. Then 9, exactly when the lent list has fewer places than there are days to list.
+-- Both come with 0.
 --     dateAnswer k          the date of day k
 --     dayAnswer d           the day number of d
 --     weekdayAnswer d       the weekday of d
 --     yearlyCheck t a e room      the refusals of a yearly list, in their order, for a lent list with `room` places
 --     yearlyAnswer t a e room     how many days are listed, or the refusal
---     yearlyListed t a e list     what the lent list holds afterwards: the days and then its own later places; all its own places on a refusal
+--     yearlyListed t a e list     what the lent list holds afterwards: the days, and then its own later places; as it was on a refusal
 use Prim.Native.Nat.{ℕ}
 use mathlib.Core.Bool.{Bool, not, cond, _||_}
 use mathlib.Core.List.{List, _++_}

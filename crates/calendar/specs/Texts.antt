@@ -1,4 +1,4 @@
--- Dates as texts (ISO 8601; document 02, W-203 and W-214), as bytes. A date has ten characters, as 2000-02-29, and a yearly date five, as 02-29.
+-- Dates as texts (ISO 8601; document 02, W-203 and W-214), as bytes. A date has ten characters, as 2000-02-29; a yearly one five, as 02-29.
 --     digits k n            the last k decimal digits of n
 --     number text           the number that decimal digits write
 --     dateText d            the text of a date

@@ -12,8 +12,8 @@ ghost use mathlib.Core.Path.{_≡_};
 ghost use mathlib.Core.Bool.{not};
 ghost use mathlib.Core.List.{[], _∷_, _++_};
 ghost use Prim.Native.Nat.{_+_, _≤_};
-ghost use lib.ListN.{length, take, drop};
-ghost use Rattle.lists.specs.Count.{keep};
+ghost use lib.ListN.{length, drop};
+ghost use Rattle.lists.specs.Count.{keep, putAt};
 ghost use Rattle.faults.specs.Checks.{inBounds};
 ghost use Rattle.calendar.specs.Numbers.{lastDay};
 ghost use Rattle.calendar.specs.Yearly.{inNoYear, daysIn, yearlyDays};
@@ -96,7 +96,7 @@ fn count_days(on: YearlyDate, first: u32, last: u32) -> usize
 fn store(list: &mut [u32], at: usize, fall: Fall) -> usize
     requires { ⌜ at + length (fallDays fall) ≤ length (now list) ⌝ }
     ensures next { λ r. ⌜ r ≡ at + length (fallDays fall) ⌝ }
-    ensures stored { λ r. ⌜ now (list .exit) ≡ take at (now (list .entry)) ++ (fallDays fall ++ drop (at + length (fallDays fall)) (now (list .entry))) ⌝ }
+    ensures stored { λ r. ⌜ now (list .exit) ≡ putAt at (fallDays fall) (now (list .entry)) ⌝ }
 {
     match fall {
         Fall::On(day) => {

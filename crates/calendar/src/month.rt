@@ -1,5 +1,5 @@
 // Months of a year whose February has a given number of days.
-// With 30 days in February the months would start on the days (367 m - 362) / 12: the days that February lacks are put in and taken out again.
+// With 30 days in February the months would start on the days (367 m - 362) / 12: what February lacks is put in and taken out again.
 use super::year::Within;
 ghost use mathlib.Core.Path.{_≡_};
 ghost use Prim.Native.Nat.{_+_, _-_, _≤_, _<_};

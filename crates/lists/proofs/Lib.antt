@@ -5,3 +5,4 @@ pub mod Order
 pub mod Sums
 pub mod Filling
 pub mod Storing
+pub mod Members

@@ -98,7 +98,8 @@ module _ {ℓ} {A : Type ℓ} where
   unfolding sumOf
   sumOf-drop f xs z i h = rw (add-one, drop-cons xs i z h)
 
-  pub sumOf-take-suc : (f : A → ℕ) (xs : List A) (z : A) (i : ℕ) → i < length xs → sumOf f (take (suc i) xs) ≡ sumOf f (take i xs) + f (getD xs i z)
+  pub sumOf-take-suc : (f : A → ℕ) (xs : List A) (z : A) (i : ℕ) → i < length xs
+      → sumOf f (take (suc i) xs) ≡ sumOf f (take i xs) + f (getD xs i z)
   unfolding sumOf
   sumOf-take-suc f [] z i h = absurd (not-suc-le-zero h)
   sumOf-take-suc f (x ∷ xs) z zero h = omega arith

@@ -5,6 +5,7 @@ use mathlib.Core.Path.{_≡_, refl, sym, ap, _∙_}
 use mathlib.Core.List.{List, [], _∷_, _++_, append-assoc, append-nil}
 use native.Mathlib.Omega.{arith}
 use lib.ListN.{length, take, drop, length-append, length-drop, take-append-drop}
+use Rattle.lists.specs.Count.{putAt}
 use lib.Seq.{length-take-le, take-at, drop-at, drop-drop}
 
 module _ {ℓ} {A : Type ℓ} where
@@ -27,7 +28,7 @@ module _ {ℓ} {A : Type ℓ} where
           let parts = ap length next ∙ length-append more rest in
           omega (arith, length-take-le at list (s .within), s .same)
 
-      pub stored-next : at + length more ≤ length list → Stored all rest list₀ (take at list ++ (more ++ drop (at + length more) list)) (at + length more)
+      pub stored-next : at + length more ≤ length list → Stored all rest list₀ (putAt at more list) (at + length more)
       stored-next room = record {
         within = omega (arith, size);
         same = size ∙ s .same;

@@ -11,19 +11,19 @@ use Rattle.calendar.proofs.date_exists.Statement.{statement}
 use Rattle.calendar.proofs.date_exists.Tie as tie
 
 returns : tie.Need-returns
-returns c = sym (not-existing (c .before .before .before .args .d) (λ x. omega (arith, x .from-2000)))
+returns c = sym (not-existing _ (λ x. omega (arith, x .from-2000)))
 
 returns-2 : tie.Need-returns-2
-returns-2 c = sym (not-existing (c .before .before .before .before .before .args .d) (λ x. omega (arith, x .to-2399)))
+returns-2 c = sym (not-existing _ (λ x. omega (arith, x .to-2399)))
 
 returns-3 : tie.Need-returns-3
-returns-3 c = sym (not-existing (c .before .before .before .before .before .before .before .args .d) (λ x. omega (arith, x .january)))
+returns-3 c = sym (not-existing _ (λ x. omega (arith, x .january)))
 
 returns-4 : tie.Need-returns-4
-returns-4 c = sym (not-existing (c .before .before .before .before .before .before .before .before .before .args .d) (λ x. omega (arith, x .december)))
+returns-4 c = sym (not-existing _ (λ x. omega (arith, x .december)))
 
 returns-5 : tie.Need-returns-5
-returns-5 c = sym (not-existing (c .before .before .before .before .before .before .before .before .before .before .before .args .d) (λ x. omega (arith, x .first)))
+returns-5 c = sym (not-existing _ (λ x. omega (arith, x .first)))
 
 february-requires : tie.Need-february-requires
 february-requires c κs = search needs

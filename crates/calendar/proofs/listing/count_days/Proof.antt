@@ -36,7 +36,8 @@ one-requires c κs = tt
 
 -- one year more
 counted : (c : tie.After-one Inv-loop μ-loop) → let at = c .before .before .before in let g = at .before .before .before .args in
-    at .loop .found + c .one .result + length (leftFrom (g .on) (g .first) (g .last) (at .loop .k + 1)) ≡ length (yearlyDays (g .on) (g .first) (g .last))
+    at .loop .found + c .one .result + length (leftFrom (g .on) (g .first) (g .last) (at .loop .k + 1))
+    ≡ length (yearlyDays (g .on) (g .first) (g .last))
 counted c =
     let fall = c .before in
     let at = fall .before .before in

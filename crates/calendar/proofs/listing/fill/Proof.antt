@@ -1,4 +1,4 @@
--- `calendar::listing::fill` meets its contract: what is stored so far and what is left make the whole, and the places behind are as they were.
+-- `calendar::listing::fill` meets its contract: what is stored so far and what is left make the whole; the places behind are as they were.
 use Prim.Native.Nat.{ℕ, _+_, _-_, _≤_}
 use mathlib.Core.Path.{_≡_, sym, ap, _∙_}
 use mathlib.Core.List.{List, _++_}
@@ -52,7 +52,8 @@ room : (c : tie.After-fall-in Inv-loop μ-loop) → let at = c .before .before i
     at .loop .at + length (fallDays (c .fall-in .result)) ≤ length (at .loop .list)
 room c =
     let at = c .before .before in
-    stored-room _ _ _ _ _ (at .loop .inv .1) (fallDays (c .fall-in .result)) (later c) (parts c) (at .before .before .before .before .pre .1)
+    let start = at .before .before .before .before in
+    stored-room _ _ _ _ _ (at .loop .inv .1) (fallDays (c .fall-in .result)) (later c) (parts c) (start .pre .1)
 
 store-requires : tie.Need-store-requires Inv-loop μ-loop
 store-requires c κs = room (c .before)

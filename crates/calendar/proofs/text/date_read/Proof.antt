@@ -50,8 +50,9 @@ pair-at-requires-4 : tie.Need-pair-at-requires-4
 pair-at-requires-4 c κs = omega (arith, ten (c .before .before .before))
 
 -- the date that was read
-is : (c : tie.After-pair-at4) → let text = c .before .before .before .before .before .before .before .before .args .text .now in
-    date (100 * c .before .before .before .pair-at .result + c .before .before .pair-at2 .result) (c .before .pair-at3 .result) (c .pair-at4 .result) ≡ dateIn text
+is : (c : tie.After-pair-at4) → let month = c .before in let year = month .before in let century = year .before in
+    date (100 * century .pair-at .result + year .pair-at2 .result) (month .pair-at3 .result) (c .pair-at4 .result)
+    ≡ dateIn (century .before .before .before .before .before .args .text .now)
 is c =
     let month = c .before in
     let year = month .before in

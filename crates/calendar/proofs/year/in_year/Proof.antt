@@ -1,4 +1,4 @@
--- `calendar::year::in_year` meets its contract: the guess is the year or the one after it, because years have their mean length within two days.
+-- `calendar::year::in_year` meets its contract: the guess is the year or the one after it, as years have their mean length within two days.
 use Prim.Native.Nat.{suc, _-_, _≤_}
 use mathlib.Core.Path.{_≡_, ap}
 use native.Mathlib.Omega.{arith}
