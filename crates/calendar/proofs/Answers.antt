@@ -1,8 +1,10 @@
 -- Laws of the calendar's answers: which case holds.
 use Prim.Native.Nat.{ℕ, _≤_, _<_}
-use mathlib.Core.Path.{_≡_}
+use mathlib.Core.Path.{_≡_, ap, _∙_}
 use mathlib.Core.Bool.{Bool, true, false, _||_}
 use mathlib.Core.List.{List, _++_}
+use native.Mathlib.Omega.{arith}
+use native.Mathlib.Decide.{decLe}
 use lib.Dec.{ltb}
 use lib.ListN.{length, drop}
 use borrow.Author.Tests.{le-leb, lt-leb, lt-ltb, le-ltb}
@@ -19,6 +21,7 @@ use Rattle.calendar.specs.Numbers.{dayNumber, dateOf, lastDay}
 use Rattle.calendar.specs.Weekdays.{weekdayOf}
 use Rattle.calendar.specs.Yearly.{inNoYear, yearlyDays}
 use Rattle.calendar.specs.Refusals.{dateAnswer, dayAnswer, weekdayAnswer, yearlyCheck, listedIf, storedIf, yearlyAnswer, yearlyListed}
+use Rattle.calendar.proofs.BothWays.{dateOf-exists}
 
 pub dateAnswer-is : (k : ℕ) → k ≤ lastDay → dateAnswer k ≡ which-date.Is (dateOf k)
 unfolding dateAnswer
@@ -27,6 +30,22 @@ dateAnswer-is k h = rw (le-leb k lastDay h)
 pub dateAnswer-refused : (k : ℕ) → lastDay < k → dateAnswer k ≡ which-date.Refused NoSuchDate 0
 unfolding dateAnswer
 dateAnswer-refused k h = rw (lt-leb k lastDay h)
+
+never : _≡_ {A = ℕ} 0 1 → ⊥
+never z = omega arith
+
+-- the date of a day exists
+pub dateAnswer-exists : (k : ℕ) (d : Date) → dateAnswer k ≡ which-date.Is d → dateExists d ≡ true
+dateAnswer-exists k d h =
+    elim (decLe k lastDay) [ yes within ↦ inside within (dateAnswer-is k within) | no over ↦ outside (dateAnswer-refused k (omega arith)) ]
+  where
+    inside : k ≤ lastDay → dateAnswer k ≡ which-date.Is (dateOf k) → dateExists d ≡ true
+    inside within is =
+        let same : d ≡ dateOf k = cc in
+        ap dateExists same ∙ dateOf-exists k within
+
+    outside : dateAnswer k ≡ which-date.Refused NoSuchDate 0 → dateExists d ≡ true
+    outside refused = absurd (never (cc))
 
 pub dayAnswer-is : (d : Date) → dateExists d ≡ true → dayAnswer d ≡ which-day.Is (day (dayNumber d))
 unfolding dayAnswer

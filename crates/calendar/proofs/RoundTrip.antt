@@ -5,6 +5,7 @@ use mathlib.Core.Bool.{true, false, not, _&&_}
 use mathlib.Core.List.{List, [], _∷_, _++_}
 use native.Mathlib.Omega.{arith}
 use borrow.Author.Tests.{eqb-true, not-true}
+use lib.ListN.{length}
 use Rattle.lists.proofs.Lists.{by-bool, true-not-false, and-left, and-right, and-both}
 use Rattle.faults.specs.Checks.{inBounds}
 use Rattle.faults.proofs.Checks.{inBounds-low, inBounds-high, inBounds-yes}
@@ -88,6 +89,10 @@ dateText-fits d =
       figure (d .day),
       line,
     )
+
+pub dateText-ten : (d : Date) → length (dateText d) ≡ 10
+unfolding dateText digits
+dateText-ten d = refl
 
 yearlyText-fits : (t : YearlyDate) → fits yearlyForm (yearlyText t) ≡ true
 unfolding yearlyText digits fits
@@ -180,6 +185,23 @@ date-back text h =
 
 never : _≡_ {A = ℕ} 0 1 → ⊥
 never z = omega arith
+
+-- a date that is read exists
+pub date-read-exists : (text : List ℕ) (d : Date) → dateReading text ≡ which-date.Is d → dateExists d ≡ true
+date-read-exists text d h =
+    by-bool (fits dateForm text)
+    (λ form. by-bool (dateExists (dateIn text))
+    (λ there. read there (dateReading-is text form there))
+    (λ none. other (dateReading-none text form none)))
+    (λ form. other (dateReading-form text form))
+  where
+    read : dateExists (dateIn text) ≡ true → dateReading text ≡ which-date.Is (dateIn text) → dateExists d ≡ true
+    read there is =
+        let same : d ≡ dateIn text = cc in
+        ap dateExists same ∙ there
+
+    other : dateReading text ≡ which-date.Refused NoSuchDate 0 → dateExists d ≡ true
+    other refused = absurd (never (cc))
 
 pub date-written-back : (text : List ℕ) (d : Date) → dateReading text ≡ which-date.Is d → dateText d ≡ text
 date-written-back text d h =
