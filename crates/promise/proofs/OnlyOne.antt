@@ -68,13 +68,16 @@ pub one-fault-number : (κs : Lfts 0) (a : _) (e f : _) (r s : ℕ) → fault-nu
 one-fault-number κs a e f r s h k = h ∙ sym k
 
 -- calendar
-pub one-Date-from-day : (κs : Lfts 0) (a : _) (e f : _) (r s : WhichDate) → Date-from-day.Learnt κs a r e → Date-from-day.Learnt κs a s f → r ≡ s
+pub one-Date-from-day : (κs : Lfts 0) (a : _) (e f : _) (r s : WhichDate) → Date-from-day.Learnt κs a r e → Date-from-day.Learnt κs a s f
+    → r ≡ s
 one-Date-from-day κs a e f r s h k = h ∙ sym k
 
-pub one-Date-day-number : (κs : Lfts 0) (a : _) (e f : _) (r s : WhichDay) → Date-day-number.Learnt κs a r e → Date-day-number.Learnt κs a s f → r ≡ s
+pub one-Date-day-number : (κs : Lfts 0) (a : _) (e f : _) (r s : WhichDay) → Date-day-number.Learnt κs a r e
+    → Date-day-number.Learnt κs a s f → r ≡ s
 one-Date-day-number κs a e f r s h k = h ∙ sym k
 
-pub one-Date-weekday : (κs : Lfts 0) (a : _) (e f : _) (r s : WhichWeekday) → Date-weekday.Learnt κs a r e → Date-weekday.Learnt κs a s f → r ≡ s
+pub one-Date-weekday : (κs : Lfts 0) (a : _) (e f : _) (r s : WhichWeekday) → Date-weekday.Learnt κs a r e → Date-weekday.Learnt κs a s f
+    → r ≡ s
 one-Date-weekday κs a e f r s h k = h ∙ sym k
 
 pub one-yearly : (κs : Lfts 1) (a : _) (e f : _) (r s : Listed) → yearly.Learnt κs a r e → yearly.Learnt κs a s f
