@@ -1,6 +1,7 @@
 //! A second program, written from document 01 alone, that the desk is compared with.
 
 mod batch;
+mod calendar;
 mod chance;
 mod compare;
 mod desk;
@@ -14,6 +15,7 @@ mod tally;
 mod writing;
 
 use batch::Stop;
+use calendar::ask::{first_difference, print_all, Asked};
 use compare::compare_all;
 use options::{task, Comparison, Task, USAGE};
 use rules::answer::Answer;
@@ -28,6 +30,9 @@ fn main() -> ExitCode {
         Some(Task::Compare(job)) => run_comparison(&job),
         Some(Task::Answer(path)) => show_answer(&path),
         Some(Task::Selftest) => run_selftest(),
+        Some(Task::Calendar) => show_calendar(),
+        Some(Task::Dates(asked)) => show_dates(&asked),
+        Some(Task::Clerk(path, asked)) => ask_clerk(&path, &asked),
         None => {
             eprintln!("{USAGE}");
             ExitCode::from(UNABLE)
@@ -72,10 +77,42 @@ fn run_selftest() -> ExitCode {
         println!("second: {case}");
     }
     if wrong.is_empty() {
-        println!("second: the document's plans come out as it says");
+        println!("second: the documents' plans and dates come out as they say");
         ExitCode::SUCCESS
     } else {
         ExitCode::FAILURE
+    }
+}
+
+fn show_calendar() -> ExitCode {
+    let lines = calendar::sheets();
+    let mut text = String::new();
+    for sheet in &lines {
+        text.push_str(&format!("{sheet}\n"));
+    }
+    print!("{text}");
+    ExitCode::SUCCESS
+}
+
+fn show_dates(asked: &Asked) -> ExitCode {
+    print_all(asked);
+    ExitCode::SUCCESS
+}
+
+fn ask_clerk(clerk: &Path, asked: &Asked) -> ExitCode {
+    match first_difference(clerk, asked) {
+        Ok(None) => {
+            println!(
+                "second: {} questions about dates, seed {}, no difference",
+                asked.questions, asked.seed
+            );
+            ExitCode::SUCCESS
+        }
+        Ok(Some(report)) => {
+            println!("second: {}", report.trim_end());
+            ExitCode::FAILURE
+        }
+        Err(error) => unable(&format!("{}: {error}", clerk.display())),
     }
 }
 
