@@ -1,6 +1,6 @@
 -- Laws of the calendar. Years, Months, Weekdays: of the definitions. Existing, Order, BothWays: dates and day numbers agree.
 -- Cycle: the calendar repeats. SomeYear, YearByYear, YearlyDays: yearly tests. Formula, Places: years and months by arithmetic.
--- Answers, Texts: which case of an answer holds. RoundTrip: a date's text, there and back. Worked: the page's dates, one table.
+-- Answers, Texts, Decimals: which case of an answer holds. RoundTrip: a date's text, there and back. Worked: the page's dates, one table.
 pub mod Years
 pub mod Months
 pub mod Weekdays
@@ -15,5 +15,6 @@ pub mod YearByYear
 pub mod YearlyDays
 pub mod Answers
 pub mod Texts
+pub mod Decimals
 pub mod RoundTrip
 pub mod Worked

@@ -6,7 +6,7 @@ use Prim.Native.String.{String}
 use Prim.Native.String as text
 use mathlib.Core.Path.{_≡_, refl}
 use mathlib.Core.List.{List, [], _∷_, map}
-use Rattle.lists.specs.Count.{sumOf, upFrom, keep}
+use Rattle.lists.specs.Count.{sumOf, upFrom, keep, every}
 use Rattle.calendar.specs.declared.Date.{Date}
 use Rattle.calendar.specs.declared.YearlyDate.{YearlyDate}
 use Rattle.calendar.specs.Years.{leapYear, yearLength, monthsWith, monthLengths, monthLength}
@@ -15,7 +15,7 @@ use Rattle.calendar.specs.Numbers.{daysBeforeYear, daysBeforeMonth, dayN
 use Rattle.calendar.specs.Weekdays.{weekdayOf}
 use Rattle.calendar.specs.Yearly.{datesIn, inNoYear, daysIn}
 use Rattle.calendar.specs.Refusals.{dateAnswer, dayAnswer, weekdayAnswer, yearlyCheck, listedIf, storedIf, yearlyAnswer, yearlyListed}
-use Rattle.calendar.specs.Texts.{digits, numberAfter, fitsAt, fits, dateText, dateIn, yearlyIn, dateReading, yearlyReading}
+use Rattle.calendar.specs.Texts.{digits, numberAfter, fitsAt, fits, dateText, dateIn, yearlyIn, dateReading, yearlyReading, noNumber, dayReading}
 use Rattle.calendar.specs.Said.{Said, refused, on, day, weekday, days, yearly, dateSays, daySays, weekdaySays, yearlySays, listedSays}
 
 pub data Question : Type 0 where
@@ -26,6 +26,7 @@ pub data Question : Type 0 where
   listed : YearlyDate → ℕ → ℕ → List ℕ → Question  -- the same, and what the lent list holds
   read : List ℕ → Question
   read-yearly : List ℕ → Question
+  read-day : List ℕ → Question
   write : Date → Question
 
 pub data Answer : Type 0 where
@@ -44,6 +45,7 @@ answered (list t a e room) = says (listedSays (yearlyAnswer t a e room))
 answered (listed t a e places) = holds (yearlyListed t a e places)
 answered (read bytes) = says (dateSays (dateReading bytes))
 answered (read-yearly bytes) = says (yearlySays (yearlyReading bytes))
+answered (read-day bytes) = says (daySays (dayReading bytes))
 answered (write d) = holds (dateText d)
 
 unfoldable pub row : Question → Answer → Row
@@ -108,16 +110,21 @@ table =
     ∷ row (read-yearly (bytes "02-29")) (says (yearly 2 29))
     ∷ row (read-yearly (bytes "02-30")) (says (refused 10 0))
     ∷ row (read-yearly (bytes "13-01")) (says (refused 10 0))
+    ∷ row (read-day (bytes "366")) (says (day 366))
+    ∷ row (read-day (bytes "0")) (says (day 0))
+    ∷ row (read-day (bytes "0366")) (says (refused 10 0))
+    ∷ row (read-day (bytes "")) (says (refused 10 0))
+    ∷ row (read-day (bytes "146097")) (says (refused 10 0))
     ∷ row (write (date 2000 2 29)) (holds (bytes "2000-02-29"))
     ∷ []
 
 pub worked : map (λ r. answered (r .asked)) table ≡ map (λ r. r .said) table
 unfolding
     answered row each bytes table
-    sumOf upFrom keep
+    sumOf upFrom keep every
     leapYear yearLength monthsWith monthLengths monthLength dateExists dateAfter
     daysBeforeYear daysBeforeMonth dayNumber dateOf weekdayOf
     datesIn inNoYear daysIn
     dateAnswer dayAnswer weekdayAnswer yearlyCheck listedIf storedIf yearlyAnswer yearlyListed
-    digits numberAfter fitsAt fits dateText dateIn yearlyIn dateReading yearlyReading
+    digits numberAfter fitsAt fits dateText dateIn yearlyIn dateReading yearlyReading noNumber dayReading
 worked = refl

@@ -2,15 +2,18 @@
 --     InYear day k rest       day lies in year 2000 + k, `rest` days after its first
 --     InMonth f day m rest    day, counted in its year from 0, lies in month m, `rest` days after its first; f days in February
 --     fallDays fall           the day on which a test falls in a year, or none
-use Prim.Native.Nat.{ℕ, _+_, _-_, _≤_, _<_}
+--     digitsNumber text       the number that digits write; one past the last day for a larger one, and where another character stands
+use Prim.Native.Nat.{ℕ, _+_, _-_, _≤_, _<_, min}
 use mathlib.Core.Path.{_≡_}
 use mathlib.Core.List.{List, [], _∷_}
 use lib.ListN.{take, getD}
-use Rattle.lists.specs.Count.{sumOf}
+use mathlib.Core.Bool.{cond}
+use Rattle.lists.specs.Count.{sumOf, every}
 use Rattle.calendar.specs.declared.listing.Fall.{Fall}
 use Rattle.calendar.specs.declared.listing.Fall.the-variants.{On, Never}
 use Rattle.calendar.specs.Years.{yearLength, monthsWith}
-use Rattle.calendar.specs.Numbers.{daysBeforeYear}
+use Rattle.calendar.specs.Numbers.{daysBeforeYear, lastDay}
+use Rattle.calendar.specs.Texts.{fitsAt, number}
 
 pub record InYear (day k rest : ℕ) : Type 0 where
   pub adds : daysBeforeYear (2000 + k) + rest ≡ day
@@ -26,3 +29,6 @@ pub record InMonth (f day m rest : ℕ) : Type 0 where
 abbrev pub fallDays : Fall → List ℕ
 fallDays (On k) = k ∷ []
 fallDays Never = []
+
+unfoldable pub digitsNumber : List ℕ → ℕ
+digitsNumber text = cond (every (fitsAt 0x30) text) (min (number text) (lastDay + 1)) (lastDay + 1)

@@ -8,13 +8,16 @@
 --     yearlyIn text         the yearly date that a text of the form 00-00 writes
 --     dateReading text      the date that a text writes, or 10 for any other text
 --     yearlyReading text    the yearly date that a text writes, or 10
+--     dayReading text       the day that a text writes in decimal, without leading zeros, or 10
 --     dateWriting d         the text of a date that exists, or 10 and zeros
 --     yearlyWriting t       the text of a month and day that exist in some year, or 10 and zeros
 use Prim.Native.Nat.{ℕ, zero, suc, _+_, _-_, _*_, _/_, _%_}
-use mathlib.Core.Bool.{Bool, true, false, not, cond, _&&_}
+use mathlib.Core.Bool.{Bool, true, false, not, cond, _&&_, _||_}
 use mathlib.Core.List.{List, [], _∷_, _++_}
-use lib.Dec.{eqb}
-use lib.ListN.{take, drop, replicate}
+use lib.Dec.{eqb, ltb, leb}
+use lib.ListN.{length, getD, take, drop, replicate}
+use Rattle.days.specs.Days.{day}
+use Rattle.lists.specs.Count.{every}
 use Rattle.faults.specs.declared.Fault.the-variants.{NoSuchDate}
 use Rattle.faults.specs.declared.Checked.the-variants as checked
 use Rattle.faults.specs.Checks.{inBounds}
@@ -22,11 +25,14 @@ use Rattle.calendar.specs.declared.Date.{Date}
 use Rattle.calendar.specs.declared.YearlyDate.{YearlyDate}
 use Rattle.calendar.specs.declared.WhichDate.{WhichDate}
 use Rattle.calendar.specs.declared.WhichDate.the-variants as which-date
+use Rattle.calendar.specs.declared.WhichDay.{WhichDay}
+use Rattle.calendar.specs.declared.WhichDay.the-variants as which-day
 use Rattle.calendar.specs.declared.WhichYearly.{WhichYearly}
 use Rattle.calendar.specs.declared.WhichYearly.the-variants as which-yearly
 use Rattle.calendar.specs.declared.DateText.{DateText}
 use Rattle.calendar.specs.declared.YearlyText.{YearlyText}
 use Rattle.calendar.specs.Dates.{date, dateExists}
+use Rattle.calendar.specs.Numbers.{lastDay}
 use Rattle.calendar.specs.Yearly.{inNoYear}
 
 abbrev pub hyphen : ℕ
@@ -92,3 +98,12 @@ dateReading text = cond (fits dateForm text && dateExists (dateIn text)) (which-
 unfoldable pub yearlyReading : List ℕ → WhichYearly
 yearlyReading text =
     cond (fits yearlyForm text && not (inNoYear (yearlyIn text))) (which-yearly.Is (yearlyIn text)) (which-yearly.Refused NoSuchDate 0)
+
+-- empty, or with a leading zero
+unfoldable pub noNumber : List ℕ → Bool
+noNumber text = eqb (length text) 0 || ltb 1 (length text) && eqb (getD text 0 0) 0x30
+
+unfoldable pub dayReading : List ℕ → WhichDay
+dayReading text =
+    cond (every (fitsAt 0x30) text && not (noNumber text) && leb (number text) lastDay) (which-day.Is (day (number text)))
+    (which-day.Refused NoSuchDate 0)

@@ -13,6 +13,7 @@ use month::month_length;
 use month::month_start;
 pub use text::date_read;
 pub use text::date_text;
+pub use text::day_read;
 pub use text::yearly_read;
 pub use text::yearly_text;
 use year::february;

@@ -1,19 +1,23 @@
 // Dates as texts: ten characters for a date, five for a month and a day.
 use super::Date;
 use super::DateText;
+use super::LAST_DAY;
 use super::WhichDate;
+use super::WhichDay;
 use super::WhichYearly;
 use super::YearlyDate;
 use super::YearlyText;
 use super::date_exists;
 use super::listing::yearly_exists;
+use days::Day;
 use faults::Checked;
 use faults::Fault;
 ghost use mathlib.Core.Path.{_≡_};
 ghost use Prim.Native.Nat.{_+_, _-_, _≤_, _%_};
 ghost use lib.ListN.{length, take, drop};
 ghost use Rattle.calendar.specs.Texts.{fitsAt, number, dateReading, yearlyReading, dateWriting, yearlyWriting};
-ghost use Rattle.calendar.specs.Texts.{fits as fitsForm};
+ghost use Rattle.calendar.specs.Texts.{fits as fitsForm, noNumber, dayReading};
+ghost use Rattle.calendar.specs.Places.{digitsNumber};
 
 // ---- Reading
 
@@ -123,6 +127,60 @@ pub fn yearly_read(text: &[u8]) -> WhichYearly
             at: 0,
         }
     }
+}
+
+// The number that digits write; 146097 for a larger one, and where another character stands.
+fn digits_number(text: &[u8]) -> u32
+    ensures exact { λ r. ⌜ r ≡ digitsNumber (now (text .entry)) ⌝ }
+{
+    let mut n: u32 = 0;
+    let mut i: usize = 0;
+    while i < text.len() {
+        let b = text[i];
+        if !fits_at(48, b) {
+            return LAST_DAY + 1;
+        }
+        n = 10 * n + worth(b);
+        if LAST_DAY < n {
+            return LAST_DAY + 1;
+        }
+        i += 1;
+    }
+    n
+}
+
+// Whether a text has more than one character and starts with a zero, or has none at all.
+fn no_number(text: &[u8]) -> bool
+    ensures exact { λ r. ⌜ r ≡ noNumber (now (text .entry)) ⌝ }
+{
+    if text.len() < 1 {
+        return true;
+    }
+    if text.len() < 2 {
+        return false;
+    }
+    text[0] == 48
+}
+
+// The day that a text writes in decimal.
+pub fn day_read(text: &[u8]) -> WhichDay
+    ensures exact { λ r. ⌜ r ≡ dayReading (now (text .entry)) ⌝ }
+    ensures kept { λ r. ⌜ now (text .exit) ≡ now (text .entry) ⌝ }
+{
+    let day = digits_number(text);
+    if no_number(text) {
+        return WhichDay::Refused {
+            fault: Fault::NoSuchDate,
+            at: 0,
+        };
+    }
+    if LAST_DAY < day {
+        return WhichDay::Refused {
+            fault: Fault::NoSuchDate,
+            at: 0,
+        };
+    }
+    WhichDay::Is(Day(day))
 }
 
 // ---- Writing

@@ -5,5 +5,6 @@ pub mod ReadLawful
 pub mod NeverMisses
 pub mod ThreeLines
 pub mod ShutOut
+pub mod Dates
 pub mod OnlyOne
 pub mod EquationSeven

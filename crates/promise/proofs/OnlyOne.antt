@@ -31,6 +31,7 @@ use Rattle.calendar.proofs.Date.day_number.Reads as Date-day-number
 use Rattle.calendar.proofs.Date.weekday.Reads as Date-weekday
 use Rattle.calendar.proofs.yearly.Reads as yearly
 use Rattle.calendar.proofs.date_read.Reads as date-read
+use Rattle.calendar.proofs.day_read.Reads as day-read
 use Rattle.calendar.proofs.date_text.Reads as date-text
 use Rattle.calendar.proofs.yearly_read.Reads as yearly-read
 use Rattle.calendar.proofs.yearly_text.Reads as yearly-text
@@ -87,6 +88,10 @@ one-yearly κs a e f r s h k = (h .0 ∙ sym (k .0), h .1 ∙ sym (k .1))
 pub one-date-read : (κs : Lfts 1) (a : _) (e f : _) (r s : WhichDate) → date-read.Learnt κs a r e → date-read.Learnt κs a s f
     → (r ≡ s) × (e .0 .now ≡ f .0 .now)
 one-date-read κs a e f r s h k = (h .0 ∙ sym (k .0), h .1 ∙ sym (k .1))
+
+pub one-day-read : (κs : Lfts 1) (a : _) (e f : _) (r s : WhichDay) → day-read.Learnt κs a r e → day-read.Learnt κs a s f
+    → (r ≡ s) × (e .0 .now ≡ f .0 .now)
+one-day-read κs a e f r s h k = (h .0 ∙ sym (k .0), h .1 ∙ sym (k .1))
 
 pub one-date-text : (κs : Lfts 0) (a : _) (e f : _) (r s : DateText) → date-text.Learnt κs a r e → date-text.Learnt κs a s f → r ≡ s
 one-date-text κs a e f r s h k = h ∙ sym k
