@@ -1,55 +1,33 @@
-//! One batch: making and answering its files, and asking the desk for them.
+//! One batch of the desk: making and answering its files, and asking for them.
 
 use crate::desk::{ask_through_input, ask_with_names, compare, Case};
 use crate::mix::{make, KINDS};
 use crate::options::Comparison;
 use crate::rules::answer::Answer;
+use crate::stop::Stop;
 use crate::tally::Tally;
 use std::fs;
-use std::io;
 use std::ops::Range;
-use std::path::{Path, PathBuf};
+use std::path::Path;
 use std::slice;
 use std::time::Instant;
 
-/// Files that are also asked one by one: by name and through standard input.
-const ASKED_ALONE: u64 = 48;
-
-/// Why a comparison stopped.
-pub enum Stop {
-    /// The programs differ, or the claim is broken.
-    Found { path: PathBuf, report: String },
-    /// A file or the desk could not be used.
-    Unable(io::Error),
-}
-
-impl Stop {
-    /// The file that shows why.
-    pub fn shown(&self) -> Option<&Path> {
-        match self {
-            Stop::Found { path, .. } => Some(path),
-            Stop::Unable(_) => None,
-        }
-    }
-}
-
-impl From<io::Error> for Stop {
-    fn from(error: io::Error) -> Stop {
-        Stop::Unable(error)
-    }
-}
-
 /// Compares the files of these numbers. Without a difference none of them is needed any more.
-pub fn compare_batch(job: &Comparison, folder: &Path, files: Range<u64>) -> Result<Tally, Stop> {
+pub fn compare_batch(
+    job: &Comparison,
+    desk: &Path,
+    folder: &Path,
+    files: Range<u64>,
+) -> Result<Tally, Stop> {
     let mut tally = Tally::default();
     let mut cases = Vec::new();
     for file in files {
         cases.push(prepare(job, folder, file, &mut tally)?);
     }
     let begin = Instant::now();
-    ask_for_all(job, &cases)?;
-    ask_for_some_alone(job, &cases)?;
-    tally.desk = begin.elapsed();
+    ask_for_all(job, desk, &cases)?;
+    ask_for_some_alone(job, desk, &cases)?;
+    tally.other = begin.elapsed();
     if job.keep.is_none() {
         for case in &cases {
             fs::remove_file(&case.path)?;
@@ -65,7 +43,8 @@ fn prepare(job: &Comparison, folder: &Path, file: u64, tally: &mut Tally) -> Res
     let made = make(job.seed, file);
     let answer = Answer::of_text(&made.text);
     tally.own += begin.elapsed();
-    tally.count(made.kind, &answer);
+    tally.count_file(made.kind);
+    tally.count_answer(&answer);
     let case = Case {
         file,
         kind: KINDS[made.kind].name,
@@ -80,8 +59,8 @@ fn prepare(job: &Comparison, folder: &Path, file: u64, tally: &mut Tally) -> Res
     Ok(case)
 }
 
-fn ask_for_all(job: &Comparison, cases: &[Case]) -> Result<(), Stop> {
-    let output = ask_with_names(&job.desk, cases)?;
+fn ask_for_all(job: &Comparison, desk: &Path, cases: &[Case]) -> Result<(), Stop> {
+    let output = ask_with_names(desk, cases)?;
     match compare(&output, cases) {
         None => Ok(()),
         Some(difference) => {
@@ -91,11 +70,11 @@ fn ask_for_all(job: &Comparison, cases: &[Case]) -> Result<(), Stop> {
     }
 }
 
-fn ask_for_some_alone(job: &Comparison, cases: &[Case]) -> Result<(), Stop> {
-    for case in cases.iter().filter(|case| is_asked_alone(job, case.file)) {
+fn ask_for_some_alone(job: &Comparison, desk: &Path, cases: &[Case]) -> Result<(), Stop> {
+    for case in cases.iter().filter(|case| job.asks_alone(case.file)) {
         let alone = slice::from_ref(case);
-        ask_for_all(job, alone)?;
-        let output = ask_through_input(&job.desk, case)?;
+        ask_for_all(job, desk, alone)?;
+        let output = ask_through_input(desk, case)?;
         if let Some(difference) = compare(&output, alone) {
             let what = "difference through standard input";
             return Err(differs(job, case, what, &difference.given));
@@ -104,26 +83,11 @@ fn ask_for_some_alone(job: &Comparison, cases: &[Case]) -> Result<(), Stop> {
     Ok(())
 }
 
-/// Spreads the files asked alone evenly over all files.
-fn is_asked_alone(job: &Comparison, file: u64) -> bool {
-    file * ASKED_ALONE / job.files != (file + 1) * ASKED_ALONE / job.files
-}
-
 fn differs(job: &Comparison, case: &Case, what: &str, given: &str) -> Stop {
     let lines = format!("expected:\n{}given:\n{given}", case.answer);
     found(job, case, what, &lines)
 }
 
 fn found(job: &Comparison, case: &Case, what: &str, lines: &str) -> Stop {
-    let report = format!(
-        "second: {what}, seed {}, file {} ({})\nfile {}\n{lines}",
-        job.seed,
-        case.file,
-        case.kind,
-        case.path.display()
-    );
-    Stop::Found {
-        path: case.path.clone(),
-        report,
-    }
+    Stop::found(job, case.file, case.kind, &case.path, what, lines)
 }

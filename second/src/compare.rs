@@ -1,7 +1,9 @@
 //! All batches over the machine's cores, up to the first stop.
 
-use crate::batch::{compare_batch, Stop};
-use crate::options::Comparison;
+use crate::batch;
+use crate::clerk;
+use crate::options::{Comparison, Program};
+use crate::stop::Stop;
 use crate::tally::Tally;
 use std::fs;
 use std::io;
@@ -66,7 +68,11 @@ fn work(job: &Comparison, folder: &Path, board: &Board) {
             return;
         }
         let files = first..job.files.min(first + job.batch);
-        match compare_batch(job, folder, files) {
+        let compared = match &job.program {
+            Program::Desk(desk) => batch::compare_batch(job, desk, folder, files),
+            Program::Clerk(clerk) => clerk::compare_batch(job, clerk, folder, files),
+        };
+        match compared {
             Ok(tally) => board.results().tally.add(&tally),
             Err(stop) => board.results().keep_first(first, stop),
         }
@@ -85,7 +91,7 @@ impl Results {
         if self
             .stop
             .as_ref()
-            .is_none_or(|(earlier, _)| first < *earlier)
+            .map_or(true, |(earlier, _)| first < *earlier)
         {
             self.stop = Some((first, stop));
         }

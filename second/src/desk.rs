@@ -2,6 +2,7 @@
 
 use std::fs::File;
 use std::io;
+use std::os::unix::ffi::OsStrExt;
 use std::path::{Path, PathBuf};
 use std::process::{Command, Output, Stdio};
 
@@ -32,7 +33,8 @@ pub fn ask_through_input(desk: &Path, case: &Case) -> io::Result<Output> {
 }
 
 fn output(desk: &Path, command: &mut Command) -> io::Result<Output> {
-    let named = |error: io::Error| io::Error::other(format!("{}: {error}", desk.display()));
+    let named =
+        |error: io::Error| io::Error::new(error.kind(), format!("{}: {error}", desk.display()));
     command.output().map_err(named)
 }
 
@@ -68,7 +70,7 @@ fn block(case: &Case, named: bool) -> Vec<u8> {
 }
 
 fn name_line(case: &Case) -> Vec<u8> {
-    let mut line = case.path.as_os_str().as_encoded_bytes().to_vec();
+    let mut line = case.path.as_os_str().as_bytes().to_vec();
     line.push(b'\n');
     line
 }

@@ -1,26 +1,31 @@
-//! A second program, written from document 01 alone, that the desk is compared with.
+//! A second program, written from documents 01 and 02 alone, that the desk and the clerk are compared with.
 
 mod batch;
 mod calendar;
 mod chance;
+mod clerk;
 mod compare;
+mod complaints;
 mod desk;
+mod edges;
 mod faults;
 mod mix;
 mod options;
 mod plans;
 mod rules;
+mod saving;
 mod selftest;
+mod stop;
 mod tally;
 mod writing;
 
-use batch::Stop;
 use calendar::ask::{first_difference, print_all, Asked};
 use compare::compare_all;
 use options::{task, Comparison, Task, USAGE};
 use rules::answer::Answer;
 use std::path::Path;
 use std::process::ExitCode;
+use stop::Stop;
 
 /// Status where nothing could be compared.
 const UNABLE: u8 = 2;
@@ -31,8 +36,7 @@ fn main() -> ExitCode {
         Some(Task::Answer(path)) => show_answer(&path),
         Some(Task::Selftest) => run_selftest(),
         Some(Task::Calendar) => show_calendar(),
-        Some(Task::Dates(asked)) => show_dates(&asked),
-        Some(Task::Clerk(path, asked)) => ask_clerk(&path, &asked),
+        Some(Task::Dates(asked)) => run_dates(&asked),
         None => {
             eprintln!("{USAGE}");
             ExitCode::from(UNABLE)
@@ -48,8 +52,10 @@ fn run_comparison(job: &Comparison) -> ExitCode {
                 print!("{tally}");
             }
             println!(
-                "second: {} files, seed {}, no difference",
-                job.files, job.seed
+                "second: {} files, {} answers, seed {}, no difference",
+                job.files,
+                tally.answers(),
+                job.seed
             );
             ExitCode::SUCCESS
         }
@@ -94,12 +100,14 @@ fn show_calendar() -> ExitCode {
     ExitCode::SUCCESS
 }
 
-fn show_dates(asked: &Asked) -> ExitCode {
-    print_all(asked);
-    ExitCode::SUCCESS
-}
-
-fn ask_clerk(clerk: &Path, asked: &Asked) -> ExitCode {
+fn run_dates(asked: &Asked) -> ExitCode {
+    let clerk = match &asked.clerk {
+        Some(clerk) => clerk,
+        None => {
+            print_all(asked);
+            return ExitCode::SUCCESS;
+        }
+    };
     match first_difference(clerk, asked) {
         Ok(None) => {
             println!(

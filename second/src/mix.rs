@@ -20,44 +20,50 @@ const ROUND: u64 = 1_000;
 /// A step without a common divisor with the round, so that a few files already mix the kinds.
 const STRIDE: u64 = 617;
 
-pub const KINDS: [Kind; 32] = [
-    kind("lawful", 148, lawful),
-    kind("permissions matter", 50, permissions_matter),
-    kind("choice of permissions", 20, choices),
-    kind("equal deadlines", 40, equal_deadlines),
-    kind("payer waits", 12, payer_waits),
-    kind("takers tie", 12, takers_tie),
-    kind("border", 90, at_the_border),
-    kind("load about H", 40, load_about_cycle),
-    kind("numbers at bounds", 10, upper_bounds),
-    kind("largest load", 2, largest_load),
-    kind("claim", 100, pressed),
-    kind("ten strings", 8, ten_strings),
-    kind("long run", 4, long_run),
-    kind("late fail", 4, late_fail),
-    kind("many pairs", 4, many_pairs),
-    kind("heavy search", 1, heavy),
-    kind("H near its bound", 10, cycle_near_bound),
-    kind("one byte", 272, bytes::one_byte),
-    kind("text cut", 20, cuts::text_cut),
-    kind("line cut", 10, cuts::line_cut),
-    kind("line grown", 5, cuts::line_grown),
-    kind("line fault", 25, lines::line_fault),
-    kind("n", 6, values::count),
-    kind("kind or version", 21, values::kind_or_version),
-    kind("A or N at bound", 6, values::header_bounds),
-    kind("X, T, C or D at bound", 14, values::string_bounds),
-    kind("release at bound", 22, faults::releases::one_release),
-    kind("1,000 releases", 9, release_count::many_releases),
-    kind("long text", 3, long::long_text),
-    kind("noise", 8, noise::noise),
-    kind("several faults", 22, several_faults),
-    kind("full list", 2, full_list),
-];
-
-const fn kind(name: &'static str, share: u64, make: fn(&mut Chance, u64) -> Vec<u8>) -> Kind {
-    Kind { name, share, make }
+macro_rules! kind {
+    ($name:expr, $share:expr, $make:path) => {
+        Kind {
+            name: $name,
+            share: $share,
+            make: $make,
+        }
+    };
 }
+
+pub const KINDS: [Kind; 32] = [
+    kind!("lawful", 148, lawful),
+    kind!("permissions matter", 50, permissions_matter),
+    kind!("choice of permissions", 20, choices),
+    kind!("equal deadlines", 40, equal_deadlines),
+    kind!("payer waits", 12, payer_waits),
+    kind!("takers tie", 12, takers_tie),
+    kind!("border", 90, at_the_border),
+    kind!("load about H", 40, load_about_cycle),
+    kind!("numbers at bounds", 10, upper_bounds),
+    kind!("largest load", 2, largest_load),
+    kind!("claim", 100, pressed),
+    kind!("ten strings", 8, ten_strings),
+    kind!("long run", 4, long_run),
+    kind!("late fail", 4, late_fail),
+    kind!("many pairs", 4, many_pairs),
+    kind!("heavy search", 1, heavy),
+    kind!("H near its bound", 10, cycle_near_bound),
+    kind!("one byte", 272, bytes::one_byte),
+    kind!("text cut", 20, cuts::text_cut),
+    kind!("line cut", 10, cuts::line_cut),
+    kind!("line grown", 5, cuts::line_grown),
+    kind!("line fault", 25, lines::line_fault),
+    kind!("n", 6, values::count),
+    kind!("kind or version", 21, values::kind_or_version),
+    kind!("A or N at bound", 6, values::header_bounds),
+    kind!("X, T, C or D at bound", 14, values::string_bounds),
+    kind!("release at bound", 22, faults::releases::one_release),
+    kind!("1,000 releases", 9, release_count::many_releases),
+    kind!("long text", 3, long::long_text),
+    kind!("noise", 8, noise::noise),
+    kind!("several faults", 22, several_faults),
+    kind!("full list", 2, full_list),
+];
 
 pub struct Made {
     /// Place of the kind in the table.
@@ -122,7 +128,7 @@ fn takers_tie(chance: &mut Chance, _: u64) -> Vec<u8> {
 /// The last plan that passes and the first that does not, in turn.
 fn at_the_border(chance: &mut Chance, turn: u64) -> Vec<u8> {
     let border = border::border(chance);
-    let plan = if turn.is_multiple_of(2) {
+    let plan = if turn % 2 == 0 {
         border.inside
     } else {
         border.outside

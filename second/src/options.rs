@@ -6,10 +6,10 @@ use std::str::FromStr;
 
 pub const USAGE: &str =
     "usage: second --desk PATH [--files N] [--seed S] [--batch B] [--keep DIR] [--tally]
+       second --clerk PATH [--files N] [--seed S] [--batch B] [--keep DIR] [--tally]
        second --answer FILE
        second --calendar
-       second --dates [--questions N] [--seed S]
-       second --clerk PATH [--questions N] [--seed S]
+       second --dates [--ask CLERK] [--questions N] [--seed S]
        second --selftest";
 
 pub enum Task {
@@ -18,11 +18,16 @@ pub enum Task {
     Selftest,
     Calendar,
     Dates(Asked),
-    Clerk(PathBuf, Asked),
+}
+
+/// The program that is compared with this one.
+pub enum Program {
+    Desk(PathBuf),
+    Clerk(PathBuf),
 }
 
 pub struct Comparison {
-    pub desk: PathBuf,
+    pub program: Program,
     pub files: u64,
     pub seed: u64,
     pub batch: u64,
@@ -30,9 +35,19 @@ pub struct Comparison {
     pub tally: bool,
 }
 
+/// Files that are also asked about one by one, each by a start of its own.
+const ASKED_ALONE: u64 = 48;
+
+impl Comparison {
+    /// Spreads the files asked about alone evenly over all files.
+    pub fn asks_alone(&self, file: u64) -> bool {
+        file * ASKED_ALONE / self.files != (file + 1) * ASKED_ALONE / self.files
+    }
+}
+
 /// Reads the arguments; nothing if they ask for no task or have a word too many.
 pub fn task(mut words: impl Iterator<Item = String>) -> Option<Task> {
-    let mut desk = None;
+    let mut program = None;
     let (mut files, mut seed, mut batch) = (50_000, 1, 200);
     let (mut keep, mut tally) = (None, false);
     while let Some(word) = words.next() {
@@ -41,11 +56,8 @@ pub fn task(mut words: impl Iterator<Item = String>) -> Option<Task> {
             "--selftest" => return Some(Task::Selftest),
             "--calendar" => return Some(Task::Calendar),
             "--dates" => return asked(words).map(Task::Dates),
-            "--clerk" => {
-                let clerk = value(&mut words)?;
-                return asked(words).map(|asked| Task::Clerk(clerk, asked));
-            }
-            "--desk" => desk = Some(value(&mut words)?),
+            "--desk" => program = Some(Program::Desk(value(&mut words)?)),
+            "--clerk" => program = Some(Program::Clerk(value(&mut words)?)),
             "--files" => files = value(&mut words)?,
             "--seed" => seed = value(&mut words)?,
             "--batch" => batch = value(&mut words)?,
@@ -58,7 +70,7 @@ pub fn task(mut words: impl Iterator<Item = String>) -> Option<Task> {
         return None;
     }
     Some(Task::Compare(Comparison {
-        desk: desk?,
+        program: program?,
         files,
         seed,
         batch,
@@ -67,17 +79,22 @@ pub fn task(mut words: impl Iterator<Item = String>) -> Option<Task> {
     }))
 }
 
-/// How many questions about dates, and which.
+/// How many questions about dates, which, and whom to ask.
 fn asked(mut words: impl Iterator<Item = String>) -> Option<Asked> {
-    let (mut questions, mut seed) = (1_000, 1);
+    let (mut clerk, mut questions, mut seed) = (None, 1_000, 1);
     while let Some(word) = words.next() {
         match word.as_str() {
+            "--ask" => clerk = Some(value(&mut words)?),
             "--questions" => questions = value(&mut words)?,
             "--seed" => seed = value(&mut words)?,
             _ => return None,
         }
     }
-    Some(Asked { questions, seed })
+    Some(Asked {
+        clerk,
+        questions,
+        seed,
+    })
 }
 
 fn value<T: FromStr>(words: &mut impl Iterator<Item = String>) -> Option<T> {

@@ -7,11 +7,20 @@ use crate::rules::plan::{BatteryString, Plan, Release};
 use crate::rules::rule::{verdict, Verdict};
 use crate::rules::run::{run, Outcome};
 use crate::rules::search::search;
+use crate::saving::{into_page, saved, written, Page};
 use crate::writing;
 
 /// The names of the cases that do not come out as the document says.
 pub fn wrong_cases() -> Vec<&'static str> {
-    let cases = [verdicts(), searches(), runs(), readings(), dates()].concat();
+    let cases = [
+        verdicts(),
+        searches(),
+        runs(),
+        readings(),
+        writings(),
+        dates(),
+    ]
+    .concat();
     cases
         .into_iter()
         .filter(|(_, holds)| !holds)
@@ -92,9 +101,11 @@ fn runs() -> Cases {
     vec![("P6", run(&plan) == Outcome::Miss { day: 8, place: 1 })]
 }
 
+/// The plan file that the document shows.
+const SAMPLE: &[u8] = b"010102000100000014\n0201000a00030005\n0200000a0005000a\n\
+    0302000000000005\n0301000000010003\n";
+
 fn readings() -> Cases {
-    const SAMPLE: &[u8] = b"010102000100000014\n0201000a00030005\n0200000a0005000a\n\
-        0302000000000005\n0301000000010003\n";
     const ANSWER: &str = "verdict pass pairs 44\nassign 1\nrun clean work 8 move 1 idle 11\n";
     let periods = |periods: &[u64]| {
         let strings: Vec<_> = periods.iter().map(|t| (*t, 1, *t)).collect();
@@ -113,6 +124,25 @@ fn readings() -> Cases {
         (
             "an empty file",
             read(b"").err() == Some(Refusal { number: 3, line: 1 }),
+        ),
+    ]
+}
+
+fn writings() -> Cases {
+    let whole = saved(SAMPLE);
+    let page = |size, place| written(into_page(&whole, Page { size, place }));
+    let no_room = b"refused 9 line 0\n".to_vec();
+    let amid = [b"...", SAMPLE, b".."].concat();
+    vec![
+        ("the sample written back", whole == Ok(SAMPLE.to_vec())),
+        ("a page that fits exactly", page(87, 0) == SAMPLE),
+        ("a page one byte too short", page(86, 0) == no_room),
+        ("a text amid its page", page(92, 3) == amid),
+        ("a place at the page's end", page(87, 87) == no_room),
+        ("a place beyond the page's end", page(87, 88) == no_room),
+        (
+            "a refused file in a page",
+            into_page(&saved(b""), Page { size: 0, place: 1 }) == refused(3, 1),
         ),
     ]
 }

@@ -4,6 +4,7 @@ use crate::mix::KINDS;
 use crate::rules::answer::Answer;
 use crate::rules::rule::Verdict;
 use crate::rules::run::Outcome;
+use crate::saving::Saved;
 use std::fmt;
 use std::time::Duration;
 
@@ -11,7 +12,9 @@ use std::time::Duration;
 pub struct Tally {
     kinds: [u64; KINDS.len()],
     /// By refusal number; the first is not used.
-    refused: [u64; 9],
+    refused: [u64; 10],
+    /// Texts and pages that the clerk has to write.
+    saved: u64,
     overload: u64,
     fail: u64,
     pass: u64,
@@ -21,14 +24,24 @@ pub struct Tally {
     clean: u64,
     moved: u64,
     miss: u64,
-    /// Time spent on making and answering files, and on waiting for the desk.
+    /// Time spent on making and answering files, and on waiting for the other program.
     pub own: Duration,
-    pub desk: Duration,
+    pub other: Duration,
 }
 
 impl Tally {
-    pub fn count(&mut self, kind: usize, answer: &Answer) {
+    pub fn count_file(&mut self, kind: usize) {
         self.kinds[kind] += 1;
+    }
+
+    pub fn count_saved(&mut self, saved: &Saved) {
+        match saved {
+            Ok(_) => self.saved += 1,
+            Err(refusal) => self.refused[refusal.number] += 1,
+        }
+    }
+
+    pub fn count_answer(&mut self, answer: &Answer) {
         match answer {
             Answer::Refused(refusal) => self.refused[refusal.number] += 1,
             Answer::Given {
@@ -70,7 +83,27 @@ impl Tally {
         self.moved += other.moved;
         self.miss += other.miss;
         self.own += other.own;
-        self.desk += other.desk;
+        self.other += other.other;
+        self.saved += other.saved;
+    }
+
+    /// What the desk has to answer.
+    fn list_answers(&self, out: &mut fmt::Formatter) -> fmt::Result {
+        writeln!(out, "{:7} verdict overload", self.overload)?;
+        writeln!(out, "{:7} verdict fail", self.fail)?;
+        writeln!(out, "{:7} verdict pass", self.pass)?;
+        writeln!(out, "{:7} assign none", self.set_none)?;
+        writeln!(out, "{:7} assign 0", self.set_zero)?;
+        writeln!(out, "{:7} assign another set", self.set_other)?;
+        writeln!(out, "{:7} run clean without moving", self.clean)?;
+        writeln!(out, "{:7} run clean with moving", self.moved)?;
+        writeln!(out, "{:7} run miss", self.miss)
+    }
+
+    /// All answers that were compared.
+    pub fn answers(&self) -> u64 {
+        let refused: u64 = self.refused.iter().sum();
+        refused + self.saved + self.clean + self.moved + self.miss
     }
 }
 
@@ -88,20 +121,16 @@ impl fmt::Display for Tally {
         for (number, count) in self.refused.iter().enumerate().skip(1) {
             writeln!(out, "{count:7} refused {number}")?;
         }
-        writeln!(out, "{:7} verdict overload", self.overload)?;
-        writeln!(out, "{:7} verdict fail", self.fail)?;
-        writeln!(out, "{:7} verdict pass", self.pass)?;
-        writeln!(out, "{:7} assign none", self.set_none)?;
-        writeln!(out, "{:7} assign 0", self.set_zero)?;
-        writeln!(out, "{:7} assign another set", self.set_other)?;
-        writeln!(out, "{:7} run clean without moving", self.clean)?;
-        writeln!(out, "{:7} run clean with moving", self.moved)?;
-        writeln!(out, "{:7} run miss", self.miss)?;
+        if self.saved > 0 {
+            writeln!(out, "{:7} saved", self.saved)?;
+        } else {
+            self.list_answers(out)?;
+        }
         writeln!(
             out,
-            "{:7.1} s in this program, {:.1} s in the desk, over all threads",
+            "{:7.1} s in this program, {:.1} s in the other, over all threads",
             self.own.as_secs_f64(),
-            self.desk.as_secs_f64()
+            self.other.as_secs_f64()
         )
     }
 }

@@ -2,18 +2,19 @@
 use Prim.Native.Nat.{ℕ, _+_, _-_, _%_, _≤_, _<_, min}
 use mathlib.Core.Path.{_≡_, sym, _∙_}
 use mathlib.Core.Bool.{true, false}
-use mathlib.Core.List.{List, [], _∷_}
+use mathlib.Core.List.{List}
 use native.Mathlib.Omega.{arith}
 use native.Mathlib.Decide.{decLe}
 use native.Mathlib.Numerals.{add-one}
 use lib.Dec.{eqb}
-use lib.ListN.{length, take, drop, getD, drop-of-length-le, length-take, List·getD-eq-default}
-use lib.Seq.{drop-cons, take-all, length-take-le, getD-take}
+use lib.ListN.{length, take, drop, getD, length-take, List·getD-eq-default}
+use lib.Seq.{take-all, getD-take}
 use Rattle.rules.specs.declared.BatteryString.{BatteryString}
 use Rattle.rules.specs.declared.Plan.{Plan}
 use Rattle.faults.specs.declared.Fault.the-variants.{OutOfBounds}
 use Rattle.faults.specs.declared.Checked.the-variants.{Lawful, Refused}
 use Rattle.lists.specs.Count.{every}
+use Rattle.lists.proofs.FirstN.{part-cons, part-end}
 use Rattle.rules.specs.Plan.{stringLawful, commonMultiple, noString, stringAt}
 use Rattle.rules.specs.Refusal.{stringsCheck}
 
@@ -29,17 +30,6 @@ take-min k m xs e =
           rw least (take-all m xs (omega arith) ∙ sym (take-all k xs (omega arith)))
     ]
 
--- the first n of the strings, from the i-th on: the i-th, and those after it
-part-cons : (n i : ℕ) (xs : List BatteryString) → i < n → n ≤ length xs → drop i (take n xs) ≡ getD xs i noString ∷ drop (i + 1) (take n xs)
-part-cons n i xs h k =
-    let inside : i < length (take n xs) = omega (arith, length-take-le n xs k) in
-    rw (add-one, drop-cons (take n xs) i noString inside, getD-take n xs i noString h)
-
-part-end : (n i : ℕ) (xs : List BatteryString) → n ≤ i → drop i (take n xs) ≡ []
-part-end n i xs h =
-    let past : length (take n xs) ≤ i = omega (arith, length-take n xs) in
-    drop-of-length-le (take n xs) past
-
 -- ---- The string at a place
 
 pub stringAt-is : (p : Plan) (i : ℕ) → 1 ≤ i → i ≤ p .n → stringAt p i ≡ getD (p .strings) (i - 1) noString
@@ -52,13 +42,15 @@ stringAt-out p i h =
 
 -- ---- stringsCheck
 
-pub stringsCheck-good : (k n i : ℕ) (xs : List BatteryString) → i < n → n ≤ length xs → stringLawful (getD xs i noString) ≡ true → stringsCheck k (drop i (take n xs)) ≡ stringsCheck (k + 1) (drop (i + 1) (take n xs))
+pub stringsCheck-good : (k n i : ℕ) (xs : List BatteryString) → i < n → n ≤ length xs → stringLawful (getD xs i noString) ≡ true
+    → stringsCheck k (drop i (take n xs)) ≡ stringsCheck (k + 1) (drop (i + 1) (take n xs))
 unfolding stringsCheck
-stringsCheck-good k n i xs h m t = rw (part-cons n i xs h m, add-one k, t)
+stringsCheck-good k n i xs h m t = rw (part-cons n i xs noString h m, add-one k, t)
 
-pub stringsCheck-bad : (k n i : ℕ) (xs : List BatteryString) → i < n → n ≤ length xs → stringLawful (getD xs i noString) ≡ false → stringsCheck k (drop i (take n xs)) ≡ Refused OutOfBounds k
+pub stringsCheck-bad : (k n i : ℕ) (xs : List BatteryString) → i < n → n ≤ length xs → stringLawful (getD xs i noString) ≡ false
+    → stringsCheck k (drop i (take n xs)) ≡ Refused OutOfBounds k
 unfolding stringsCheck
-stringsCheck-bad k n i xs h m e = rw (part-cons n i xs h m, e)
+stringsCheck-bad k n i xs h m e = rw (part-cons n i xs noString h m, e)
 
 pub stringsCheck-end : (k n i : ℕ) (xs : List BatteryString) → n ≤ i → stringsCheck k (drop i (take n xs)) ≡ Lawful
 unfolding stringsCheck
@@ -66,13 +58,15 @@ stringsCheck-end k n i xs h = rw (part-end n i xs h)
 
 -- ---- commonMultiple
 
-pub commonMultiple-good : (h n i : ℕ) (xs : List BatteryString) → i < n → n ≤ length xs → eqb (h % getD xs i noString .t .0) 0 ≡ true → commonMultiple (drop i (take n xs)) h ≡ commonMultiple (drop (i + 1) (take n xs)) h
+pub commonMultiple-good : (h n i : ℕ) (xs : List BatteryString) → i < n → n ≤ length xs → eqb (h % getD xs i noString .t .0) 0 ≡ true
+    → commonMultiple (drop i (take n xs)) h ≡ commonMultiple (drop (i + 1) (take n xs)) h
 unfolding commonMultiple every
-commonMultiple-good h n i xs k m t = rw (part-cons n i xs k m, t)
+commonMultiple-good h n i xs k m t = rw (part-cons n i xs noString k m, t)
 
-pub commonMultiple-bad : (h n i : ℕ) (xs : List BatteryString) → i < n → n ≤ length xs → eqb (h % getD xs i noString .t .0) 0 ≡ false → commonMultiple (drop i (take n xs)) h ≡ false
+pub commonMultiple-bad : (h n i : ℕ) (xs : List BatteryString) → i < n → n ≤ length xs → eqb (h % getD xs i noString .t .0) 0 ≡ false
+    → commonMultiple (drop i (take n xs)) h ≡ false
 unfolding commonMultiple every
-commonMultiple-bad h n i xs k m e = rw (part-cons n i xs k m, e)
+commonMultiple-bad h n i xs k m e = rw (part-cons n i xs noString k m, e)
 
 pub commonMultiple-end : (h n i : ℕ) (xs : List BatteryString) → n ≤ i → commonMultiple (drop i (take n xs)) h ≡ true
 unfolding commonMultiple every

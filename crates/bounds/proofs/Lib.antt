@@ -1,3 +1,3 @@
 pub mod ByPlace
 pub mod Seen
-pub mod Walk
+pub mod ReleaseWalk

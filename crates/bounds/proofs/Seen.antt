@@ -2,15 +2,16 @@
 --     Admitted p latest last r   the facts that admits tests
 use Prim.Native.Nat.{ℕ, zero, suc, _+_, _-_, _≤_, _<_}
 use mathlib.Core.Path.{_≡_, refl, sym, ap, _∙_}
-use mathlib.Core.Bool.{Bool, true, false, not, cond, _&&_}
+use mathlib.Core.Bool.{Bool, true, false, not, _&&_}
 use mathlib.Core.List.{List, [], _∷_}
 use native.Mathlib.Omega.{arith}
 use native.Mathlib.Decide.{decLe}
 use native.Mathlib.Numerals.{add-one}
-use borrow.Author.Tests.{lt-ltb, le-ltb, le-leb, lt-leb, ltb-true, ltb-false, eq-eqb, ne-eqb, not-true}
-use lib.Dec.{ltb, leb, eqb}
-use lib.ListN.{length, take, drop, getD, drop-of-length-le, length-take}
-use lib.Seq.{drop-cons, getD-take, length-take-le}
+use borrow.Author.Tests.{lt-ltb, le-ltb, ltb-true, ltb-false, eq-eqb, ne-eqb, not-true}
+use lib.Dec.{ltb, eqb}
+use lib.ListN.{length, take, drop, getD}
+use Rattle.days.specs.declared.Day.{Day}
+use Rattle.days.specs.declared.Length.{Length}
 use Rattle.rules.specs.declared.BatteryString.{BatteryString}
 use Rattle.rules.specs.declared.Plan.{Plan}
 use Rattle.rules.specs.declared.Release.{Release}
@@ -18,51 +19,42 @@ use Rattle.rules.specs.Plan.{stringAt}
 use Rattle.faults.specs.Checks.{inBounds}
 use Rattle.faults.proofs.Checks.{inBounds-low, inBounds-high, inBounds-yes}
 use Rattle.rules.specs.Release.{tooClose, outOfOrder, releaseLawful, unlawfulFrom, noRelease}
+use Rattle.lists.proofs.FirstN.{part-cons, part-end}
 use Rattle.lists.proofs.Lists.{by-bool, and-left, and-right, true-not-false}
-use Rattle.bounds.specs.Seen.{latestOf, lastOf, rememberedOf, admits}
+use Rattle.bounds.specs.declared.releases.Last.{Last}
+use Rattle.bounds.specs.declared.releases.Last.the-variants.{Never, On}
+use Rattle.bounds.specs.Seen.{latestOf, lastOf, rememberedOf, tooSoon, admits}
 use Rattle.bounds.proofs.ByPlace.{stringAt-out}
 
 -- ---- The list, and what is remembered of it
 
-not-ltb : (a b : ℕ) → not (ltb a b) ≡ leb b a
-not-ltb a b =
-    elim (decLe b a) [ yes h ↦ rw (le-ltb a b h, le-leb b a h) | no h ↦ rest (omega arith) ]
-  where
-    rest : a < b → not (ltb a b) ≡ leb b a
-    rest h = rw (lt-ltb a b h, lt-leb b a h)
-
-order-is : (r : Release) (seen : List Release) → outOfOrder r seen ≡ ltb (r .day .0) (latestOf seen)
+order-is : (r : Release) (seen : List Release) → outOfOrder r seen ≡ ltb (r .day .0) (latestOf seen .0)
 unfolding outOfOrder latestOf
 order-is r [] = sym (le-ltb (r .day .0) 0 (omega arith))
 order-is r (q ∷ seen) = refl
 
-apart-is : (t : ℕ) (r : Release) (seen : List Release) → not (tooClose t r seen) ≡ cond (eqb (lastOf (r .place) seen) 0) true (leb (lastOf (r .place) seen - 1 + t) (r .day .0))
-unfolding tooClose lastOf
+apart-is : (t : Length) (r : Release) (seen : List Release) → tooClose (t .0) r seen ≡ tooSoon (lastOf (r .place) seen) (r .day) t
+unfolding tooClose lastOf tooSoon
 apart-is t r [] = refl
-apart-is t r (q ∷ seen) =
-    by-bool (eqb (q .place) (r .place))
-    (λ e.
-    let some-day : eqb (q .day .0 + 1) 0 ≡ false = ne-eqb (q .day .0 + 1) 0 (λ z. omega arith) in
-    let back : q .day .0 + 1 - 1 ≡ q .day .0 = omega arith in
-    rw (e, some-day, back) (not-ltb (r .day .0) (q .day .0 + t)))
-    (λ e. rw e (apart-is t r seen))
+apart-is t r (q ∷ seen) = by-bool (eqb (q .place) (r .place)) (λ e. rw e) (λ e. rw e (apart-is t r seen))
 
-pub admits-is : (p : Plan) (seen : List Release) (r : Release) → admits p (latestOf seen) (lastOf (r .place) seen) r ≡ releaseLawful p seen r
+pub admits-is : (p : Plan) (seen : List Release) (r : Release)
+    → admits p (latestOf seen) (lastOf (r .place) seen) r ≡ releaseLawful p seen r
 unfolding admits releaseLawful
-admits-is p seen r = rw (← (order-is r seen), ← (apart-is (stringAt p (r .place) .t .0) r seen))
+admits-is p seen r = rw (order-is r seen, apart-is (stringAt p (r .place) .t) r seen)
 
 -- ---- The facts that the code tests
 
-pub record Admitted (p : Plan) (latest last : ℕ) (r : Release) : Type 0 where
+pub record Admitted (p : Plan) (latest : Day) (last : Last) (r : Release) : Type 0 where
   pub placeLow : 1 ≤ r .place
   pub placeHigh : r .place ≤ p .n
   pub needLow : 1 ≤ r .need .0
   pub needHigh : r .need .0 ≤ stringAt p (r .place) .c .0
   pub inRun : r .day .0 < p .run .0
-  pub inOrder : latest ≤ r .day .0
-  pub apart : cond (eqb last 0) true (leb (last - 1 + stringAt p (r .place) .t .0) (r .day .0)) ≡ true
+  pub inOrder : latest .0 ≤ r .day .0
+  pub apart : tooSoon last (r .day) (stringAt p (r .place) .t) ≡ false
 
-module _ (p : Plan) (latest last : ℕ) (r : Release) where
+module _ (p : Plan) (latest : Day) (last : Last) (r : Release) where
   P : Bool
   P = inBounds 1 (r .place) (p .n)
 
@@ -73,12 +65,12 @@ module _ (p : Plan) (latest last : ℕ) (r : Release) where
   R = ltb (r .day .0) (p .run .0)
 
   O : Bool
-  O = not (ltb (r .day .0) latest)
+  O = not (ltb (r .day .0) (latest .0))
 
   pub admits-facts : admits p latest last r ≡ true → Admitted p latest last r
   unfolding admits P N R O
   admits-facts h =
-      let A = cond (eqb last 0) true (leb (last - 1 + stringAt p (r .place) .t .0) (r .day .0)) in
+      let A = not (tooSoon last (r .day) (stringAt p (r .place) .t)) in
       let a = and-right (P && N && R && O) A h in
       let pnro = and-left (P && N && R && O) A h in
       let o = and-right (P && N && R) O pnro in
@@ -93,22 +85,23 @@ module _ (p : Plan) (latest last : ℕ) (r : Release) where
         needLow = inBounds-low 1 (r .need .0) (stringAt p (r .place) .c .0) n;
         needHigh = inBounds-high 1 (r .need .0) (stringAt p (r .place) .c .0) n;
         inRun = ltb-true (r .day .0) (p .run .0) run;
-        inOrder = ltb-false (r .day .0) latest (not-true _ o);
-        apart = a;
+        inOrder = ltb-false (r .day .0) (latest .0) (not-true _ o);
+        apart = not-true _ a;
       }
 
   pub admits-not : (Admitted p latest last r → ⊥) → admits p latest last r ≡ false
   admits-not out = by-bool (admits p latest last r) (λ t. absurd (out (admits-facts t))) (λ e. e)
 
   -- all tests but the last have passed
-  pub admits-apart : 1 ≤ r .place → r .place ≤ p .n → 1 ≤ r .need .0 → r .need .0 ≤ stringAt p (r .place) .c .0 → r .day .0 < p .run .0 → latest ≤ r .day .0 → admits p latest last r ≡ cond (eqb last 0) true (leb (last - 1 + stringAt p (r .place) .t .0) (r .day .0))
+  pub admits-apart : 1 ≤ r .place → r .place ≤ p .n → 1 ≤ r .need .0 → r .need .0 ≤ stringAt p (r .place) .c .0
+      → r .day .0 < p .run .0 → latest .0 ≤ r .day .0 → admits p latest last r ≡ not (tooSoon last (r .day) (stringAt p (r .place) .t))
   unfolding admits
   admits-apart a b d e f g =
       rw (
         inBounds-yes 1 (r .place) (p .n) a b,
         inBounds-yes 1 (r .need .0) (stringAt p (r .place) .c .0) d e,
         lt-ltb (r .day .0) (p .run .0) f,
-        le-ltb (r .day .0) latest g,
+        le-ltb (r .day .0) (latest .0) g,
       )
 
 -- ---- A list walked from its head: what is seen before place i, the latest first
@@ -125,40 +118,38 @@ pub seenTo-next : (rs : List Release) (i : ℕ) → seenTo rs (i + 1) ≡ getD r
 unfolding seenTo
 seenTo-next rs i = rw add-one
 
-pub latestOf-next : (rs : List Release) (i : ℕ) → latestOf (seenTo rs (i + 1)) ≡ getD rs i noRelease .day .0
+pub latestOf-next : (rs : List Release) (i : ℕ) → latestOf (seenTo rs (i + 1)) ≡ getD rs i noRelease .day
 unfolding latestOf
 latestOf-next rs i = rw (seenTo-next rs i)
 
-pub lastOf-same : (rs : List Release) (i : ℕ) → lastOf (getD rs i noRelease .place) (seenTo rs (i + 1)) ≡ getD rs i noRelease .day .0 + 1
+pub lastOf-same : (rs : List Release) (i : ℕ) → lastOf (getD rs i noRelease .place) (seenTo rs (i + 1)) ≡ On (getD rs i noRelease .day)
 unfolding lastOf
 lastOf-same rs i = rw (seenTo-next rs i, eq-eqb (getD rs i noRelease .place) (getD rs i noRelease .place) refl)
 
-pub lastOf-other : (rs : List Release) (i k : ℕ) → (getD rs i noRelease .place ≡ k → ⊥) → lastOf k (seenTo rs (i + 1)) ≡ lastOf k (seenTo rs i)
+pub lastOf-other : (rs : List Release) (i k : ℕ) → (getD rs i noRelease .place ≡ k → ⊥)
+    → lastOf k (seenTo rs (i + 1)) ≡ lastOf k (seenTo rs i)
 unfolding lastOf
 lastOf-other rs i k other = rw (seenTo-next rs i, ne-eqb (getD rs i noRelease .place) k other)
 
 module _ (p : Plan) (rs : List Release) (end i : ℕ) (inside : i < end) (fits : end ≤ length rs) where
-  part-cons : drop i (take end rs) ≡ getD rs i noRelease ∷ drop (i + 1) (take end rs)
-  part-cons =
-      let within : i < length (take end rs) = omega (arith, length-take-le end rs fits) in
-      rw (add-one, drop-cons (take end rs) i noRelease within, getD-take end rs i noRelease inside)
-
-  pub unlawfulFrom-good : (k : ℕ) → releaseLawful p (seenTo rs i) (getD rs i noRelease) ≡ true → unlawfulFrom p (seenTo rs i) k (drop i (take end rs)) ≡ unlawfulFrom p (seenTo rs (i + 1)) (k + 1) (drop (i + 1) (take end rs))
+  pub unlawfulFrom-good : (k : ℕ) → releaseLawful p (seenTo rs i) (getD rs i noRelease) ≡ true
+      → unlawfulFrom p (seenTo rs i) k (drop i (take end rs)) ≡ unlawfulFrom p (seenTo rs (i + 1)) (k + 1) (drop (i + 1) (take end rs))
   unfolding unlawfulFrom
-  unlawfulFrom-good k t = rw (part-cons, t, seenTo-next rs i, add-one k)
+  unlawfulFrom-good k t = rw (part-cons end i rs noRelease inside fits, t, seenTo-next rs i, add-one k)
 
-  pub unlawfulFrom-bad : (k : ℕ) → releaseLawful p (seenTo rs i) (getD rs i noRelease) ≡ false → unlawfulFrom p (seenTo rs i) k (drop i (take end rs)) ≡ k
+  pub unlawfulFrom-bad : (k : ℕ) → releaseLawful p (seenTo rs i) (getD rs i noRelease) ≡ false
+      → unlawfulFrom p (seenTo rs i) k (drop i (take end rs)) ≡ k
   unfolding unlawfulFrom
-  unlawfulFrom-bad k e = rw (part-cons, e)
+  unlawfulFrom-bad k e = rw (part-cons end i rs noRelease inside fits, e)
 
 pub unlawfulFrom-end : (p : Plan) (rs : List Release) (end i k : ℕ) → end ≤ i → unlawfulFrom p (seenTo rs i) k (drop i (take end rs)) ≡ 0
 unfolding unlawfulFrom
 unlawfulFrom-end p rs end i k h =
-    let past : length (take end rs) ≤ i = omega (arith, length-take end rs) in
-    rw (drop-of-length-le (take end rs) past)
+    rw (part-end end i rs h)
 
 -- what is admitted has one of the ten places
-pub admitted-few : (p : Plan) (latest last : ℕ) (r : Release) → length (p .strings) ≡ 10 → Admitted p latest last r → r .place ≤ 10
+pub admitted-few : (p : Plan) (latest : Day) (last : Last) (r : Release) → length (p .strings) ≡ 10 → Admitted p latest last r
+    → r .place ≤ 10
 admitted-few p latest last r ten h =
     elim (decLe (r .place) 10) [ yes few ↦ few | no many ↦ absurd (nowhere (omega arith)) ]
   where
@@ -170,7 +161,9 @@ admitted-few p latest last r ten h =
         omega arith
 
 -- a place that no plan has is refused, whatever is remembered
-pub admits-remembered : (p : Plan) (seen : List Release) (last : List ℕ) (r : Release) → length (p .strings) ≡ 10 → ((k : ℕ) → k < 10 → getD last k 0 ≡ lastOf (k + 1) seen) → admits p (latestOf seen) (rememberedOf last (r .place)) r ≡ releaseLawful p seen r
+pub admits-remembered : (p : Plan) (seen : List Release) (last : List Last) (r : Release) → length (p .strings) ≡ 10
+    → ((k : ℕ) → k < 10 → getD last k Never ≡ lastOf (k + 1) seen)
+    → admits p (latestOf seen) (rememberedOf last (r .place)) r ≡ releaseLawful p seen r
 unfolding rememberedOf
 admits-remembered p seen last r ten kept =
     by-bool (inBounds 1 (r .place) 10)
@@ -179,13 +172,9 @@ admits-remembered p seen last r ten kept =
     let high = inBounds-high 1 (r .place) 10 t in
     let back : r .place - 1 + 1 ≡ r .place = omega arith in
     rw (t, kept (r .place - 1) (omega arith), back) (admits-is p seen r))
-    (λ e. rw e (out 0 e ∙ sym (sym (admits-is p seen r) ∙ out (lastOf (r .place) seen) e)))
+    (λ e. rw e (out Never e ∙ sym (sym (admits-is p seen r) ∙ out (lastOf (r .place) seen) e)))
   where
-    out : (v : ℕ) → inBounds 1 (r .place) 10 ≡ false → admits p (latestOf seen) v r ≡ false
+    out : (v : Last) → inBounds 1 (r .place) 10 ≡ false → admits p (latestOf seen) v r ≡ false
     out v e =
         admits-not p (latestOf seen) v r
         (λ h. true-not-false (sym (inBounds-yes 1 (r .place) 10 (h .placeLow) (admitted-few p (latestOf seen) v r ten h)) ∙ e))
-
-pub remembered-small : (last : List ℕ) (i m : ℕ) → ((k : ℕ) → getD last k 0 ≤ m) → rememberedOf last i ≤ m
-unfolding rememberedOf
-remembered-small last i m small = by-bool (inBounds 1 i 10) (λ t. rw t (small (i - 1))) (λ e. rw e (omega arith))

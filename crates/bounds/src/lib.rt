@@ -4,6 +4,7 @@ mod periods;
 mod releases;
 mod strings;
 
+use days::Length;
 use faults::Checked;
 use faults::Fault;
 pub use periods::multiple;
@@ -14,7 +15,7 @@ pub use strings::string_lawful;
 use strings::strings_check;
 ghost use mathlib.Core.Path.{_≡_};
 ghost use Rattle.rules.specs.Plan.{stringsOf};
-ghost use Rattle.rules.specs.Refusal.{countCheck, numbersCheck, stringsCheck, multipleCheck, planCheck, setCheck, runCheck};
+ghost use Rattle.rules.specs.Refusal.{headCheck, stringsCheck, multipleCheck, planCheck, setCheck, runCheck};
 ghost use Rattle.faults.specs.Checks.{then};
 
 fn refused(fault: Fault, at: usize) -> Checked
@@ -23,44 +24,45 @@ fn refused(fault: Fault, at: usize) -> Checked
     Checked::Refused { fault, at }
 }
 
-// n, then A and N.
-fn head_check(p: Plan) -> Checked
-    ensures exact { λ r. ⌜ r ≡ then (countCheck p) (numbersCheck p) ⌝ }
+// n, then A and N; a fault is reported at `at`.
+pub fn head_check(at: usize, n: usize, a: Length, run: Length) -> Checked
+    ensures exact { λ r. ⌜ r ≡ headCheck at n (a .0) (run .0) ⌝ }
 {
-    let n = p.n;
-    let a = p.a.0;
-    let run = p.run.0;
     if n < 1 {
-        return refused(Fault::StringCount, 0);
+        return refused(Fault::StringCount, at);
     }
     if 10 < n {
-        return refused(Fault::StringCount, 0);
+        return refused(Fault::StringCount, at);
     }
-    if 1000 < a {
-        return refused(Fault::OutOfBounds, 0);
+    if 1000 < a.0 {
+        return refused(Fault::OutOfBounds, at);
     }
-    if run < 1 {
-        return refused(Fault::OutOfBounds, 0);
+    if run.0 < 1 {
+        return refused(Fault::OutOfBounds, at);
     }
-    if 1000000 < run {
-        return refused(Fault::OutOfBounds, 0);
+    if 1000000 < run.0 {
+        return refused(Fault::OutOfBounds, at);
+    }
+    Checked::Lawful
+}
+
+// H; a fault is reported at `at`.
+pub fn multiple_check(at: usize, p: Plan) -> Checked
+    ensures exact { λ r. ⌜ r ≡ multipleCheck at p ⌝ }
+{
+    if 100000 < multiple(p) {
+        return refused(Fault::MultipleOver, at);
     }
     Checked::Lawful
 }
 
 // The strings place by place, then H.
 fn body_check(p: Plan) -> Checked
-    ensures exact { λ r. ⌜ r ≡ then (stringsCheck 1 (stringsOf p)) (multipleCheck p) ⌝ }
+    ensures exact { λ r. ⌜ r ≡ then (stringsCheck 1 (stringsOf p)) (multipleCheck 0 p) ⌝ }
 {
     let strings = strings_check(p);
     match strings {
-        Checked::Lawful => {
-            if 100000 < multiple(p) {
-                refused(Fault::MultipleOver, 0)
-            } else {
-                Checked::Lawful
-            }
-        }
+        Checked::Lawful => multiple_check(0, p),
         Checked::Refused { fault, at } => refused(fault, at),
     }
 }
@@ -69,7 +71,7 @@ fn body_check(p: Plan) -> Checked
 pub fn plan_check(p: Plan) -> Checked
     ensures exact { λ r. ⌜ r ≡ planCheck p ⌝ }
 {
-    let head = head_check(p);
+    let head = head_check(0, p.n, p.a, p.run);
     match head {
         Checked::Lawful => body_check(p),
         Checked::Refused { fault, at } => refused(fault, at),
@@ -80,7 +82,7 @@ pub fn plan_check(p: Plan) -> Checked
 pub fn set_check(p: Plan, set: u32) -> Checked
     ensures exact { λ r. ⌜ r ≡ setCheck p set ⌝ }
 {
-    let head = head_check(p);
+    let head = head_check(0, p.n, p.a, p.run);
     match head {
         Checked::Lawful => {
             let n = p.n;

@@ -1,19 +1,39 @@
 // The first release of a list that may not stand where it stands.
+use days::Day;
+use days::Gap;
+use days::Length;
 use rules::Plan;
 use rules::Release;
 use rules::Releases;
 ghost use mathlib.Core.Path.{_≡_};
-ghost use Prim.Native.Nat.{_≤_, _^_, min};
+ghost use Prim.Native.Nat.{min};
 ghost use Rattle.rules.specs.Release.{releasesOf, firstUnlawful};
-ghost use Rattle.bounds.specs.Seen.{admits, rememberedOf};
+ghost use Rattle.bounds.specs.Seen.{tooSoon, admits, rememberedOf};
 
-// Whether r may follow releases of which the last was on the day `latest` and the last of r's place on the day before `last`; 0 says none.
-fn admitted(p: Plan, latest: u32, last: u64, r: Release) -> bool
-    requires { ⌜ last ≤ 2 ^ 32 ⌝ }
+// The last release of a place, where there was one.
+pub(crate) enum Last {
+    Never,
+    On(Day),
+}
+
+// Whether a release on `day` comes fewer than t days after the last of its place.
+fn too_soon(last: Last, day: Day, t: Length) -> bool
+    ensures exact { λ v. ⌜ v ≡ tooSoon last day t ⌝ }
+{
+    match last {
+        Last::Never => false,
+        Last::On(earlier) => match day.since(earlier) {
+            Gap::Of(length) => length.shorter(t),
+            Gap::Backwards => true,
+        },
+    }
+}
+
+// Whether r may follow releases of which the latest was on the day `latest`; `last` is the last of r's place.
+fn admitted(p: Plan, latest: Day, last: Last, r: Release) -> bool
     ensures exact { λ v. ⌜ v ≡ admits p latest last r ⌝ }
 {
     let place = r.place;
-    let day = r.day.0;
     let need = r.need.0;
     if place < 1 {
         return false;
@@ -32,16 +52,13 @@ fn admitted(p: Plan, latest: u32, last: u64, r: Release) -> bool
     if s.c.0 < need {
         return false;
     }
-    if p.run.0 <= day {
+    if p.run.0 <= r.day.0 {
         return false;
     }
-    if day < latest {
+    if r.day.before(latest) {
         return false;
     }
-    if last == 0 {
-        return true;
-    }
-    last - 1 + (s.t.0 as u64) <= (day as u64)
+    !too_soon(last, r.day, s.t)
 }
 
 fn smaller(a: usize, b: usize) -> usize
@@ -51,14 +68,14 @@ fn smaller(a: usize, b: usize) -> usize
 }
 
 // What is remembered of the last release of a place; nothing of a place that no plan has.
-fn remembered(last: [u64; 10], place: usize) -> u64
+fn remembered(last: [Last; 10], place: usize) -> Last
     ensures exact { λ r. ⌜ r ≡ rememberedOf last place ⌝ }
 {
     if place < 1 {
-        return 0;
+        return Last::Never;
     }
     if 10 < place {
-        return 0;
+        return Last::Never;
     }
     last[place - 1]
 }
@@ -70,18 +87,20 @@ pub fn first_unlawful(p: Plan, rs: Releases) -> usize
     let list = rs.list;
     let count = rs.count;
     let end = smaller(count, 1000);
-    let mut last = [0u64; 10];
-    let mut latest: u32 = 0;
+    let never = Last::Never;
+    let mut last = [never; 10];
+    let mut latest = Day(0);
     let mut i: usize = 0;
     while i < end {
         let r = list[i];
         let place = r.place;
+        let day = r.day;
         let before = remembered(last, place);
         if !admitted(p, latest, before, r) {
             return i + 1;
         }
-        last[place - 1] = (r.day.0 as u64) + 1;
-        latest = r.day.0;
+        last[place - 1] = Last::On(day);
+        latest = day;
         i += 1;
     }
     0

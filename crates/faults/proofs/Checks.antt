@@ -17,6 +17,11 @@ refused-not-lawful f at h =
     let z : _≡_ {A = ℕ} 0 1 = cc in
     omega arith
 
+-- what follows where nothing is found and where a fault is, follows
+pub by-checked {κ} : {B : Type κ} (c : Checked) → (c ≡ Lawful → B) → ((f : Fault) (at : ℕ) → c ≡ Refused f at → B) → B
+by-checked Lawful lawful refused = lawful refl
+by-checked (Refused f at) lawful refused = refused f at refl
+
 pub then-first : (a b : Checked) → then a b ≡ Lawful → a ≡ Lawful
 then-first Lawful b h = refl
 then-first (Refused f at) b h = h
@@ -31,13 +36,13 @@ then-lawful a b h = ap (λ v. then v b) h
 pub then-refused : (a b : Checked) (f : Fault) (at : ℕ) → a ≡ Refused f at → then a b ≡ Refused f at
 then-refused a b f at h = ap (λ v. then v b) h
 
-pub then-assoc : (a b d : Checked) → then (then a b) d ≡ then a (then b d)
-then-assoc Lawful b d = refl
-then-assoc (Refused f at) b d = refl
-
 pub refuseIf-not : (bad : Bool) (f : Fault) (at : ℕ) → refuseIf bad f at ≡ Lawful → bad ≡ false
 refuseIf-not true f at h = absurd (refused-not-lawful f at h)
 refuseIf-not false f at h = refl
+
+-- what is lawful does not depend on the place that a fault would be reported at
+pub refuseIf-anywhere : (bad : Bool) (f : Fault) (at elsewhere : ℕ) → refuseIf bad f at ≡ Lawful → refuseIf bad f elsewhere ≡ Lawful
+refuseIf-anywhere bad f at elsewhere h = rw (refuseIf-not bad f at h)
 
 pub inBounds-low : (low v high : ℕ) → inBounds low v high ≡ true → low ≤ v
 inBounds-low low v high h = leb-true low v (and-left (leb low v) (leb v high) h)

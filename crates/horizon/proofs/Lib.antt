@@ -2,7 +2,7 @@
 pub mod Pairs
 pub mod Period
 pub mod Range
-pub mod First
+pub mod PairList
 pub mod Verdict
 pub mod Sets
 pub mod Alone

@@ -17,7 +17,7 @@ use Rattle.days.specs.Days.{days}
 use Rattle.rules.specs.declared.Plan.{Plan}
 use Rattle.rules.specs.declared.Verdict.{Verdict}
 use Rattle.rules.specs.declared.Verdict.the-variants.{Overload, Fail, Pass}
-use Rattle.lists.specs.Count.{upFrom}
+use Rattle.lists.specs.Count.{upFrom, firstOf}
 use Rattle.rules.specs.Plan.{multipleOf, dMax}
 use Rattle.rules.specs.Demand.{blockLimit, demand, overloaded}
 use Rattle.rules.specs.Verdict.{Pair, pairsAt, allPairs, broken, firstBroken, compared, judged, verdictOf}
@@ -65,11 +65,11 @@ verdictOf-scan p e =
     rw (e, from-none)
 
 pub scanFrom-end : (p : Plan) (k : ℕ) → scanFrom p k [] ≡ Pass k
-unfolding scanFrom judged firstBroken compared
+unfolding scanFrom judged firstOf compared
 scanFrom-end p k = ap Pass (add-zero k)
 
 pub scanFrom-good : (p : Plan) (k : ℕ) (q : Pair) (qs : List Pair) → broken p q ≡ false → scanFrom p k (q ∷ qs) ≡ scanFrom p (k + 1) qs
-unfolding scanFrom firstBroken compared
+unfolding scanFrom firstOf compared
 scanFrom-good p k q qs e =
     let one-on : k + suc (length (compared p qs)) ≡ k + 1 + length (compared p qs) = omega arith in
     rw (e, one-on)
@@ -78,7 +78,7 @@ pub scanFrom-bad :
     (p : Plan) (k : ℕ) (q : Pair) (qs : List Pair)
     → broken p q ≡ true
     → scanFrom p k (q ∷ qs) ≡ Fail (days (q .l)) (days (q .b)) (days (demand p (q .l) (q .b))) (k + 1)
-unfolding scanFrom firstBroken compared judged
+unfolding scanFrom firstOf compared judged
 scanFrom-bad p k q qs t = rw t
 
 -- ---- Rows

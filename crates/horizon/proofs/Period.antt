@@ -10,7 +10,7 @@ use Rattle.rules.specs.declared.Plan.{Plan}
 use Rattle.lists.specs.Count.{sumOf}
 use Rattle.rules.specs.Plan.{stringsOf, multipleOf, dMax}
 use Rattle.rules.specs.Demand.{holdOf, jobs, need, demand, load}
-use Rattle.lists.proofs.Lists.{All, all-map, sumOf-le, sumOf-eq, sumOf-add, largest-le}
+use Rattle.lists.proofs.Lists.{All, all-map, sumOf-le, sumOf-eq, sumOf-add}
 use Rattle.laws.proofs.Jobs.{jobs-short, jobs-from, jobs-zero, jobs-window, jobs-period}
 use Rattle.laws.proofs.Lawful.{LawfulString, LawfulPlan}
 use Rattle.laws.proofs.Demand.{need-unblocked}
@@ -21,13 +21,6 @@ use Rattle.lists.proofs.Order.{all-both, sumOf-zero}
 -- T divides H, and H is not 0
 period-parts : (s : BatteryString) (h : ℕ) → h % s .t .0 ≡ 0 → h / s .t .0 * s .t .0 ≡ h
 period-parts s h whole = omega (arith, div-add-mod' h (s .t .0))
-
-pub t-le-period : (s : BatteryString) (h : ℕ) → 1 ≤ h → h % s .t .0 ≡ 0 → s .t .0 ≤ h
-t-le-period s h pos whole = go (h / s .t .0) (period-parts s h whole)
-  where
-    go : (k : ℕ) → k * s .t .0 ≡ h → s .t .0 ≤ h
-    go zero e = absurd (omega (arith, zero-mul (s .t .0)))
-    go (suc k) e = omega (arith, add-mul k 1 (s .t .0))
 
 -- H more days add at most H / T jobs, also where none fitted before
 pub jobs-period-le : (s : BatteryString) (h w : ℕ) → LawfulString s → h % s .t .0 ≡ 0 → jobs s (w + h) ≤ jobs s w + h / s .t .0
@@ -117,12 +110,3 @@ module _ (p : Plan) (ok : LawfulPlan p) where
             add-mul (jobs s l) (multipleOf p / s .t .0) (holdOf p s),
             mul-comm (multipleOf p / s .t .0) (holdOf p s),
           )
-
-  -- H is at least the largest D
-  pub dMax-le-period : dMax p ≤ multipleOf p
-  unfolding dMax
-  dMax-le-period =
-      largest-le (λ s. s .d .0) (multipleOf p) (stringsOf p)
-      (each-whole (λ s. s .d .0 ≤ multipleOf p) (λ s lawful whole.
-      let short = lawful .dMax in
-      omega (arith, t-le-period s (multipleOf p) (ok .hPos) whole)))

@@ -39,7 +39,8 @@ module _ (p : Plan) (ok : LawfulPlan p) where
   start zero f = omega (arith, demand-none p ok)
   start (suc l) f = f (omega arith)
 
-  -- The range is the same for any blocking limit that is 0 from the largest D on: beyond it nothing blocks, and the rule at l follows from the
+  -- The range is the same for any blocking limit that is 0 from the largest D on: beyond it nothing blocks, and the rule at l follows from
+  -- the
   -- rule H days earlier.
   module _ (limit : ℕ → ℕ) (none-late : (l : ℕ) → dMax p ≤ l → limit l ≡ 0) where
     beyond :

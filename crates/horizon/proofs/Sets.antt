@@ -1,4 +1,4 @@
--- A plan with a permission set: T, C and D stay, so a lawful plan stays lawful, with the same H, Dmin and Dmax.
+-- A plan with a permission set: T, C and D stay, so a lawful plan stays lawful, with the same H.
 --     permitted s x         the string s with permission x
 use Prim.Native.Nat.{ℕ, zero, suc, _/_, _%_, _≤_}
 use mathlib.Core.Path.{_≡_, refl, ap, _∙_, fun-ext}
@@ -10,8 +10,8 @@ use lib.Dec.{eqb}
 use lib.ListN.{take}
 use Rattle.rules.specs.declared.BatteryString.{BatteryString}
 use Rattle.rules.specs.declared.Plan.{Plan}
-use Rattle.lists.specs.Count.{sumOf, largest, smallest, smallestWith, every, leastFrom}
-use Rattle.rules.specs.Plan.{stringsOf, commonMultiple, multipleOf, dMin, dMax}
+use Rattle.lists.specs.Count.{sumOf, every, leastFrom}
+use Rattle.rules.specs.Plan.{stringsOf, commonMultiple, multipleOf, dMax}
 use Rattle.rules.specs.Search.{permit, withSet}
 use Rattle.lists.proofs.Lists.{All}
 use Rattle.laws.proofs.Lawful.{LawfulString, LawfulPlan, multipleOf-pos, multipleOf-common, multipleOf-least, commonMultiple-whole}
@@ -44,21 +44,6 @@ module _ (f : BatteryString → ℕ) (blind : (s : BatteryString) (x : ℕ) → 
   permit-sumOf m [] = refl
   permit-sumOf m (s ∷ ss) = rw (blind s (m % 2), permit-sumOf (m / 2) ss)
 
-  pub permit-largest : (m : ℕ) (ss : List BatteryString) → largest f (permit m ss) ≡ largest f ss
-  unfolding permit largest
-  permit-largest m [] = refl
-  permit-largest m (s ∷ ss) = rw (blind s (m % 2), permit-largest (m / 2) ss)
-
-  permit-smallestWith : (k m : ℕ) (ss : List BatteryString) → smallestWith f k (permit m ss) ≡ smallestWith f k ss
-  unfolding permit smallestWith
-  permit-smallestWith k m [] = refl
-  permit-smallestWith k m (s ∷ ss) = rw (blind s (m % 2), permit-smallestWith k (m / 2) ss)
-
-  pub permit-smallest : (m : ℕ) (ss : List BatteryString) → smallest f (permit m ss) ≡ smallest f ss
-  unfolding permit smallest
-  permit-smallest m [] = refl
-  permit-smallest m (s ∷ ss) = rw (blind s (m % 2), permit-smallestWith (f s) (m / 2) ss)
-
 pub permit-every :
     (f : BatteryString → Bool) → ((s : BatteryString) (x : ℕ) → f (permitted s x) ≡ f s)
     → (m : ℕ) (ss : List BatteryString) → every f (permit m ss) ≡ every f ss
@@ -72,14 +57,6 @@ module _ (p : Plan) (m : ℕ) where
   pub withSet-strings : stringsOf (withSet p m) ≡ permit m (stringsOf p)
   unfolding withSet
   withSet-strings = permit-take (p .n) m (p .strings)
-
-  pub withSet-dMax : dMax (withSet p m) ≡ dMax p
-  unfolding dMax
-  withSet-dMax = rw withSet-strings (permit-largest (λ s. s .d .0) (λ s x. refl) m (stringsOf p))
-
-  pub withSet-dMin : dMin (withSet p m) ≡ dMin p
-  unfolding dMin
-  withSet-dMin = rw withSet-strings (permit-smallest (λ s. s .d .0) (λ s x. refl) m (stringsOf p))
 
   pub withSet-multiple : multipleOf (withSet p m) ≡ multipleOf p
   unfolding multipleOf commonMultiple

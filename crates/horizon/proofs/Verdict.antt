@@ -20,8 +20,9 @@ use Rattle.lists.proofs.Lists.{by-bool, true-not-false}
 use Rattle.laws.proofs.Lawful.{LawfulPlan}
 use Rattle.horizon.proofs.Pairs.{pair, broken-no, broken-over, unbroken-holds, scanFrom, verdictOf-overload, verdictOf-scan}
 use Rattle.horizon.proofs.Range.{overload-at-period, range-suffices}
-use Rattle.horizon.proofs.First.{Within, Before, all-pairs, pairs-all, pairs-rising}
-use Rattle.horizon.proofs.First.{none-broken, broken-none, compared-all, firstBroken-broken, firstBroken-in, firstBroken-least}
+use Rattle.horizon.proofs.PairList.{Within, Before, all-pairs, pairs-all, pairs-rising}
+use Rattle.lists.proofs.FirstOf.{firstOf-none, firstOf-passes, firstOf-in, firstOf-least}
+use Rattle.horizon.proofs.PairList.{compared-all}
 use Rattle.horizon.specs.FirstBreak.{FirstBreak}
 
 -- ---- Verdicts
@@ -73,7 +74,7 @@ module _ (p : Plan) where
   pass-count h =
       let light = pass-not-overloaded h in
       let none-is = pass-none-broken h in
-      let whole = compared-all p (allPairs p) (none-broken p (allPairs p) none-is) in
+      let whole = compared-all p (allPairs p) (firstOf-none (broken p) (allPairs p) .0 none-is) in
       rw (light, none-is, whole)
 
 module _ (p : Plan) (ok : LawfulPlan p) where
@@ -83,7 +84,7 @@ module _ (p : Plan) (ok : LawfulPlan p) where
       unbroken-holds p (pair l b) (whole l b low high limit))
     where
       whole : (l b : ℕ) → 1 ≤ l → l ≤ dMax p + multipleOf p - 1 → b ≤ blockLimit p l → broken p (pair l b) ≡ false
-      whole = pairs-all p (λ q. broken p q ≡ false) (none-broken p (allPairs p) (pass-none-broken p h))
+      whole = pairs-all p (λ q. broken p q ≡ false) (firstOf-none (broken p) (allPairs p) .0 (pass-none-broken p h))
 
   pub passes-pass : Passes p → isPass (verdictOf p) ≡ true
   unfolding verdictOf judged isPass
@@ -92,7 +93,7 @@ module _ (p : Plan) (ok : LawfulPlan p) where
       by-bool (overloaded p)
       (λ t. absurd (omega (arith, overload-at-period p ok t, rule (multipleOf p) 0 (ok .hPos) zero-le)))
       (λ e. e) in
-      let none-is = broken-none p (allPairs p) (all-pairs p (λ q. broken p q ≡ false) (λ l b low high limit.
+      let none-is = firstOf-none (broken p) (allPairs p) .1 (all-pairs p (λ q. broken p q ≡ false) (λ l b low high limit.
       broken-no p (pair l b) (rule l b low limit))) in
       rw (light, none-is)
 
@@ -110,20 +111,21 @@ module _ (p : Plan) where
         pos = within .0;
         inRange = within .1;
         allowed = within .2;
-        breaks = broken-over p (pair l b) (firstBroken-broken p (allPairs p) (pair l b) h);
+        breaks = broken-over p (pair l b) (firstOf-passes (broken p) (allPairs p) (pair l b) h);
         shorter = λ m c low under limit. holds m c low (le-trans (omega arith) (within .1)) limit (inl under);
         less = λ c under. holds l c (within .0) (within .1) (omega (arith, within .2)) (inr (refl, under));
       }
     where
       within : Within p (pair l b)
-      within = firstBroken-in p (Within p) (allPairs p) (pair l b) (all-pairs p (Within p) (λ i c low high limit. (low, high, limit))) h
+      within =
+          firstOf-in (broken p) (Within p) (allPairs p) (pair l b) (all-pairs p (Within p) (λ i c low high limit. (low, high, limit))) h
 
       least :
           (m c : ℕ) → 1 ≤ m → m ≤ dMax p + multipleOf p - 1 → c ≤ blockLimit p m
           → broken p (pair m c) ≡ true → (pair l b ≡ pair m c) ⊎ Before (pair l b) (pair m c)
       least =
           pairs-all p (λ r. broken p r ≡ true → (pair l b ≡ r) ⊎ Before (pair l b) r)
-          (firstBroken-least p Before (allPairs p) (pair l b) (pairs-rising p) h)
+          (firstOf-least (broken p) Before (allPairs p) (pair l b) (pairs-rising p) h)
 
       not-after : (m c : ℕ) → Before (pair m c) (pair l b) → (pair l b ≡ pair m c) ⊎ Before (pair l b) (pair m c) → ⊥
       not-after m c (inl under) (inl e) = omega (arith, ap (λ q. q .l) e)
@@ -189,7 +191,8 @@ module _ (p : Plan) where
     where
       found : (o : Option Pair) → firstBroken p (allPairs p) ≡ o → firstBroken p (allPairs p) ≡ some (pair l b)
       found none e =
-          let holds = pairs-all p (λ q. broken p q ≡ false) (none-broken p (allPairs p) e) l b (first .pos) (first .inRange) (first .allowed) in
+          let holds = pairs-all p (λ q. broken p q ≡ false) (firstOf-none (broken p) (allPairs p) .0 e) l b (first .pos) (first .inRange)
+          (first .allowed) in
           absurd (omega (arith, first .breaks, unbroken-holds p (pair l b) holds))
       found (some q) e =
           let same = firstBreak-unique p (q .l) (q .b) l b (firstBroken-names p (q .l) (q .b) e) first in

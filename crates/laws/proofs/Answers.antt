@@ -15,7 +15,7 @@ use Rattle.rules.specs.Run.{runOf}
 use Rattle.rules.specs.Plan.{stringsOf}
 use Rattle.rules.specs.Verdict.{verdictOf}
 use Rattle.rules.specs.Search.{withSet, searchOf}
-use Rattle.rules.specs.Refusal.{countCheck, numbersCheck, stringsCheck, multipleCheck, planCheck, setCheck}
+use Rattle.rules.specs.Refusal.{headCheck, stringsCheck, multipleCheck, planCheck, setCheck}
 use Rattle.faults.specs.Checks.{then, refuseIf}
 use Rattle.faults.proofs.Checks.{then-first, then-second, then-lawful}
 use Rattle.rules.specs.Refusal.{runCheck, verdictAnswer, setAnswer, searchAnswer, runAnswer}
@@ -48,13 +48,11 @@ search-refused p f at h = rw h
 pub set-plan : (p : Plan) (m : ℕ) → setCheck p m ≡ Lawful → planCheck p ≡ Lawful
 unfolding setCheck planCheck
 set-plan p m h =
-    let strings = then (stringsCheck 1 (stringsOf p)) (multipleCheck p) in
+    let head = headCheck 0 (p .n) (p .a .0) (p .run .0) in
+    let strings = then (stringsCheck 1 (stringsOf p)) (multipleCheck 0 p) in
     let few = refuseIf (leb (2 ^ p .n) m) OutOfBounds 0 in
-    let count = then-first (countCheck p) (then (numbersCheck p) (then few strings)) h in
-    let rest = then-second (countCheck p) (then (numbersCheck p) (then few strings)) h in
-    let numbers = then-first (numbersCheck p) (then few strings) rest in
-    let last = then-second few strings (then-second (numbersCheck p) (then few strings) rest) in
-    then-lawful (countCheck p) (then (numbersCheck p) strings) count ∙ then-lawful (numbersCheck p) strings numbers ∙ last
+    let rest = then-second head (then few strings) h in
+    then-lawful head strings (then-first head (then few strings) h) ∙ then-second few strings rest
 
 pub run-lawful : (p : Plan) (rs : Releases) → runCheck p rs ≡ Lawful → runAnswer p rs ≡ runOf p (releasesOf rs)
 unfolding runAnswer

@@ -1,24 +1,31 @@
 -- Laws of E, of what a string asks, and of the blocking limit. Everything above cites these and not the definitions.
-use Prim.Native.Nat.{ℕ, _+_, _-_, _*_, _≤_}
+use Prim.Native.Nat.{ℕ, suc, _+_, _-_, _*_, _≤_, _<_, min}
 use mathlib.Core.Path.{_≡_, sym, ap, _∙_}
 use mathlib.Core.Bool.{_&&_}
 use native.Mathlib.Omega.{arith}
 use native.Mathlib.Decide.{ℕ-discrete}
-use native.Mathlib.Nat.{mul-one, mul-zero}
-use borrow.Author.Tests.{le-ltb, eq-eqb, ne-eqb}
+use native.Mathlib.Nat.{mul-one, mul-zero, mul-le-mul}
+use borrow.Author.Tests.{lt-ltb, le-ltb, le-leb, eq-eqb, ne-eqb}
 use lib.Dec.{leb, ltb}
 use Rattle.rules.specs.declared.BatteryString.{BatteryString}
 use Rattle.rules.specs.declared.Plan.{Plan}
 use Rattle.lists.specs.Count.{largest}
 use Rattle.rules.specs.Plan.{stringsOf, dMin, dMax}
 use Rattle.rules.specs.Demand.{movingCost, holdOf, jobs, blockerHold, blockLimit, need}
-use Rattle.lists.proofs.Lists.{All, all-map, largest-le, by-bool}
+use Rattle.lists.proofs.Lists.{by-bool}
+use Rattle.laws.proofs.Lawful.{PlanString}
 
 -- ---- E, the longest that a job holds the bank
 
 pub holdOf-work : (p : Plan) (s : BatteryString) → s .c .0 ≤ holdOf p s
 unfolding holdOf
 holdOf-work p s = omega arith
+
+pub holdOf-le : (p : Plan) (s : BatteryString) → PlanString p s → holdOf p s ≤ 2000
+unfolding holdOf
+holdOf-le p s ok =
+    let string = ok .lawful in
+    omega (arith, mul-le-mul (ok .costMax) (string .xMax), string .cMax, string .dMax, string .tMax)
 
 -- a string that may take the bank
 pub holdOf-taker : (p : Plan) (s : BatteryString) → s .x ≡ 1 → holdOf p s ≡ s .c .0 + movingCost p s
@@ -64,13 +71,19 @@ pub blockLimit-interval : (p : Plan) (l : ℕ) → blockLimit p l ≤ l
 unfolding blockLimit
 blockLimit-interval p l = by-bool (leb (dMin p) l && ltb l (dMax p)) (λ t. rw t (omega arith)) (λ e. rw e (omega arith))
 
--- nor above a bound on every E
-pub blockLimit-hold : (p : Plan) (l m : ℕ) → All (λ s. holdOf p s ≤ m) (stringsOf p) → blockLimit p l ≤ m
+-- and between the smallest D and the largest the longest blocker decides
+pub blockLimit-between : (p : Plan) (l : ℕ) → dMin p ≤ l → l < dMax p → blockLimit p l ≡ min l (largest (blockerHold p l) (stringsOf p))
 unfolding blockLimit
-blockLimit-hold p l m h =
-    let most : largest (blockerHold p l) (stringsOf p) ≤ m =
-    largest-le (blockerHold p l) m (stringsOf p) (all-map (λ s. holdOf p s ≤ m) (λ s. blockerHold p l s ≤ m) one (stringsOf p) h) in
-    by-bool (leb (dMin p) l && ltb l (dMax p)) (λ t. rw t (omega arith)) (λ e. rw e (omega arith))
-  where
-    one : (s : BatteryString) → holdOf p s ≤ m → blockerHold p l s ≤ m
-    one s k = unfold blockerHold in by-bool (ltb l (s .d .0)) (λ t. rw t k) (λ e. rw e (omega arith))
+blockLimit-between p l h k = rw (le-leb (dMin p) l h, lt-ltb l (dMax p) k)
+
+pub blockerHold-early : (p : Plan) (l : ℕ) (s : BatteryString) → l < s .d .0 → blockerHold p l s ≡ holdOf p s
+unfolding blockerHold
+blockerHold-early p l s h = rw (lt-ltb l (s .d .0) h)
+
+pub blockerHold-late : (p : Plan) (l : ℕ) (s : BatteryString) → s .d .0 ≤ l → blockerHold p l s ≡ 0
+unfolding blockerHold
+blockerHold-late p l s h = rw (le-ltb l (s .d .0) h)
+
+-- a job that blocks has used a day at most before the window
+pub blockerHold-hold : (p : Plan) (l : ℕ) (s : BatteryString) → l < s .d .0 → holdOf p s ≤ suc (blockerHold p l s)
+blockerHold-hold p l s h = omega (arith, blockerHold-early p l s h)

@@ -10,44 +10,67 @@ use Rattle.rules.specs.declared.BatteryString.{BatteryString}
 use Rattle.rules.specs.declared.Plan.{Plan}
 use Rattle.faults.specs.declared.Fault.the-variants.{StringCount, OutOfBounds, MultipleOver}
 use Rattle.faults.specs.declared.Checked.the-variants.{Lawful, Refused}
-use Rattle.rules.specs.Plan.{stringsOf, stringLawful, commonMultiple, multipleOf}
+use Rattle.rules.specs.Plan.{stringsOf, noString, stringLawful, commonMultiple, multipleOf}
+use Rattle.rules.specs.Demand.{movingCost}
 use Rattle.faults.specs.Checks.{inBounds, then}
 use Rattle.faults.proofs.Checks.{refused-not-lawful, then-first, then-second, refuseIf-not}
 use Rattle.faults.proofs.Checks.{inBounds-low, inBounds-high, inBounds-yes, inBounds-not}
-use Rattle.rules.specs.Refusal.{countCheck, numbersCheck, stringsCheck, multipleCheck, planCheck}
+use Rattle.rules.specs.Refusal.{countCheck, numbersCheck, headCheck, stringsCheck, multipleCheck, planCheck}
 use Rattle.lists.proofs.Lists.{All, all-map, every-all, by-bool, and-left, and-right}
 use Rattle.lists.proofs.Least.{leastFrom-low, leastFrom-passes, leastFrom-before, leastFrom-unique, leastFrom-none}
-pub use Rattle.laws.specs.Lawful.{LawfulString, LawfulPlan}
+pub use Rattle.laws.specs.Lawful.{LawfulString, LawfulPlan, PlanString}
 
 -- ---- n, A and N
 
-pub countCheck-good : (p : Plan) → 1 ≤ p .n → p .n ≤ 10 → countCheck p ≡ Lawful
-unfolding countCheck
-countCheck-good p h k = rw (inBounds-yes 1 (p .n) 10 h k)
+pub record LawfulHead (n a run : ℕ) : Type 0 where
+  pub nPos : 1 ≤ n
+  pub nMax : n ≤ 10
+  pub aMax : a ≤ 1000
+  pub runPos : 1 ≤ run
+  pub runMax : run ≤ 1000000
 
-pub countCheck-bad : (p : Plan) → (1 ≤ p .n → p .n ≤ 10 → ⊥) → countCheck p ≡ Refused StringCount 0
-unfolding countCheck
-countCheck-bad p out = rw (inBounds-not 1 (p .n) 10 out)
+-- what the check says does not depend on the place it reports at
+module _ (at n a run : ℕ) where
+  pub headCheck-lawful : headCheck at n a run ≡ Lawful → LawfulHead n a run
+  unfolding countCheck numbersCheck
+  headCheck-lawful h =
+      let A = inBounds 0 a 1000 in
+      let N = inBounds 1 run 1000000 in
+      let count = not-false _ (refuseIf-not _ _ _ (then-first (countCheck at n) (numbersCheck at a run) h)) in
+      let numbers = not-false _ (refuseIf-not _ _ _ (then-second (countCheck at n) (numbersCheck at a run) h)) in
+      record {
+        nPos = inBounds-low 1 n 10 count;
+        nMax = inBounds-high 1 n 10 count;
+        aMax = inBounds-high 0 a 1000 (and-left A N numbers);
+        runPos = inBounds-low 1 run 1000000 (and-right A N numbers);
+        runMax = inBounds-high 1 run 1000000 (and-right A N numbers);
+      }
 
-pub countCheck-high : (p : Plan) → countCheck p ≡ Lawful → p .n ≤ 10
-unfolding countCheck
-countCheck-high p h = inBounds-high 1 (p .n) 10 (not-false _ (refuseIf-not _ _ _ h))
+  pub headCheck-good : LawfulHead n a run → headCheck at n a run ≡ Lawful
+  unfolding countCheck numbersCheck
+  headCheck-good h =
+      rw (
+        inBounds-yes 1 n 10 (h .nPos) (h .nMax),
+        inBounds-yes 0 a 1000 zero-le (h .aMax),
+        inBounds-yes 1 run 1000000 (h .runPos) (h .runMax),
+      )
 
-pub numbersCheck-good : (p : Plan) → p .a .0 ≤ 1000 → 1 ≤ p .run .0 → p .run .0 ≤ 1000000 → numbersCheck p ≡ Lawful
-unfolding numbersCheck
-numbersCheck-good p a h k = rw (inBounds-yes 0 (p .a .0) 1000 zero-le a, inBounds-yes 1 (p .run .0) 1000000 h k)
+  pub headCheck-count : (1 ≤ n → n ≤ 10 → ⊥) → headCheck at n a run ≡ Refused StringCount at
+  unfolding countCheck
+  headCheck-count out = rw (inBounds-not 1 n 10 out)
 
-pub numbersCheck-bad : (p : Plan) → (p .a .0 ≤ 1000 → 1 ≤ p .run .0 → p .run .0 ≤ 1000000 → ⊥) → numbersCheck p ≡ Refused OutOfBounds 0
-unfolding numbersCheck
-numbersCheck-bad p out =
-    let A = inBounds 0 (p .a .0) 1000 in
-    let N = inBounds 1 (p .run .0) 1000000 in
-    by-bool (A && N)
-    (λ t.
-    absurd
-    (out (inBounds-high 0 (p .a .0) 1000 (and-left A N t)) (inBounds-low 1 (p .run .0) 1000000 (and-right A N t))
-    (inBounds-high 1 (p .run .0) 1000000 (and-right A N t))))
-    (λ e. rw e)
+  pub headCheck-numbers : 1 ≤ n → n ≤ 10 → (a ≤ 1000 → 1 ≤ run → run ≤ 1000000 → ⊥) → headCheck at n a run ≡ Refused OutOfBounds at
+  unfolding countCheck numbersCheck
+  headCheck-numbers low high out =
+      let A = inBounds 0 a 1000 in
+      let N = inBounds 1 run 1000000 in
+      rw (inBounds-yes 1 n 10 low high)
+      (by-bool (A && N)
+      (λ t.
+      absurd
+      (out (inBounds-high 0 a 1000 (and-left A N t)) (inBounds-low 1 run 1000000 (and-right A N t))
+      (inBounds-high 1 run 1000000 (and-right A N t))))
+      (λ e. rw e))
 
 -- ---- A string
 
@@ -97,6 +120,15 @@ stringsCheck-all k (s ∷ ss) h =
 
 -- ---- A plan
 
+pub plan-strings : (p : Plan) → LawfulPlan p → All (PlanString p) (stringsOf p)
+unfolding movingCost
+plan-strings p ok = all-map LawfulString (PlanString p) (λ s h. record { lawful = h; costMax = ok .aMax }) (stringsOf p) (ok .each)
+
+-- where no string is, nothing is paid that a string would not
+pub noString-cost : (p : Plan) → LawfulPlan p → movingCost p noString ≤ 1000
+unfolding movingCost
+noString-cost p ok = ok .aMax
+
 pub commonMultiple-whole : (ss : List BatteryString) (h : ℕ) → commonMultiple ss h ≡ true → All (λ s. h % s .t .0 ≡ 0) ss
 unfolding commonMultiple
 commonMultiple-whole ss h e =
@@ -116,7 +148,8 @@ unfolding multipleOf
 multipleOf-least p k h m = leastFrom-before (commonMultiple (stringsOf p)) 1 100000 k h m
 
 -- a common multiple within the bound before which there is none is H; where there is none, 100,001 stands
-pub multipleOf-found : (p : Plan) (h : ℕ) → 1 ≤ h → h ≤ 100000 → commonMultiple (stringsOf p) h ≡ true → ((k : ℕ) → 1 ≤ k → k < h → commonMultiple (stringsOf p) k ≡ false) → multipleOf p ≡ h
+pub multipleOf-found : (p : Plan) (h : ℕ) → 1 ≤ h → h ≤ 100000 → commonMultiple (stringsOf p) h ≡ true
+    → ((k : ℕ) → 1 ≤ k → k < h → commonMultiple (stringsOf p) k ≡ false) → multipleOf p ≡ h
 unfolding multipleOf
 multipleOf-found p h low high t before = leastFrom-unique (commonMultiple (stringsOf p)) 1 100000 h low (omega arith) t before
 
@@ -124,32 +157,35 @@ pub multipleOf-over : (p : Plan) → ((k : ℕ) → 1 ≤ k → k < 100001 → c
 unfolding multipleOf
 multipleOf-over p before = leastFrom-none (commonMultiple (stringsOf p)) 1 100000 before
 
-pub multipleCheck-good : (p : Plan) → multipleOf p ≤ 100000 → multipleCheck p ≡ Lawful
-unfolding multipleCheck
-multipleCheck-good p h = rw (le-ltb 100000 (multipleOf p) h)
+module _ (at : ℕ) (p : Plan) where
+  pub multipleCheck-good : multipleOf p ≤ 100000 → multipleCheck at p ≡ Lawful
+  unfolding multipleCheck
+  multipleCheck-good h = rw (le-ltb 100000 (multipleOf p) h)
 
-pub multipleCheck-bad : (p : Plan) → 100000 < multipleOf p → multipleCheck p ≡ Refused MultipleOver 0
-unfolding multipleCheck
-multipleCheck-bad p h = rw (lt-ltb 100000 (multipleOf p) h)
+  pub multipleCheck-bad : 100000 < multipleOf p → multipleCheck at p ≡ Refused MultipleOver at
+  unfolding multipleCheck
+  multipleCheck-bad h = rw (lt-ltb 100000 (multipleOf p) h)
+
+  pub multipleCheck-small : multipleCheck at p ≡ Lawful → multipleOf p ≤ 100000
+  unfolding multipleCheck
+  multipleCheck-small h = ltb-false 100000 (multipleOf p) (refuseIf-not _ _ _ h)
 
 pub planCheck-lawful : (p : Plan) → planCheck p ≡ Lawful → LawfulPlan p
-unfolding planCheck countCheck numbersCheck multipleCheck
+unfolding planCheck
 planCheck-lawful p h =
-    let strings = then (stringsCheck 1 (stringsOf p)) (multipleCheck p) in
-    let count = not-false _ (refuseIf-not _ _ _ (then-first (countCheck p) (then (numbersCheck p) strings) h)) in
-    let after = then-second (countCheck p) (then (numbersCheck p) strings) h in
-    let numbers = not-false _ (refuseIf-not _ _ _ (then-first (numbersCheck p) strings after)) in
-    let a = and-left (inBounds 0 (p .a .0) 1000) (inBounds 1 (p .run .0) 1000000) numbers in
-    let run = and-right (inBounds 0 (p .a .0) 1000) (inBounds 1 (p .run .0) 1000000) numbers in
-    let body = then-second (numbersCheck p) strings after in
-    let high : multipleOf p ≤ 100000 = ltb-false 100000 (multipleOf p) (refuseIf-not _ _ _ (then-second (stringsCheck 1 (stringsOf p)) (multipleCheck p) body)) in
+    let heading = headCheck 0 (p .n) (p .a .0) (p .run .0) in
+    let strings = stringsCheck 1 (stringsOf p) in
+    let multiple = multipleCheck 0 p in
+    let head = headCheck-lawful 0 (p .n) (p .a .0) (p .run .0) (then-first heading (then strings multiple) h) in
+    let body = then-second heading (then strings multiple) h in
+    let high = multipleCheck-small 0 p (then-second strings multiple body) in
     record {
-      nPos = inBounds-low 1 (p .n) 10 count;
-      nMax = inBounds-high 1 (p .n) 10 count;
-      aMax = inBounds-high 0 (p .a .0) 1000 a;
-      runPos = inBounds-low 1 (p .run .0) 1000000 run;
-      runMax = inBounds-high 1 (p .run .0) 1000000 run;
-      each = stringsCheck-all 1 (stringsOf p) (then-first (stringsCheck 1 (stringsOf p)) (multipleCheck p) body);
+      nPos = head .nPos;
+      nMax = head .nMax;
+      aMax = head .aMax;
+      runPos = head .runPos;
+      runMax = head .runMax;
+      each = stringsCheck-all 1 (stringsOf p) (then-first strings multiple body);
       hPos = multipleOf-pos p;
       hMax = high;
       hWhole = commonMultiple-whole (stringsOf p) (multipleOf p) (multipleOf-common p high);

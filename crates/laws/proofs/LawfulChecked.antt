@@ -8,9 +8,9 @@ use Rattle.faults.proofs.Checks.{then-lawful}
 use Rattle.rules.specs.declared.BatteryString.{BatteryString}
 use Rattle.rules.specs.declared.Plan.{Plan}
 use Rattle.rules.specs.Plan.{stringsOf}
-use Rattle.rules.specs.Refusal.{countCheck, numbersCheck, stringsCheck, planCheck}
+use Rattle.rules.specs.Refusal.{headCheck, stringsCheck, planCheck}
 use Rattle.laws.specs.Lawful.{LawfulString, LawfulPlan}
-use Rattle.laws.proofs.Lawful.{countCheck-good, numbersCheck-good, stringLawful-yes, multipleCheck-good}
+use Rattle.laws.proofs.Lawful.{LawfulHead, headCheck-good, stringLawful-yes, multipleCheck-good}
 
 stringsCheck-good : (k : ℕ) (ss : List BatteryString) → All LawfulString ss → stringsCheck k ss ≡ Lawful
 unfolding stringsCheck
@@ -20,7 +20,8 @@ stringsCheck-good k (s ∷ ss) h = rw (stringLawful-yes s (h .0), stringsCheck-g
 pub lawful-checked : (p : Plan) → LawfulPlan p → planCheck p ≡ Lawful
 unfolding planCheck
 lawful-checked p ok =
-    then-lawful (countCheck p) _ (countCheck-good p (ok .nPos) (ok .nMax))
-    ∙ then-lawful (numbersCheck p) _ (numbersCheck-good p (ok .aMax) (ok .runPos) (ok .runMax))
+    let head : LawfulHead (p .n) (p .a .0) (p .run .0) =
+    record { nPos = ok .nPos; nMax = ok .nMax; aMax = ok .aMax; runPos = ok .runPos; runMax = ok .runMax } in
+    then-lawful (headCheck 0 (p .n) (p .a .0) (p .run .0)) _ (headCheck-good 0 (p .n) (p .a .0) (p .run .0) head)
     ∙ then-lawful (stringsCheck 1 (stringsOf p)) _ (stringsCheck-good 1 (stringsOf p) (ok .each))
-    ∙ multipleCheck-good p (ok .hMax)
+    ∙ multipleCheck-good 0 p (ok .hMax)

@@ -18,6 +18,7 @@ use Rattle.rules.specs.Plan.{stringsOf, stringAt, noString}
 use Rattle.faults.specs.Checks.{inBounds}
 use Rattle.faults.proofs.Checks.{inBounds-low, inBounds-high}
 use Rattle.rules.specs.Release.{noRelease, tooClose, outOfOrder, releaseLawful, unlawfulFrom, firstUnlawful}
+use Rattle.lists.proofs.Order.{all-both}
 use Rattle.lists.proofs.Lists.{All, all-map, by-bool, and-left, and-right}
 
 abbrev pub str : Plan → ℕ → BatteryString
@@ -79,10 +80,6 @@ apart-all p t r (q ∷ seen) c h =
     ))
     (λ e. ((λ s. absurd (eqb-false _ _ e s)), apart-all p t r seen (c .1) (rw e at h)))
 
-both-all : (P Q : Release → Type 0) (xs : List Release) → All P xs → All Q xs → All (λ x. P x × Q x) xs
-both-all P Q [] a b = tt
-both-all P Q (x ∷ xs) a b = ((a .0, b .0), both-all P Q xs (a .1) (b .1))
-
 pub releaseLawful-is : (p : Plan) (seen : List Release) (r : Release) → Chain p seen → releaseLawful p seen r ≡ true
     → LawfulRelease p r × All (Keeps p r) seen
 unfolding releaseLawful
@@ -99,7 +96,8 @@ releaseLawful-is p seen r c h =
     let pn = and-left (P && N) D pnd in
     let place : 1 ≤ r .place = inBounds-low 1 (r .place) (p .n) (and-left P N pn) in
     let needLow : 1 ≤ r .need .0 = inBounds-low 1 (r .need .0) (stringAt p (r .place) .c .0) (and-right P N pn) in
-    let needHigh : r .need .0 ≤ stringAt p (r .place) .c .0 = inBounds-high 1 (r .need .0) (stringAt p (r .place) .c .0) (and-right P N pn) in (
+    let needHigh : r .need .0 ≤ stringAt p (r .place) .c .0 =
+    inBounds-high 1 (r .need .0) (stringAt p (r .place) .c .0) (and-right P N pn) in (
       record {
         placePos = place;
         placeMax = inBounds-high 1 (r .place) (p .n) (and-left P N pn);
@@ -108,9 +106,8 @@ releaseLawful-is p seen r c h =
         early = ltb-true _ _ (and-right (P && N) D pnd);
         within = string-there p (r .place) place (omega arith);
       },
-      both-all (λ q. q .day .0 ≤ r .day .0) (λ q. q .place ≡ r .place → q .day .0 + stringAt p (r .place) .t .0 ≤ r .day .0) seen
-          (ordered-all p r seen c order)
-          (apart-all p (stringAt p (r .place) .t .0) r seen c apart),
+      all-both (λ q. q .day .0 ≤ r .day .0) (λ q. q .place ≡ r .place → q .day .0 + stringAt p (r .place) .t .0 ≤ r .day .0) (Keeps p r)
+          (λ q before far. (before, far)) seen (ordered-all p r seen c order) (apart-all p (stringAt p (r .place) .t .0) r seen c apart),
     )
 
 -- ---- A list of releases, listed after those seen
@@ -192,7 +189,8 @@ module _ (p : Plan) (rs : List Release) (lawful : firstUnlawful p rs ≡ 0) wher
         | no after ↦
             elim (ℕ-discrete (a .0) (b .0)) [
               | yes same ↦
-                  let day-same : getD rs (a .0) noRelease .day .0 ≡ getD rs (b .0) noRelease .day .0 = ap (λ m. getD rs m noRelease .day .0) same in
+                  let day-same : getD rs (a .0) noRelease .day .0 ≡ getD rs (b .0) noRelease .day .0 =
+                  ap (λ m. getD rs m noRelease .day .0) same in
                   absurd (omega (arith, a .3, b .3))
               | no other ↦
                   let back = spaced-keeps p [] rs list-spaced (b .0) (a .0) (omega arith) (a .1) .0 in

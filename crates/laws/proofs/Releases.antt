@@ -23,7 +23,8 @@ pub releasesCheck-many : (p : Plan) (rs : Releases) → 1000 < rs .count → rel
 unfolding releasesCheck
 releasesCheck-many p rs h = rw (lt-ltb 1000 (rs .count) h)
 
-pub releasesCheck-bad : (p : Plan) (rs : Releases) (k : ℕ) → rs .count ≤ 1000 → firstUnlawful p (releasesOf rs) ≡ k → 0 < k → releasesCheck p rs ≡ Refused ReleaseUnlawful k
+pub releasesCheck-bad : (p : Plan) (rs : Releases) (k : ℕ) → rs .count ≤ 1000 → firstUnlawful p (releasesOf rs) ≡ k → 0 < k
+    → releasesCheck p rs ≡ Refused ReleaseUnlawful k
 unfolding releasesCheck
 releasesCheck-bad p rs k h e low = rw (le-ltb 1000 (rs .count) h, e, lt-ltb 0 k low)
 

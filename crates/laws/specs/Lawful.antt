@@ -1,7 +1,9 @@
--- What it is for a string, a plan and a release list to be lawful, as facts about their numbers (document 01, "Bounds on a plan"). The checks find
+-- What it is for a string, a plan and a release list to be lawful, as facts about their numbers (document 01, "Bounds on a plan"). The
+-- checks find
 -- nothing exactly there.
 --     LawfulString s        T 1 to 1,000; D 1 to T; C 1 to D; X 0 or 1
 --     LawfulPlan p          the bounds on a plan; H is a common multiple of all T, the least, and at most 100,000
+--     PlanString p s        s is lawful, and its moving cost in the plan p is at most 1,000
 --     LawfulRun p rs        the plan is lawful, and so is each of at most 1,000 releases
 use Prim.Native.Nat.{ℕ, _%_, _≤_, _<_}
 use mathlib.Core.Path.{_≡_}
@@ -10,6 +12,7 @@ use Rattle.rules.specs.declared.BatteryString.{BatteryString}
 use Rattle.rules.specs.declared.Plan.{Plan}
 use Rattle.rules.specs.declared.Releases.{Releases}
 use Rattle.rules.specs.Plan.{stringsOf, commonMultiple, multipleOf}
+use Rattle.rules.specs.Demand.{movingCost}
 use Rattle.rules.specs.Release.{releasesOf, firstUnlawful}
 use Rattle.lists.specs.Count.{All}
 
@@ -33,6 +36,10 @@ pub record LawfulPlan (p : Plan) : Type 0 where
   pub hMax : multipleOf p ≤ 100000
   pub hWhole : All (λ s. multipleOf p % s .t .0 ≡ 0) (stringsOf p)
   pub hLeast : (k : ℕ) → 1 ≤ k → k < multipleOf p → commonMultiple (stringsOf p) k ≡ false
+
+pub record PlanString (p : Plan) (s : BatteryString) : Type 0 where
+  pub lawful : LawfulString s
+  pub costMax : movingCost p s ≤ 1000
 
 pub record LawfulRun (p : Plan) (rs : Releases) : Type 0 where
   pub plan : LawfulPlan p

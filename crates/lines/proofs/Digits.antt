@@ -18,7 +18,8 @@ decimalIn-same zero j n h g = absurd (not-suc-le-zero h)
 decimalIn-same (suc k) zero n h g = absurd (not-suc-le-zero g)
 decimalIn-same (suc k) (suc j) n h g =
     elim (decLe 10 n) [
-      | yes many ↦ rw (le-ltb n 10 many) (ap (λ high. high ++ ((0x30 + n % 10) ∷ [])) (decimalIn-same k j (n / 10) (omega arith) (omega arith)))
+      | yes many ↦ rw (le-ltb n 10 many)
+          (ap (λ high. high ++ ((0x30 + n % 10) ∷ [])) (decimalIn-same k j (n / 10) (omega arith) (omega arith)))
       | no few ↦ rw (lt-ltb n 10 (omega arith))
     ]
 
@@ -59,7 +60,8 @@ decimal-short (suc k) n h =
   where
     longer : 10 ≤ n → length (decimal (n / 10)) ≤ suc k → length (decimal n) ≤ suc (suc k)
     longer many front =
-        let whole : length (decimal n) ≡ length (decimal (n / 10)) + 1 = ap length (decimal-last n many) ∙ length-append (decimal (n / 10)) ((0x30 + n % 10) ∷ []) in
+        let whole : length (decimal n) ≡ length (decimal (n / 10)) + 1 = ap length (decimal-last n many) ∙ length-append (decimal (n / 10))
+        ((0x30 + n % 10) ∷ []) in
         omega arith
 
 -- a u32 has at most 10 digits, a u64 at most 20
@@ -76,7 +78,8 @@ module _ (digits : List ℕ) (at : ℕ) (first : 1 ≤ at) (within : at ≤ leng
   pub stored-digit : (d : ℕ) → drop (at - 1) (set digits (at - 1) d) ≡ d ∷ drop at digits
   stored-digit d =
       let next : suc (at - 1) ≡ at = omega arith in
-      rw (set-split digits (at - 1) d (omega arith), next) (drop-at (take (at - 1) digits) (d ∷ drop at digits) (at - 1) (length-take-le (at - 1) digits (omega arith)))
+      rw (set-split digits (at - 1) d (omega arith), next)
+      (drop-at (take (at - 1) digits) (d ∷ drop at digits) (at - 1) (length-take-le (at - 1) digits (omega arith)))
 
   pub digits-more : (n rest : ℕ) → 10 ≤ rest → decimal n ≡ decimal rest ++ drop at digits
       → decimal n ≡ decimal (rest / 10) ++ drop (at - 1) (set digits (at - 1) (0x30 + rest % 10))

@@ -37,7 +37,8 @@ within page text e =
     omega (arith, len-is page text e, ap length (bytes-are page text e))
 
 -- what a page holds, once more is appended
-pub grown : (page next : Page) (text more : List ℕ) → page ≡ pageOf text → next ≡ pageOf (textOf page ++ more) → next ≡ pageOf (text ++ more)
+pub grown : (page next : Page) (text more : List ℕ) → page ≡ pageOf text → next ≡ pageOf (textOf page ++ more)
+    → next ≡ pageOf (text ++ more)
 grown page next text more e f = f ∙ ap (λ t. pageOf (t ++ more)) (ap textOf e ∙ textOf-pageOf text)
 
 -- the same behind a part of a line: a word alone, and a word and its number
@@ -64,7 +65,8 @@ pub stored : (front text bytes : List ℕ) (i : ℕ) → i < length text → len
     → bytes ≡ filled 256 0 (front ++ take i text)
     → set bytes (length front + i) (getD text i 0) ≡ filled 256 0 (front ++ take (i + 1) text)
 stored front text bytes i h room e =
-    let many : length (front ++ take i text) ≡ length front + i = length-append front (take i text) ∙ ap (λ n. length front + n) (length-take-le i text (omega arith)) in
+    let many : length (front ++ take i text) ≡ length front + i = length-append front (take i text) ∙ ap (λ n. length front + n)
+    (length-take-le i text (omega arith)) in
     let next : front ++ take (i + 1) text ≡ (front ++ take i text) ++ (getD text i 0 ∷ []) =
     rw (add-one i, take-suc text i 0 h) (sym (append-assoc front (take i text) (getD text i 0 ∷ []))) in
     rw (e, next)

@@ -7,7 +7,8 @@ use lib.ListN.{length, set, replicate, length-append}
 use lib.Seq.{set-at}
 use Rattle.lists.specs.Count.{filled}
 
-pub filled-set {ℓ} : {A : Type ℓ} (k : ℕ) (z v : A) (xs : List A) → length xs < k → set (filled k z xs) (length xs) v ≡ filled k z (xs ++ (v ∷ []))
+pub filled-set {ℓ} : {A : Type ℓ} (k : ℕ) (z v : A) (xs : List A) → length xs < k
+    → set (filled k z xs) (length xs) v ≡ filled k z (xs ++ (v ∷ []))
 filled-set k z v xs h =
     let room : k - length xs ≡ suc (k - suc (length xs)) = omega arith in
     let longer : k - length (xs ++ (v ∷ [])) ≡ k - suc (length xs) = omega (arith, length-append xs (v ∷ [])) in

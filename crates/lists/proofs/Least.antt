@@ -42,7 +42,9 @@ module _ (f : ℕ → Bool) where
   leastFrom-before k (suc n) i h m =
       by-bool (f k)
       (λ t. absurd (omega (arith, leastFrom-here k n t)))
-      (λ e. elim (ℕ-discrete k i) [ yes same ↦ rw same at e | no other ↦ leastFrom-before (suc k) n i (omega arith) (omega (arith, leastFrom-later k n e)) ])
+      (λ e.
+      elim (ℕ-discrete k i)
+      [ yes same ↦ rw same at e | no other ↦ leastFrom-before (suc k) n i (omega arith) (omega (arith, leastFrom-later k n e)) ])
 
   -- the least is the only number in the range that passes and before which none does
   pub leastFrom-unique : (k n r : ℕ) → k ≤ r → r < k + n → f r ≡ true → ((i : ℕ) → k ≤ i → i < r → f i ≡ false) → leastFrom f k n ≡ r

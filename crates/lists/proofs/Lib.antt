@@ -4,5 +4,9 @@ pub mod Least
 pub mod Order
 pub mod Sums
 pub mod Filling
+pub mod Counts
+pub mod FirstOf
+pub mod FirstN
+pub mod Parts
 pub mod Storing
 pub mod Members

@@ -2,15 +2,12 @@
 --     Some P xs             one of xs, at a place that is given, has P
 use Prim.Native.Nat.{ℕ, zero, suc, _+_, _≤_, _<_, min, max, zero-le}
 use mathlib.Core.Path.{_≡_, refl, sym, _∙_}
-use mathlib.Core.Logic.{_⊎_, inl, inr}
 use mathlib.Core.Bool.{Bool, true, false, _&&_}
 use mathlib.Core.List.{List, [], _∷_}
 use native.Mathlib.Omega.{arith}
-use native.Mathlib.Numerals.{add-one}
 use native.Mathlib.Decide.{decLe}
 use native.Mathlib.Nat.{not-suc-le-zero, le-of-suc-le-suc, le-refl}
-use lib.ListN.{length, getD, take, drop}
-use lib.Seq.{drop-cons}
+use lib.ListN.{length, getD, take, set}
 use Rattle.lists.specs.Count.{sumOf, largest, smallest, smallestWith, every}
 pub use Rattle.lists.specs.Count.{All}
 
@@ -54,6 +51,17 @@ module _ {ℓ} {A : Type ℓ} where
   all-map P Q f [] h = tt
   all-map P Q f (x ∷ xs) h = (f x (h .0), all-map P Q f xs (h .1))
 
+  pub all-set : (P : A → Type 0) (xs : List A) (i : ℕ) (x : A) → All P xs → P x → All P (set xs i x)
+  all-set P [] i x h k = tt
+  all-set P (y ∷ xs) zero x h k = (k, h .1)
+  all-set P (y ∷ xs) (suc i) x h k = (h .0, all-set P xs i x (h .1) k)
+
+  -- at any place, if what stands outside the list has it too
+  pub all-getD : (P : A → Type 0) (xs : List A) (i : ℕ) (z : A) → All P xs → P z → P (getD xs i z)
+  all-getD P [] i z h k = k
+  all-getD P (y ∷ xs) zero z h k = h .0
+  all-getD P (y ∷ xs) (suc i) z h k = all-getD P xs i z (h .1) k
+
   abbrev pub Some : (A → Type 0) → List A → A → Type 0
   Some P xs z = (i : ℕ) × (i < length xs) × P (getD xs i z)
 
@@ -63,11 +71,6 @@ module _ {ℓ} {A : Type ℓ} where
   unfolding every
   every-all f [] h = tt
   every-all f (x ∷ xs) h = by-bool (f x) (λ t. (t, every-all f xs (rw t at h))) (λ e. absurd (true-not-false (sym h ∙ rw e)))
-
-  pub all-every : (f : A → Bool) (xs : List A) → All (λ x. f x ≡ true) xs → every f xs ≡ true
-  unfolding every
-  all-every f [] h = refl
-  all-every f (x ∷ xs) h = rw (h .0) (all-every f xs (h .1))
 
   -- ---- sumOf
 
@@ -93,10 +96,6 @@ module _ {ℓ} {A : Type ℓ} where
   sumOf-add f g (x ∷ xs) =
       let rest = sumOf-add f g xs in
       omega arith
-
-  pub sumOf-drop : (f : A → ℕ) (xs : List A) (z : A) (i : ℕ) → i < length xs → sumOf f (drop i xs) ≡ f (getD xs i z) + sumOf f (drop (i + 1) xs)
-  unfolding sumOf
-  sumOf-drop f xs z i h = rw (add-one, drop-cons xs i z h)
 
   pub sumOf-take-suc : (f : A → ℕ) (xs : List A) (z : A) (i : ℕ) → i < length xs
       → sumOf f (take (suc i) xs) ≡ sumOf f (take i xs) + f (getD xs i z)
@@ -146,10 +145,6 @@ module _ {ℓ} {A : Type ℓ} where
       later : Some (λ y. m < f y) xs z → Some (λ y. m < f y) (x ∷ xs) z
       later s = (suc (s .0), omega (arith, s .1), s .2)
 
-  pub largest-drop : (f : A → ℕ) (xs : List A) (z : A) (i : ℕ) → i < length xs → largest f (drop i xs) ≡ max (f (getD xs i z)) (largest f (drop (i + 1) xs))
-  unfolding largest
-  largest-drop f xs z i h = rw (add-one, drop-cons xs i z h)
-
   -- ---- smallest
 
   pub smallestWith-le : (f : A → ℕ) (m : ℕ) (xs : List A) → smallestWith f m xs ≤ m
@@ -171,27 +166,3 @@ module _ {ℓ} {A : Type ℓ} where
   unfolding smallest
   smallest-le f [] = tt
   smallest-le f (x ∷ xs) = (smallestWith-le f (f x) xs, smallestWith-all f (f x) xs)
-
-  -- a smallest below a bound is reached somewhere
-  pub smallestWith-some : (f : A → ℕ) (m b : ℕ) (xs : List A) (z : A) → smallestWith f m xs ≤ b → (m ≤ b) ⊎ Some (λ x. f x ≤ b) xs z
-  unfolding smallestWith
-  smallestWith-some f m b [] z h = inl h
-  smallestWith-some f m b (x ∷ xs) z h =
-      elim (decLe (f x) b) [ yes here ↦ inr (zero, omega arith, here) | no away ↦ later (smallestWith-some f m b xs z (omega arith)) ]
-    where
-      later : (m ≤ b) ⊎ Some (λ y. f y ≤ b) xs z → (m ≤ b) ⊎ Some (λ y. f y ≤ b) (x ∷ xs) z
-      later (inl k) = inl k
-      later (inr s) = inr (suc (s .0), omega (arith, s .1), s .2)
-
-  pub smallest-some : (f : A → ℕ) (b : ℕ) (xs : List A) (z : A) → zero < length xs → smallest f xs ≤ b → Some (λ x. f x ≤ b) xs z
-  unfolding smallest
-  smallest-some f b [] z k h = absurd (not-suc-le-zero k)
-  smallest-some f b (x ∷ xs) z k h = place (smallestWith-some f (f x) b xs z h)
-    where
-      place : (f x ≤ b) ⊎ Some (λ y. f y ≤ b) xs z → Some (λ y. f y ≤ b) (x ∷ xs) z
-      place (inl e) = (zero, omega arith, e)
-      place (inr s) = (suc (s .0), omega (arith, s .1), s .2)
-
-  pub smallestWith-drop : (f : A → ℕ) (m : ℕ) (xs : List A) (z : A) (i : ℕ) → i < length xs → smallestWith f m (drop i xs) ≡ min (f (getD xs i z)) (smallestWith f m (drop (i + 1) xs))
-  unfolding smallestWith
-  smallestWith-drop f m xs z i h = rw (add-one, drop-cons xs i z h)

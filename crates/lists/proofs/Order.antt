@@ -2,12 +2,13 @@
 --     Rising R xs           each of xs is R-before every later one
 -- A search for the first of a rising list that passes a test finds the least that passes.
 use Prim.Native.Nat.{ℕ, zero, suc, _+_, _≤_, _<_}
-use mathlib.Core.Path.{_≡_, refl, sym, _∙_}
+use mathlib.Core.Path.{_≡_, refl, sym, ap, _∙_}
 use mathlib.Core.Bool.{Bool, true, false}
 use mathlib.Core.List.{List, [], _∷_, _++_, map, flatMap}
 use native.Mathlib.Omega.{arith}
 use native.Mathlib.Decide.{ℕ-discrete}
 use native.Mathlib.Nat.{le-refl}
+use lib.ListN.{take}
 use Rattle.lists.specs.Count.{sumOf, upFrom, keep}
 use Rattle.lists.proofs.Lists.{All, all-map, by-bool, true-not-false}
 
@@ -72,13 +73,14 @@ module _ {ℓ κ} {A : Type ℓ} {B : Type κ} where
   all-mapped P f [] h = tt
   all-mapped P f (x ∷ xs) h = (h .0, all-mapped P f xs (h .1))
 
+  pub take-map : (f : A → B) (n : ℕ) (xs : List A) → take n (map f xs) ≡ map f (take n xs)
+  take-map f zero xs = refl
+  take-map f (suc n) [] = refl
+  take-map f (suc n) (x ∷ xs) = ap (λ ys. f x ∷ ys) (take-map f n xs)
+
   pub mapped-all : (P : B → Type 0) (f : A → B) (xs : List A) → All P (map f xs) → All (λ x. P (f x)) xs
   mapped-all P f [] h = tt
   mapped-all P f (x ∷ xs) h = (h .0, mapped-all P f xs (h .1))
-
-  pub flatMap-cons : (f : A → List B) (x : A) (xs : List A) → flatMap f (x ∷ xs) ≡ f x ++ flatMap f xs
-  unfolding flatMap
-  flatMap-cons f x xs = refl
 
   pub all-flat : (P : B → Type 0) (f : A → List B) (xs : List A) → All (λ x. All P (f x)) xs → All P (flatMap f xs)
   unfolding flatMap

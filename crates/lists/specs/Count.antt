@@ -7,6 +7,7 @@
 --     Member x xs           x stands somewhere in xs
 --     keep f xs             those of xs that pass f, in their order
 --     countOf f xs          how many of xs pass f
+--     firstOf f xs          the first of xs that passes f
 --     upFrom k n            the n numbers k, k + 1, ..
 --     filled k z xs         xs, and z to fill k places
 --     putAt i ys xs         xs with ys in place of as many elements from place i on
@@ -17,6 +18,7 @@ use mathlib.Core.Path.{_≡_}
 use mathlib.Core.Logic.{_⊎_}
 use mathlib.Core.Bool.{Bool, true, false, cond}
 use mathlib.Core.List.{List, [], _∷_, _++_}
+use mathlib.Core.Option.{Option, none, some}
 use lib.ListN.{length, take, drop, replicate}
 
 module _ {ℓ} {A : Type ℓ} where
@@ -55,6 +57,12 @@ module _ {ℓ} {A : Type ℓ} where
   unfoldable pub countOf : (A → Bool) → List A → ℕ
   countOf f [] = 0
   countOf f (x ∷ xs) = cond (f x) 1 0 + countOf f xs
+
+  unfoldable pub firstOf : (A → Bool) → List A → Option A
+  firstOf f [] = none
+  firstOf f (x ∷ xs) =
+      let later = firstOf f xs in
+      cond (f x) (some x) later
 
 abbrev pub Member : {A : Type 0} → A → List A → Type 0
 Member x [] = ⊥

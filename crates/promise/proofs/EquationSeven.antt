@@ -1,4 +1,5 @@
--- With the source's equation 7 as printed, demand 3 is false: P5 passes under it at every interval, and P6, a lawful list for the same plan, misses.
+-- With the source's equation 7 as printed, demand 3 is false: P5 passes under it at every interval, and P6, a lawful list for the same
+-- plan, misses.
 -- So the theorem could not be proved with C in the blocking limit.
 use Prim.Native.Nat.{ℕ, suc, _+_, _-_, _≤_}
 use mathlib.Core.Path.{_≡_, refl, ap}
@@ -73,7 +74,8 @@ near l b low high h =
     upFrom-all (λ k. rowHolds k ≡ true) 1 149 (every-all rowHolds (upFrom 1 149) rows-hold) l low (omega (arith, p5-range)) in
     let holds : ℕ → Bool = λ k. leb (demand p5 l k) l in
     leb-true (demand p5 l b) l
-    (upFrom-all (λ k. holds k ≡ true) 0 (suc (printedLimit p5 l)) (every-all holds (upFrom 0 (suc (printedLimit p5 l))) row) b (omega arith) (omega arith))
+    (upFrom-all (λ k. holds k ≡ true) 0 (suc (printedLimit p5 l)) (every-all holds (upFrom 0 (suc (printedLimit p5 l))) row) b
+    (omega arith) (omega arith))
 
 pub passes-as-printed : PassesAsPrinted p5
 passes-as-printed = range-suffices-for p5 (planCheck-lawful p5 p5-lawful) (printedLimit p5) (printed-late p5) p5-light near

@@ -1,9 +1,12 @@
--- The user's demands, of what the code answered. UserWords: demand 2. ReadLawful, NeverMisses: demand 3. ThreeLines: what a file's answer can hold.
+-- The user's demands, of what the code answered. UserWords: demand 2. ReadLawful, NeverMisses: demand 3. OneText: reading and writing undo
+-- each other. ThreeLines: what a file's answer
+-- can hold.
 -- ShutOut, OnlyOne: what the contracts rule out. EquationSeven: what the source printed.
 pub mod UserWords
 pub mod ReadLawful
 pub mod NeverMisses
 pub mod ThreeLines
+pub mod OneText
 pub mod ShutOut
 pub mod Dates
 pub mod OnlyOne

@@ -1,4 +1,5 @@
--- Demand 3 of the code's own answers: what said pass cannot say miss, and each job has had its days. `Learnt` is what a function's contract says of its
+-- Demand 3 of the code's own answers: what said pass cannot say miss, and each job has had its days. `Learnt` is what a function's
+-- contract says of its
 -- answer. By numbers; with a permission set; with the set that the search found; and for a text.
 use Prim.Native.Nat.{ℕ, _+_, _≤_}
 use mathlib.Core.Path.{_≡_, refl, sym, ap, _∙_}
@@ -38,7 +39,7 @@ use Rattle.laws.proofs.Releases.{runCheck-lawful}
 use Rattle.horizon.proofs.Verdict.{pass-passes}
 use Rattle.sets.specs.BestSet.{BestSet}
 use Rattle.sound.specs.Served.{released, dueOf, Served}
-use Rattle.sound.proofs.Answers.{never-misses}
+use Rattle.sound.proofs.CleanAnswer.{never-misses}
 use Rattle.sound.proofs.Served.{served}
 use Rattle.verdict.proofs.verdict.Reads as verdict
 use Rattle.verdict.proofs.verdict_with.Reads as verdict-with
@@ -86,7 +87,8 @@ rule-never-misses p passes κs rs e o ran t i said = go (runCheck p rs) refl
 
 -- ---- By numbers
 
-module _ (κs : Lfts 0) (p : Plan) (e : _) (v : Verdict) (answered-is : verdict.Learnt κs (p, tt) v e) (k : ℕ) (said : verdictSays v ≡ pass k) where
+module _ (κs : Lfts 0) (p : Plan) (e : _) (v : Verdict) (answered-is : verdict.Learnt κs (p, tt) v e) (k : ℕ)
+    (said : verdictSays v ≡ pass k) where
   rule : Passes p
   rule = pass-means p k (ap verdictSays (sym answered-is) ∙ said)
 
@@ -113,7 +115,8 @@ module _ (κs : Lfts 0) (p : Plan) (e : _) (v : Verdict) (answered-is : verdict.
 
 -- ---- With a permission set, given or found
 
-pub set-never-misses : (κs : Lfts 0) (p : Plan) (m : ℕ) (e : _) (v : Verdict) → verdict-with.Learnt κs (p, (m, tt)) v e → setCheck p m ≡ checked.Lawful
+pub set-never-misses : (κs : Lfts 0) (p : Plan) (m : ℕ) (e : _) (v : Verdict) → verdict-with.Learnt κs (p, (m, tt)) v e
+    → setCheck p m ≡ checked.Lawful
     → (k : ℕ) → verdictSays v ≡ pass k → NeverMiss (withSet p m)
 set-never-misses κs p m e v answered-is ok k said =
     rule-never-misses (withSet p m) (pass-means (withSet p m) k (ap verdictSays (sym (verdict-with-is κs p m e v answered-is ok)) ∙ said))
@@ -168,8 +171,17 @@ module _ (κs : Lfts 1) (lent : _) (e : _) (r : Answer) (answered-is : answer.Le
 
   -- its third line says clean
   pub file-never-misses : (w : ℕ) × ((m : ℕ) × ((i : ℕ) × (outcomeSays o ≡ clean w m i)))
-  file-never-misses =
-      (_, (_, (_, ap outcomeSays (sym (parts .outcome-is) ∙ never-misses planOf listOf (read-lawful (lent .0 .now) (parts .lawful)) file-rule))))
+  file-never-misses = (
+    _,
+    (
+      _,
+      (
+        _,
+        ap outcomeSays (sym (parts .outcome-is) ∙ never-misses planOf listOf (read-lawful (lent .0 .now) (parts .lawful))
+            file-rule),
+      ),
+    ),
+  )
 
   -- and each of its releases has had all its work, and any moving it caused, before its deadline
   pub file-served : (i d : ℕ) → 1 ≤ i → i ≤ length (releasesOf listOf) → dueOf planOf (released (releasesOf listOf) i) ≤ d

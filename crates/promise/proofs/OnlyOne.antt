@@ -1,5 +1,7 @@
--- Every public function allows one result: two results that meet its own contract are equal, and so is what it leaves of lent memory. `Learnt` is what
--- the `ensures` clauses of a function say of its result, so a clause that is weakened or gone is refused here. The test command asks for a line to each.
+-- Every public function allows one result: two results that meet its own contract are equal, and so is what it leaves of lent memory.
+-- `Learnt` is what
+-- the `ensures` clauses of a function say of its result, so a clause that is weakened or gone is refused here. The test command asks for a
+-- line to each.
 --     κs the lifetimes of what is lent; a the arguments; e, f what holds at the return; r, s two results
 use mathlib.Core.Path.{_≡_, sym, _∙_}
 use contract.Lifetimes.{Lfts}
@@ -35,13 +37,29 @@ use Rattle.calendar.proofs.day_read.Reads as day-read
 use Rattle.calendar.proofs.date_text.Reads as date-text
 use Rattle.calendar.proofs.yearly_read.Reads as yearly-read
 use Rattle.calendar.proofs.yearly_text.Reads as yearly-text
+use mathlib.Core.List.{List}
+use Rattle.days.specs.declared.Length.{Length}
+use Rattle.rules.specs.declared.Job.{Job}
+use Rattle.rules.specs.declared.Slot.{Slot}
+use Rattle.rules.specs.declared.Use.{Use}
+use Rattle.rules.proofs.Plan.moving_cost.Reads as Plan-moving-cost
+use Rattle.slots.proofs.chosen_place.Reads as chosen-place
+use Rattle.slots.proofs.stopped_job.Reads as stopped-job
+use Rattle.slots.proofs.seated_job.Reads as seated-job
+use Rattle.slots.proofs.spent_job.Reads as spent-job
+use Rattle.slots.proofs.use_for.Reads as use-for
+use Rattle.slots.proofs.empty_slots.Reads as empty-slots
 use Rattle.bounds.proofs.string_lawful.Reads as string-lawful
 use Rattle.bounds.proofs.multiple.Reads as multiple
 use Rattle.bounds.proofs.first_unlawful.Reads as first-unlawful
+use Rattle.bounds.proofs.head_check.Reads as head-check
+use Rattle.bounds.proofs.multiple_check.Reads as multiple-check
 use Rattle.bounds.proofs.plan_check.Reads as plan-check
 use Rattle.bounds.proofs.set_check.Reads as set-check
 use Rattle.bounds.proofs.run_check.Reads as run-check
 use Rattle.reading.proofs.read.Reads as read
+use Rattle.writing.specs.declared.Saved.{Saved}
+use Rattle.writing.proofs.write.Reads as write
 use Rattle.verdict.proofs.verdict.Reads as verdict
 use Rattle.verdict.proofs.verdict_with.Reads as verdict-with
 use Rattle.verdict.proofs.search.Reads as search-takers
@@ -61,7 +79,8 @@ one-Day-since κs a e f r s h k = h ∙ sym k
 pub one-Day-before : (κs : Lfts 0) (a : _) (e f : _) (r s : Bool) → Day-before.Learnt κs a r e → Day-before.Learnt κs a s f → r ≡ s
 one-Day-before κs a e f r s h k = h ∙ sym k
 
-pub one-Length-shorter : (κs : Lfts 0) (a : _) (e f : _) (r s : Bool) → Length-shorter.Learnt κs a r e → Length-shorter.Learnt κs a s f → r ≡ s
+pub one-Length-shorter : (κs : Lfts 0) (a : _) (e f : _) (r s : Bool) → Length-shorter.Learnt κs a r e → Length-shorter.Learnt κs a s f
+    → r ≡ s
 one-Length-shorter κs a e f r s h k = h ∙ sym k
 
 -- faults
@@ -103,6 +122,30 @@ one-yearly-read κs a e f r s h k = (h .0 ∙ sym (k .0), h .1 ∙ sym (k .1))
 pub one-yearly-text : (κs : Lfts 0) (a : _) (e f : _) (r s : YearlyText) → yearly-text.Learnt κs a r e → yearly-text.Learnt κs a s f → r ≡ s
 one-yearly-text κs a e f r s h k = h ∙ sym k
 
+-- rules
+pub one-Plan-moving-cost : (κs : Lfts 0) (a : _) (e f : _) (r s : Length) → Plan-moving-cost.Learnt κs a r e
+    → Plan-moving-cost.Learnt κs a s f → r ≡ s
+one-Plan-moving-cost κs a e f r s h k = h ∙ sym k
+
+-- slots
+pub one-chosen-place : (κs : Lfts 0) (a : _) (e f : _) (r s : ℕ) → chosen-place.Learnt κs a r e → chosen-place.Learnt κs a s f → r ≡ s
+one-chosen-place κs a e f r s h k = h ∙ sym k
+
+pub one-stopped-job : (κs : Lfts 0) (a : _) (e f : _) (r s : Job) → stopped-job.Learnt κs a r e → stopped-job.Learnt κs a s f → r ≡ s
+one-stopped-job κs a e f r s h k = h ∙ sym k
+
+pub one-seated-job : (κs : Lfts 0) (a : _) (e f : _) (r s : Job) → seated-job.Learnt κs a r e → seated-job.Learnt κs a s f → r ≡ s
+one-seated-job κs a e f r s h k = h ∙ sym k
+
+pub one-spent-job : (κs : Lfts 0) (a : _) (e f : _) (r s : Job) → spent-job.Learnt κs a r e → spent-job.Learnt κs a s f → r ≡ s
+one-spent-job κs a e f r s h k = h ∙ sym k
+
+pub one-use-for : (κs : Lfts 0) (a : _) (e f : _) (r s : Use) → use-for.Learnt κs a r e → use-for.Learnt κs a s f → r ≡ s
+one-use-for κs a e f r s h k = h ∙ sym k
+
+pub one-empty-slots : (κs : Lfts 0) (a : _) (e f : _) (r s : List Slot) → empty-slots.Learnt κs a r e → empty-slots.Learnt κs a s f → r ≡ s
+one-empty-slots κs a e f r s h k = h ∙ sym k
+
 -- bounds
 pub one-string-lawful : (κs : Lfts 0) (a : _) (e f : _) (r s : Bool) → string-lawful.Learnt κs a r e → string-lawful.Learnt κs a s f → r ≡ s
 one-string-lawful κs a e f r s h k = h ∙ sym k
@@ -112,6 +155,13 @@ one-multiple κs a e f r s h k = h ∙ sym k
 
 pub one-first-unlawful : (κs : Lfts 0) (a : _) (e f : _) (r s : ℕ) → first-unlawful.Learnt κs a r e → first-unlawful.Learnt κs a s f → r ≡ s
 one-first-unlawful κs a e f r s h k = h ∙ sym k
+
+pub one-head-check : (κs : Lfts 0) (a : _) (e f : _) (r s : Checked) → head-check.Learnt κs a r e → head-check.Learnt κs a s f → r ≡ s
+one-head-check κs a e f r s h k = h ∙ sym k
+
+pub one-multiple-check : (κs : Lfts 0) (a : _) (e f : _) (r s : Checked) → multiple-check.Learnt κs a r e
+    → multiple-check.Learnt κs a s f → r ≡ s
+one-multiple-check κs a e f r s h k = h ∙ sym k
 
 pub one-plan-check : (κs : Lfts 0) (a : _) (e f : _) (r s : Checked) → plan-check.Learnt κs a r e → plan-check.Learnt κs a s f → r ≡ s
 one-plan-check κs a e f r s h k = h ∙ sym k
@@ -126,6 +176,11 @@ one-run-check κs a e f r s h k = h ∙ sym k
 pub one-read : (κs : Lfts 1) (a : _) (e f : _) (r s : Reading) → read.Learnt κs a r e → read.Learnt κs a s f
     → (r ≡ s) × (e .0 .now ≡ f .0 .now)
 one-read κs a e f r s h k = (h .0 ∙ sym (k .0), h .1 ∙ sym (k .1))
+
+-- writing: the page is lent
+pub one-write : (κs : Lfts 1) (a : _) (e f : _) (r s : Saved) → write.Learnt κs a r e → write.Learnt κs a s f
+    → (r ≡ s) × (e .1 .1 .0 .now ≡ f .1 .1 .0 .now)
+one-write κs a e f r s h k = (h .0 ∙ sym (k .0), h .1 ∙ sym (k .1))
 
 -- verdict
 pub one-verdict : (κs : Lfts 0) (a : _) (e f : _) (r s : Verdict) → verdict.Learnt κs a r e → verdict.Learnt κs a s f → r ≡ s

@@ -1,212 +1,152 @@
 -- A text that is read is lawful by numbers too: its plan and its releases pass the checks of the entries that take numbers.
--- So none of the three answers for it is a refusal.
-use Prim.Native.Nat.{ℕ, zero, suc, _+_, _-_, _≤_}
+-- So none of the three answers for it is a refusal. The checks are the same, reported at lines there and at places here.
+use Prim.Native.Nat.{ℕ, zero, suc, _+_, _≤_}
 use mathlib.Core.Path.{_≡_, refl, ap, _∙_}
-use mathlib.Core.Bool.{true, not, _&&_}
+use mathlib.Core.Bool.{true, not}
 use mathlib.Core.List.{List, [], _∷_, map}
 use native.Mathlib.Omega.{arith}
 use borrow.Author.Tests.{ltb-false, not-false}
-use lib.Dec.{ltb, eqb}
+use lib.Dec.{ltb}
 use lib.ListN.{length, take, drop, length-map}
 use lib.Seq.{take-at}
 use Rattle.rules.specs.declared.Plan.{Plan}
 use Rattle.rules.specs.declared.Release.{Release}
-use Rattle.faults.specs.declared.Fault.the-variants.{TextTooLong, FrameWrong, StringCount, OutOfBounds, MultipleOver, ReleaseTooMany, ReleaseUnlawful}
+use Rattle.faults.specs.declared.Fault.the-variants.{TextTooLong, FrameWrong, OutOfBounds, ReleaseTooMany, ReleaseUnlawful}
 use Rattle.faults.specs.declared.Checked.{Checked}
 use Rattle.faults.specs.declared.Checked.the-variants.{Lawful, Refused}
-use Rattle.rules.specs.Plan.{stringsOf, stringLawful, multipleOf}
-use Rattle.faults.specs.Checks.{inBounds, then, refuseIf}
-use Rattle.faults.proofs.Checks.{refused-not-lawful, then-first, then-second, then-lawful, refuseIf-not, inBounds-low, inBounds-high}
-use Rattle.rules.specs.Release.{releasesOf, releaseLawful, unlawfulFrom, firstUnlawful}
-use Rattle.rules.specs.Refusal.{countCheck, numbersCheck, stringsCheck, planCheck, runCheck}
-use Rattle.rules.specs.Text.{Line, linesOf, frameOf, fieldAt, nIn, aIn, runIn, stringOf, releaseOf, planIn, releasesIn, frameCheck, headerCheck, stringLineCheck, stringLinesCheck, releaseLineCheck, releaseLinesCheck, bodyCheck, linesCheck, textCheck, lawfulReading, readingOf}
-use Rattle.lists.proofs.Lists.{and-left, and-right}
-use Rattle.laws.proofs.Lawful.{countCheck-good, numbersCheck-good, multipleCheck-good}
+use Rattle.faults.specs.Checks.{then, refuseIf}
+use Rattle.faults.proofs.Checks.{refused-not-lawful, then-first, then-second, then-lawful, refuseIf-not, refuseIf-anywhere}
+use Rattle.rules.specs.Plan.{stringsOf, stringLawful}
+use Rattle.rules.specs.Release.{releaseLawful, unlawfulFrom, firstUnlawful}
+use Rattle.rules.specs.Refusal.{headCheck, stringCheck, stringsCheck, multipleCheck, manyCheck, planCheck, runCheck}
+use Rattle.rules.specs.Layout.{Frames, version01}
+use Rattle.rules.specs.Text.{Line, linesOf, nIn, aIn, runIn, stringOf, releaseOf, planIn, releasesIn, versionCheck, headerCheck, layoutCheck}
+use Rattle.rules.specs.Text.{stringLineCheck, stringLinesCheck, releaseLineCheck, releaseLinesCheck, bodyCheck, linesCheck, textCheck}
+use Rattle.rules.specs.Text.{lawfulReading, readingOf}
+use Rattle.laws.proofs.Lawful.{headCheck-lawful, headCheck-good, multipleCheck-small, multipleCheck-good}
 use Rattle.laws.proofs.Releases.{releasesCheck-good}
 
--- ---- The string lines
+module _ (v : Frames) where
+  -- ---- The string lines
 
-string-good : (k : ℕ) (line : Line) → stringLineCheck k line ≡ Lawful → stringLawful (stringOf line) ≡ true
-unfolding stringLineCheck
-string-good k line h =
-    let bad = not (stringLawful (stringOf line)) in
-    not-false (stringLawful (stringOf line)) (refuseIf-not bad OutOfBounds k (then-second (frameCheck k 2 8 line) (refuseIf bad OutOfBounds k) h))
+  strings-many : (k m : ℕ) (lines : List Line) → stringLinesCheck v k m lines ≡ Lawful → length (take m lines) ≡ m
+  unfolding stringLinesCheck
+  strings-many k zero lines h = refl
+  strings-many k (suc m) [] h = absurd (refused-not-lawful FrameWrong k h)
+  strings-many k (suc m) (line ∷ lines) h = ap suc (strings-many (suc k) m lines (then-second (stringLineCheck v k line) _ h))
 
-strings-many : (k m : ℕ) (lines : List Line) → stringLinesCheck k m lines ≡ Lawful → length (take m lines) ≡ m
-unfolding stringLinesCheck
-strings-many k zero lines h = refl
-strings-many k (suc m) [] h = absurd (refused-not-lawful FrameWrong k h)
-strings-many k (suc m) (line ∷ lines) h =
-    ap suc (strings-many (suc k) m lines (then-second (stringLineCheck k line) (stringLinesCheck (suc k) m lines) h))
+  string-good : (k j : ℕ) (line : Line) → stringLineCheck v k line ≡ Lawful → stringCheck j (stringOf v line) ≡ Lawful
+  unfolding stringLineCheck
+  string-good k j line h =
+      refuseIf-anywhere (not (stringLawful (stringOf v line))) OutOfBounds k j
+      (then-second (layoutCheck k (v .string) line) (stringCheck k (stringOf v line)) h)
 
-strings-good : (k j m : ℕ) (lines : List Line) → stringLinesCheck k m lines ≡ Lawful → stringsCheck j (map stringOf (take m lines)) ≡ Lawful
-unfolding stringLinesCheck stringsCheck
-strings-good k j zero lines h = refl
-strings-good k j (suc m) [] h = refl
-strings-good k j (suc m) (line ∷ lines) h =
-    let later = stringLinesCheck (suc k) m lines in
-    rw (string-good k line (then-first (stringLineCheck k line) later h))
-    (strings-good (suc k) (suc j) m lines (then-second (stringLineCheck k line) later h))
+  strings-good : (k j m : ℕ) (lines : List Line) → stringLinesCheck v k m lines ≡ Lawful
+      → stringsCheck j (map (stringOf v) (take m lines)) ≡ Lawful
+  unfolding stringLinesCheck stringsCheck
+  strings-good k j zero lines h = refl
+  strings-good k j (suc m) [] h = refl
+  strings-good k j (suc m) (line ∷ lines) h =
+      let later = stringLinesCheck v (suc k) m lines in
+      then-lawful (stringCheck j (stringOf v line)) _ (string-good k j line (then-first (stringLineCheck v k line) later h))
+      ∙ strings-good (suc k) (suc j) m lines (then-second (stringLineCheck v k line) later h)
 
--- ---- The release lines
+  -- ---- The release lines
 
-releases-few : (p : Plan) (k j : ℕ) (seen : List Release) (lines : List Line) → releaseLinesCheck p k (suc j) seen lines ≡ Lawful → j ≤ 1000 → j + length lines ≤ 1000
-unfolding releaseLinesCheck releaseLineCheck
-releases-few p k j seen [] h low = omega arith
-releases-few p k j seen (line ∷ lines) h low =
-    let frame = frameCheck k 3 8 line in
-    let many = refuseIf (ltb 1000 (suc j)) ReleaseTooMany k in
-    let bad = refuseIf (not (releaseLawful p seen (releaseOf line))) ReleaseUnlawful k in
-    let later = releaseLinesCheck p (suc k) (suc (suc j)) (releaseOf line ∷ seen) lines in
-    let here = then-first (then frame (then many bad)) later h in
-    let room : suc j ≤ 1000 = ltb-false 1000 (suc j) (refuseIf-not (ltb 1000 (suc j)) ReleaseTooMany k (then-first many bad (then-second frame (then many bad) here))) in
-    omega (arith, releases-few p (suc k) (suc j) (releaseOf line ∷ seen) lines (then-second (then frame (then many bad)) later h) room)
+  module _ (p : Plan) where
+    release-good : (k j : ℕ) (seen : List Release) (line : Line) → releaseLineCheck v p k j seen line ≡ Lawful
+        → (j ≤ 1000) × (releaseLawful p seen (releaseOf v line) ≡ true)
+    unfolding releaseLineCheck
+    release-good k j seen line h =
+        let lawful = releaseLawful p seen (releaseOf v line) in
+        let bad = refuseIf (not lawful) ReleaseUnlawful k in
+        let rest = then-second (layoutCheck k (v .release) line) (then (manyCheck k j) bad) h in (
+          ltb-false 1000 j (refuseIf-not (ltb 1000 j) ReleaseTooMany k (then-first (manyCheck k j) bad rest)),
+          not-false lawful (refuseIf-not (not lawful) ReleaseUnlawful k (then-second (manyCheck k j) bad rest)),
+        )
 
-releases-good : (p : Plan) (k j i : ℕ) (seen : List Release) (lines : List Line) → releaseLinesCheck p k j seen lines ≡ Lawful → unlawfulFrom p seen i (map releaseOf lines) ≡ 0
-unfolding releaseLinesCheck releaseLineCheck unlawfulFrom
-releases-good p k j i seen [] h = refl
-releases-good p k j i seen (line ∷ lines) h =
-    let frame = frameCheck k 3 8 line in
-    let many = refuseIf (ltb 1000 j) ReleaseTooMany k in
-    let wrong = not (releaseLawful p seen (releaseOf line)) in
-    let bad = refuseIf wrong ReleaseUnlawful k in
-    let later = releaseLinesCheck p (suc k) (suc j) (releaseOf line ∷ seen) lines in
-    let here = then-first (then frame (then many bad)) later h in
-    let good = not-false (releaseLawful p seen (releaseOf line)) (refuseIf-not wrong ReleaseUnlawful k (then-second many bad (then-second frame (then many bad) here))) in
-    rw good (releases-good p (suc k) (suc j) (suc i) (releaseOf line ∷ seen) lines (then-second (then frame (then many bad)) later h))
+    releases-good : (k j i : ℕ) (seen : List Release) (lines : List Line) → releaseLinesCheck v p k (suc j) seen lines ≡ Lawful → j ≤ 1000
+        → (j + length lines ≤ 1000) × (unlawfulFrom p seen i (map (releaseOf v) lines) ≡ 0)
+    unfolding releaseLinesCheck unlawfulFrom
+    releases-good k j i seen [] h low = (omega arith, refl)
+    releases-good k j i seen (line ∷ lines) h low =
+        let later = releaseLinesCheck v p (suc k) (suc (suc j)) (releaseOf v line ∷ seen) lines in
+        let first = releaseLineCheck v p k (suc j) seen line in
+        let here = release-good k (suc j) seen line (then-first first later h) in
+        let rest = releases-good (suc k) (suc j) (suc i) (releaseOf v line ∷ seen) lines (then-second first later h) (here .0) in
+        (omega (arith, rest .0), rw (here .1) (rest .1))
 
--- ---- The header
+  -- ---- The whole
 
-record Header (line : Line) : Type 0 where
-  nLow : 1 ≤ nIn line
-  nHigh : nIn line ≤ 10
-  aHigh : aIn line ≤ 1000
-  runLow : 1 ≤ runIn line
-  runHigh : runIn line ≤ 1000000
+  module _ (header : Line) (lines : List Line) (h : linesCheck v (header ∷ lines) ≡ Lawful) where
+    abbrev pub plan : Plan
+    plan = planIn v (header ∷ lines)
 
-header-good : (line : Line) → headerCheck line ≡ Lawful → Header line
-unfolding headerCheck
-header-good line h =
-    let frame = frameCheck 1 1 9 line in
-    let version = refuseIf (not (eqb (fieldAt (frameOf line) 1 1) 1)) FrameWrong 1 in
-    let N = inBounds 1 (nIn line) 10 in
-    let A = inBounds 0 (aIn line) 1000 in
-    let R = inBounds 1 (runIn line) 1000000 in
-    let count = refuseIf (not N) StringCount 1 in
-    let numbers = refuseIf (not (A && R)) OutOfBounds 1 in
-    let after = then-second version (then count numbers) (then-second frame (then version (then count numbers)) h) in
-    let n = not-false N (refuseIf-not (not N) StringCount 1 (then-first count numbers after)) in
-    let both = not-false (A && R) (refuseIf-not (not (A && R)) OutOfBounds 1 (then-second count numbers after)) in
-    record {
-      nLow = inBounds-low 1 (nIn line) 10 n;
-      nHigh = inBounds-high 1 (nIn line) 10 n;
-      aHigh = inBounds-high 0 (aIn line) 1000 (and-left A R both);
-      runLow = inBounds-low 1 (runIn line) 1000000 (and-right A R both);
-      runHigh = inBounds-high 1 (runIn line) 1000000 (and-right A R both);
-    }
+    abbrev strings : Checked
+    strings = stringLinesCheck v 2 (plan .n) lines
 
--- ---- The whole text
+    abbrev multiple : Checked
+    multiple = multipleCheck (plan .n + 1) plan
 
-module _ (header : Line) (lines : List Line) (h : linesCheck (header ∷ lines) ≡ Lawful) where
-  body : bodyCheck (planIn (header ∷ lines)) lines ≡ Lawful
+    abbrev releases : Checked
+    releases = releaseLinesCheck v plan (plan .n + 2) 1 [] (drop (plan .n) lines)
+
+    body : then strings (then multiple releases) ≡ Lawful
+    unfolding linesCheck bodyCheck
+    body = then-second (headerCheck v header) (bodyCheck v plan lines) h
+
+    rest : then multiple releases ≡ Lawful
+    rest = then-second strings (then multiple releases) body
+
+    head : headCheck 0 (plan .n) (plan .a .0) (plan .run .0) ≡ Lawful
+    unfolding linesCheck headerCheck planIn
+    head =
+        let numbers = headCheck 1 (nIn v header) (aIn v header) (runIn v header) in
+        let frame = layoutCheck 1 (v .header) header in
+        let version = versionCheck v header in
+        let lawful = then-first (then frame (then version numbers)) (bodyCheck v plan lines) h in
+        headCheck-good 0 _ _ _
+        (headCheck-lawful 1 _ _ _ (then-second version numbers (then-second frame (then version numbers) lawful)))
+
+    strings-are : stringsOf plan ≡ map (stringOf v) (take (plan .n) lines)
+    unfolding planIn
+    strings-are =
+        let n = nIn v header in
+        take-at (map (stringOf v) (take n lines)) _ n
+        (length-map (take n lines) (stringOf v) ∙ strings-many 2 n lines (then-first strings (then multiple releases) body))
+
+    plan-lawful : planCheck plan ≡ Lawful
+    unfolding planCheck
+    plan-lawful =
+        then-lawful _ _ head
+        ∙ then-lawful _ _
+        (ap (stringsCheck 1) strings-are ∙ strings-good 2 1 (plan .n) lines (then-first strings (then multiple releases) body))
+        ∙ multipleCheck-good 0 plan (multipleCheck-small (plan .n + 1) plan (then-first multiple releases rest))
+
+    pub lines-lawful : runCheck plan (releasesIn v (header ∷ lines)) ≡ Lawful
+    unfolding runCheck releasesIn firstUnlawful planIn
+    lines-lawful =
+        let after = drop (nIn v header) lines in
+        let said = map (releaseOf v) after in
+        let good = releases-good plan (plan .n + 2) 0 1 [] after (then-second multiple releases rest) (omega arith) in
+        then-lawful _ _ plan-lawful
+        ∙ releasesCheck-good plan (releasesIn v (header ∷ lines)) (omega (arith, good .0, length-map after (releaseOf v)))
+        (ap (unlawfulFrom plan [] 1) (take-at said _ (length said) refl) ∙ good .1)
+
+  lines-read : (lines : List Line) → linesCheck v lines ≡ Lawful → runCheck (planIn v lines) (releasesIn v lines) ≡ Lawful
   unfolding linesCheck
-  body = then-second (headerCheck header) (bodyCheck (planIn (header ∷ lines)) lines) h
+  lines-read [] h = absurd (refused-not-lawful FrameWrong 1 h)
+  lines-read (header ∷ lines) h = lines-lawful header lines h
 
-  said : Header header
-  unfolding linesCheck
-  said = header-good header (then-first (headerCheck header) (bodyCheck (planIn (header ∷ lines)) lines) h)
-
-  releases : Checked
-  releases = releaseLinesCheck (planIn (header ∷ lines)) (planIn (header ∷ lines) .n + 2) 1 [] (drop (planIn (header ∷ lines) .n) lines)
-
-  multiple : Checked
-  multiple = refuseIf (ltb 100000 (multipleOf (planIn (header ∷ lines)))) MultipleOver (planIn (header ∷ lines) .n + 1)
-
-  strings-lawful : stringLinesCheck 2 (nIn header) lines ≡ Lawful
-  unfolding bodyCheck planIn releases multiple
-  strings-lawful = then-first (stringLinesCheck 2 (nIn header) lines) (then multiple releases) body
-
-  after-strings : then multiple releases ≡ Lawful
-  unfolding bodyCheck planIn releases multiple
-  after-strings = then-second (stringLinesCheck 2 (nIn header) lines) (then multiple releases) body
-
-  strings-are : stringsOf (planIn (header ∷ lines)) ≡ map stringOf (take (nIn header) lines)
-  unfolding planIn
-  strings-are =
-      take-at (map stringOf (take (nIn header) lines)) _ (nIn header)
-      (length-map (take (nIn header) lines) stringOf ∙ strings-many 2 (nIn header) lines strings-lawful)
-
-  count-lawful : countCheck (planIn (header ∷ lines)) ≡ Lawful
-  unfolding planIn
-  count-lawful = countCheck-good (planIn (header ∷ lines)) (said .nLow) (said .nHigh)
-
-  numbers-lawful : numbersCheck (planIn (header ∷ lines)) ≡ Lawful
-  unfolding planIn
-  numbers-lawful = numbersCheck-good (planIn (header ∷ lines)) (said .aHigh) (said .runLow) (said .runHigh)
-
-  small : multipleOf (planIn (header ∷ lines)) ≤ 100000
-  unfolding multiple
-  small =
-      let p = planIn (header ∷ lines) in
-      ltb-false 100000 (multipleOf p) (refuseIf-not (ltb 100000 (multipleOf p)) MultipleOver (p .n + 1) (then-first multiple releases after-strings))
-
-  plan-lawful : planCheck (planIn (header ∷ lines)) ≡ Lawful
-  unfolding planCheck
-  plan-lawful =
-      let p = planIn (header ∷ lines) in
-      then-lawful (countCheck p) _ count-lawful
-      ∙ then-lawful (numbersCheck p) _ numbers-lawful
-      ∙ then-lawful (stringsCheck 1 (stringsOf p)) _ (ap (stringsCheck 1) strings-are ∙ strings-good 2 1 (nIn header) lines strings-lawful)
-      ∙ multipleCheck-good p small
-
-  releases-lawful : releaseLinesCheck (planIn (header ∷ lines)) (planIn (header ∷ lines) .n + 2) 1 [] (drop (nIn header) lines) ≡ Lawful
-  unfolding releases planIn
-  releases-lawful = then-second multiple releases after-strings
-
-  list : List Release
-  list = map releaseOf (drop (nIn header) lines)
-
-  few : length list ≤ 1000
-  unfolding list
-  few =
-      let p = planIn (header ∷ lines) in
-      omega (arith, releases-few p (p .n + 2) 0 [] (drop (nIn header) lines) releases-lawful (omega arith), length-map (drop (nIn header) lines) releaseOf)
-
-  list-is : releasesOf (releasesIn (header ∷ lines)) ≡ list
-  unfolding releasesIn list
-  list-is = take-at (map releaseOf (drop (nIn header) lines)) _ (length (map releaseOf (drop (nIn header) lines))) refl
-
-  count-is : releasesIn (header ∷ lines) .count ≡ length list
-  unfolding releasesIn list
-  count-is = refl
-
-  pub lines-lawful : runCheck (planIn (header ∷ lines)) (releasesIn (header ∷ lines)) ≡ Lawful
-  unfolding runCheck firstUnlawful list
-  lines-lawful =
-      let p = planIn (header ∷ lines) in
-      then-lawful (planCheck p) _ plan-lawful
-      ∙ releasesCheck-good p (releasesIn (header ∷ lines)) (omega (arith, count-is, few))
-      (ap (unlawfulFrom p [] 1) list-is ∙ releases-good p (p .n + 2) 1 1 [] (drop (nIn header) lines) releases-lawful)
-
--- ---- Texts
-
-lines-read : (lines : List Line) → linesCheck lines ≡ Lawful → runCheck (planIn lines) (releasesIn lines) ≡ Lawful
-unfolding linesCheck
-lines-read [] h = absurd (refused-not-lawful FrameWrong 1 h)
-lines-read (header ∷ lines) h = lines-lawful header lines h
-
-reading-of : (c : Checked) (lines : List Line) → lawfulReading c lines .checked ≡ Lawful → c ≡ Lawful
-unfolding lawfulReading
-reading-of Lawful lines h = refl
-reading-of (Refused f at) lines h = h
+  reading-of : (c : Checked) (lines : List Line) → lawfulReading v c lines .checked ≡ Lawful → c ≡ Lawful
+  unfolding lawfulReading
+  reading-of Lawful lines h = refl
+  reading-of (Refused f at) lines h = h
 
 -- a text that is read: its plan and its releases are lawful by numbers too
 pub read-lawful : (text : List ℕ) → readingOf text .checked ≡ Lawful → runCheck (readingOf text .plan) (readingOf text .releases) ≡ Lawful
-unfolding readingOf textCheck
+unfolding readingOf textCheck lawfulReading
 read-lawful text h =
     let long = refuseIf (ltb 65536 (length text)) TextTooLong 0 in
-    let lawful : then long (linesCheck (linesOf text)) ≡ Lawful = reading-of (then long (linesCheck (linesOf text))) (linesOf text) h in
-    rw lawful (given (lines-read (linesOf text) (then-second long (linesCheck (linesOf text)) lawful)))
-  where
-    given : runCheck (planIn (linesOf text)) (releasesIn (linesOf text)) ≡ Lawful → runCheck (lawfulReading Lawful (linesOf text) .plan) (lawfulReading Lawful (linesOf text) .releases) ≡ Lawful
-    given k = unfold lawfulReading in k
+    let lawful = reading-of version01 (textCheck version01 text) (linesOf text) h in
+    rw lawful (lines-read version01 (linesOf text) (then-second long (linesCheck version01 (linesOf text)) lawful))

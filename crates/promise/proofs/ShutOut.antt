@@ -1,4 +1,5 @@
--- The wrong programs of document 01, "What the promises have to say": no program with such answers meets the contracts. A program is a function of its
+-- The wrong programs of document 01, "What the promises have to say": no program with such answers meets the contracts. A program is a
+-- function of its
 -- input; `after` is what it leaves at its return, and `meets` says that the function's own contract (`Learnt`) holds for every input.
 use Prim.Native.Nat.{ℕ, _≤_}
 use mathlib.Core.Path.{_≡_, refl, sym, ap, _∙_, subst}
@@ -38,7 +39,9 @@ use Rattle.promise.proofs.UserWords.{verdict-counts, verdict-fails}
 -- ---- Rows of the worked table
 
 -- the i-th row, as the page says it
-at : (i : ℕ) → getD (map (λ r. page.answered (r .asked)) table) i (page.Answer.written []) ≡ getD (map (λ r. r .said) table) i (page.Answer.written [])
+at : (i : ℕ)
+    → getD (map (λ r. page.answered (r .asked)) table) i (page.Answer.written []) ≡ getD (map (λ r. r .said) table) i
+    (page.Answer.written [])
 at i = ap (λ rows. getD rows i (page.Answer.written [])) worked
 
 p1-with : verdictSays (setAnswer two 1) ≡ pass 44
@@ -142,31 +145,33 @@ pass-no-fail k s h (overloads j) = never (cc)
 
 -- ---- `verdict`
 
-module _ (κs : Lfts 0) (program : Plan → Verdict) (after : Plan → _) (meets : (p : Plan) → verdict.Learnt κs (p, tt) (program p) (after p)) where
-  -- refuses every plan
-  pub verdict-refusing-all : ((p : Plan) → Refuses (verdictSays (program p))) → ⊥
-  verdict-refusing-all wrong =
-      pass-not-refused 44 (subst Refuses (ap verdictSays (meets (withSet two 1)) ∙ p1) (wrong (withSet two 1)))
+module _ (κs : Lfts 0) (program : Plan → Verdict) (after : Plan → _) (meets : (p : Plan) → verdict.Learnt κs (p, tt) (program p) (after p))
+  where
+    -- refuses every plan
+    pub verdict-refusing-all : ((p : Plan) → Refuses (verdictSays (program p))) → ⊥
+    verdict-refusing-all wrong =
+        pass-not-refused 44 (subst Refuses (ap verdictSays (meets (withSet two 1)) ∙ p1) (wrong (withSet two 1)))
 
-  -- says pass of every lawful plan, whatever it does with the others
-  pub verdict-passing-all : ((p : Plan) → planCheck p ≡ Lawful → SaysPass (verdictSays (program p))) → ⊥
-  verdict-passing-all wrong =
-      let said = wrong (withSet two 0) p3-lawful in
-      let is = sym (said .1) ∙ ap verdictSays (meets (withSet two 0)) ∙ p3 in
-      never (cc)
+    -- says pass of every lawful plan, whatever it does with the others
+    pub verdict-passing-all : ((p : Plan) → planCheck p ≡ Lawful → SaysPass (verdictSays (program p))) → ⊥
+    verdict-passing-all wrong =
+        let said = wrong (withSet two 0) p3-lawful in
+        let is = sym (said .1) ∙ ap verdictSays (meets (withSet two 0)) ∙ p3 in
+        never (cc)
 
-  -- fails every lawful plan
-  pub verdict-failing-all : ((p : Plan) → planCheck p ≡ Lawful → SaysFail (verdictSays (program p))) → ⊥
-  verdict-failing-all wrong =
-      pass-no-fail 44 (verdictSays (program (withSet two 1))) (ap verdictSays (meets (withSet two 1)) ∙ p1) (wrong (withSet two 1) p1-lawful)
+    -- fails every lawful plan
+    pub verdict-failing-all : ((p : Plan) → planCheck p ≡ Lawful → SaysFail (verdictSays (program p))) → ⊥
+    verdict-failing-all wrong =
+        pass-no-fail 44 (verdictSays (program (withSet two 1))) (ap verdictSays (meets (withSet two 1)) ∙ p1)
+        (wrong (withSet two 1) p1-lawful)
 
-  -- gives no pair count but the defined one, of any lawful plan
-  pub verdict-count-of-pass : (p : Plan) → planCheck p ≡ Lawful → (k : ℕ) → verdictSays (program p) ≡ pass k → k ≡ length (allPairs p)
-  verdict-count-of-pass p ok k said = verdict-counts κs p (after p) (program p) (meets p) ok k said
+    -- gives no pair count but the defined one, of any lawful plan
+    pub verdict-count-of-pass : (p : Plan) → planCheck p ≡ Lawful → (k : ℕ) → verdictSays (program p) ≡ pass k → k ≡ length (allPairs p)
+    verdict-count-of-pass p ok k said = verdict-counts κs p (after p) (program p) (meets p) ok k said
 
-  pub verdict-count-of-fail : (p : Plan) → planCheck p ≡ Lawful → (l b d k : ℕ) → verdictSays (program p) ≡ fail l b d k
-      → k ≡ length (compared p (allPairs p))
-  verdict-count-of-fail p ok l b d k said = verdict-fails κs p (after p) (program p) (meets p) ok l b d k .0 said .3
+    pub verdict-count-of-fail : (p : Plan) → planCheck p ≡ Lawful → (l b d k : ℕ) → verdictSays (program p) ≡ fail l b d k
+        → k ≡ length (compared p (allPairs p))
+    verdict-count-of-fail p ok l b d k said = verdict-fails κs p (after p) (program p) (meets p) ok l b d k .0 said .3
 
 -- ---- `verdict_with`
 
@@ -187,7 +192,8 @@ module _ (κs : Lfts 0) (program : Plan → ℕ → Verdict) (after : Plan → �
 
 -- ---- `search`
 
-module _ (κs : Lfts 0) (program : Plan → Assign) (after : Plan → _) (meets : (p : Plan) → search-takers.Learnt κs (p, tt) (program p) (after p)) where
+module _ (κs : Lfts 0) (program : Plan → Assign) (after : Plan → _)
+    (meets : (p : Plan) → search-takers.Learnt κs (p, tt) (program p) (after p)) where
   pub search-refusing-all : ((p : Plan) → Refuses (assignSays (program p))) → ⊥
   search-refusing-all wrong = takers-not-refused 1 (subst Refuses (ap assignSays (meets eight) ∙ p8) (wrong eight))
 

@@ -1,13 +1,13 @@
 -- What a file's three lines can hold: an answer with three lines has no refusal among them. A refusal is the one line of a refused file.
 use Prim.Native.Nat.{ℕ}
 use mathlib.Core.Path.{_≡_, refl, sym, ap, _∙_, subst}
-use mathlib.Core.Logic.{_⊎_, inl, inr}
 use mathlib.Core.Option.{Option, none, some}
 use mathlib.Core.List.{List}
 use native.Mathlib.Omega.{arith}
 use lib.Dec.{leb}
 use lib.ListN.{length}
 use contract.Lifetimes.{Lfts}
+use Rattle.lists.specs.Count.{firstOf}
 use Rattle.lists.proofs.Lists.{by-bool}
 use Rattle.faults.specs.declared.Checked.the-variants.{Lawful}
 use Rattle.faults.proofs.Checks.{then-first}
@@ -16,20 +16,18 @@ use Rattle.rules.specs.declared.Release.{Release}
 use Rattle.rules.specs.declared.Releases.{Releases}
 use Rattle.rules.specs.declared.Verdict.{Verdict}
 use Rattle.rules.specs.declared.Assign.{Assign}
-use Rattle.rules.specs.declared.Assign.the-variants as assign
 use Rattle.rules.specs.declared.Outcome.{Outcome}
 use Rattle.rules.specs.declared.Answer.{Answer}
 use Rattle.rules.specs.declared.Answer.the-variants.{Answered}
 use Rattle.rules.specs.Demand.{overloaded}
 use Rattle.rules.specs.Verdict.{Pair, allPairs, firstBroken, compared, judged, verdictOf}
-use Rattle.rules.specs.Search.{ordered, searchOf}
+use Rattle.rules.specs.Search.{setPasses, ordered, assigned, searchOf}
 use Rattle.rules.specs.Release.{releasesOf}
 use Rattle.rules.specs.Run.{missDay, runOf}
 use Rattle.rules.specs.Refusal.{planCheck, runCheck, releasesCheck}
 use Rattle.rules.specs.Text.{readingOf}
 use Rattle.rules.specs.Said.{Said, overload, verdictSays, assignSays, outcomeSays}
 use Rattle.laws.proofs.Answers.{verdict-lawful, search-lawful, run-lawful}
-use Rattle.sets.proofs.First.{firstPassing-answers}
 use Rattle.answers.proofs.answer.Reads as answer
 use Rattle.promise.specs.Wrong.{Refuses}
 use Rattle.promise.proofs.ReadLawful.{read-lawful}
@@ -58,18 +56,17 @@ verdictOf-answers p refuses =
     (λ t. overload-answers (rw t at refuses))
     (λ e. judged-answers p (firstBroken p (allPairs p)) (length (compared p (allPairs p))) (rw e at refuses))
 
+assigned-answers : (o : Option ℕ) → Refuses (assignSays (assigned o)) → ⊥
+assigned-answers none (n, (at, h)) =
+    let z : _≡_ {A = ℕ} 0 1 = cc in
+    omega arith
+assigned-answers (some m) (n, (at, h)) =
+    let z : _≡_ {A = ℕ} 0 1 = cc in
+    omega arith
+
 searchOf-answers : (p : Plan) → Refuses (assignSays (searchOf p)) → ⊥
-searchOf-answers p refuses = go (unfold searchOf in firstPassing-answers p (ordered (p .n)))
-  where
-    go : (searchOf p ≡ assign.Nobody) ⊎ ((m : ℕ) × (searchOf p ≡ assign.Takers m)) → ⊥
-    go (inl e) =
-        let said = sym (ap assignSays e) ∙ refuses .1 .1 in
-        let z : _≡_ {A = ℕ} 0 1 = cc in
-        omega arith
-    go (inr e) =
-        let said = sym (ap assignSays (e .1)) ∙ refuses .1 .1 in
-        let z : _≡_ {A = ℕ} 0 1 = cc in
-        omega arith
+unfolding searchOf
+searchOf-answers p = assigned-answers (firstOf (setPasses p) (ordered (p .n)))
 
 runOf-answers : (p : Plan) (rs : List Release) → Refuses (outcomeSays (runOf p rs)) → ⊥
 unfolding runOf
@@ -108,12 +105,14 @@ module _ (κs : Lfts 1) (lent : _) (e : _) (r : Answer) (answered : answer.Learn
   pub first-line-answers : Refuses (verdictSays v) → ⊥
   unfolding plan-read
   first-line-answers refuses =
-      verdictOf-answers plan-read (subst (λ w. Refuses (verdictSays w)) (sym (parts .verdict-is) ∙ verdict-lawful plan-read plan-lawful) refuses)
+      verdictOf-answers plan-read (subst (λ w. Refuses (verdictSays w)) (sym (parts .verdict-is) ∙ verdict-lawful plan-read plan-lawful)
+      refuses)
 
   pub second-line-answers : Refuses (assignSays a) → ⊥
   unfolding plan-read
   second-line-answers refuses =
-      searchOf-answers plan-read (subst (λ w. Refuses (assignSays w)) (sym (parts .assign-is) ∙ search-lawful plan-read plan-lawful) refuses)
+      searchOf-answers plan-read (subst (λ w. Refuses (assignSays w)) (sym (parts .assign-is) ∙ search-lawful plan-read plan-lawful)
+      refuses)
 
   pub third-line-answers : Refuses (outcomeSays o) → ⊥
   unfolding plan-read list-read

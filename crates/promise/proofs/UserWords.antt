@@ -1,5 +1,7 @@
--- Demand 2 in the user's words, of what the code answered: `Learnt` is what a function's own contract says of its answer. Of a plan within its bounds:
---     the verdict says pass, with all pairs, exactly where the demand is at most l for every whole l ≥ 1 and every blocking; there is no upper end
+-- Demand 2 in the user's words, of what the code answered: `Learnt` is what a function's own contract says of its answer. Of a plan within
+-- its bounds:
+--     the verdict says pass, with all pairs, exactly where the demand is at most l for every whole l ≥ 1 and every blocking; there is no
+-- upper end
 --     it says overload, with pair count 0, exactly where the plan is overloaded
 --     it says fail exactly with the first break, the demand there and the pairs compared
 --     the search says a set exactly if it is the best one, and none exactly if the plan passes with none of the 2^n sets; X plays no part
@@ -42,8 +44,8 @@ use Rattle.horizon.proofs.Verdict.{pass-exactly, pass-count, overload-exactly, 
 use Rattle.sets.specs.BestSet.{BestSet}
 use Rattle.sets.proofs.Search.{setPasses-exactly, Best, search-best, best-search, search-none, none-search}
 use Rattle.sets.proofs.Permissions.{set-is-plan, search-blind-to-x}
-use Rattle.sound.proofs.History.{kinds-add-up}
-use Rattle.sound.proofs.Answers.{answer-clean-days}
+use Rattle.laws.proofs.History.{kinds-add-up}
+use Rattle.sound.proofs.CleanAnswer.{answer-clean-days}
 use Rattle.verdict.proofs.verdict.Reads as verdict
 use Rattle.verdict.proofs.verdict_with.Reads as verdict-with
 use Rattle.verdict.proofs.search.Reads as search-takers
@@ -105,7 +107,8 @@ module _ (κs : Lfts 0) (p : Plan) (e : _) (v : Verdict) (answered : verdict.Lea
   verdict-fails l b d k = rw answered (answer-fails p ok l b d k)
 
 -- with a lawful set, the verdict is that of the plan with the set: all of the above holds of it
-module _ (κs : Lfts 0) (p : Plan) (m : ℕ) (e : _) (v : Verdict) (answered : verdict-with.Learnt κs (p, (m, tt)) v e) (ok : setCheck p m ≡ Lawful) where
+module _ (κs : Lfts 0) (p : Plan) (m : ℕ) (e : _) (v : Verdict) (answered : verdict-with.Learnt κs (p, (m, tt)) v e)
+    (ok : setCheck p m ≡ Lawful) where
   pub verdict-with-is : v ≡ verdictAnswer (withSet p m)
   verdict-with-is = answered ∙ set-is-plan p m ok
 
@@ -146,14 +149,17 @@ module _ (κs : Lfts 0) (p : Plan) (e : _) (a : Assign) (answered : search-taker
 
   pub search-nobody : (assignSays a ≡ none) ↔ ((k : ℕ) → k < 2 ^ p .n → Passes (withSet p k) → ⊥)
   search-nobody = (
-    λ h k below passes. true-not-false (sym (rule k .1 passes) ∙ search-none p (sym (search-lawful p ok) ∙ sym answered ∙ says-none a h) k below),
+    λ h k below passes. true-not-false
+        (sym (rule k .1 passes) ∙ search-none p (sym (search-lawful p ok) ∙ sym answered ∙ says-none a h) k below),
     λ nobody.
         ap assignSays
-        (answered ∙ search-lawful p ok ∙ none-search p (λ k below. by-bool (setPasses p k) (λ t. absurd (nobody k below (rule k .0 t))) (λ f. f))),
+        (answered ∙ search-lawful p ok ∙ none-search p
+        (λ k below. by-bool (setPasses p k) (λ t. absurd (nobody k below (rule k .0 t))) (λ f. f))),
   )
 
   -- the X of the plan plays no part: another lawful plan that differs in X alone is answered alike
-  pub search-ignores-x : (q : Plan) (f : _) (b : Assign) → search-takers.Learnt κs (q, tt) b f → planCheck q ≡ Lawful → withSet p 0 ≡ withSet q 0
+  pub search-ignores-x : (q : Plan) (f : _) (b : Assign) → search-takers.Learnt κs (q, tt) b f → planCheck q ≡ Lawful
+      → withSet p 0 ≡ withSet q 0
       → a ≡ b
   search-ignores-x q f b also okQ same = answered ∙ search-blind-to-x p q ok okQ same ∙ sym also
 

@@ -10,4 +10,5 @@ use Rattle.rules.specs.Said.{miss, outcomeSays}
 use Rattle.run.proofs.run.Reads as run
 
 abbrev pub NeverMiss : Plan → Type 0
-NeverMiss p = (κs : Lfts 0) (rs : Releases) (e : _) (o : Outcome) → run.Learnt κs (p, (rs, tt)) o e → (t i : ℕ) → outcomeSays o ≡ miss t i → ⊥
+NeverMiss p = (κs : Lfts 0) (rs : Releases) (e : _) (o : Outcome) → run.Learnt κs (p, (rs, tt)) o e → (t i : ℕ)
+    → outcomeSays o ≡ miss t i → ⊥

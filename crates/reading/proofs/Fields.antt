@@ -1,111 +1,109 @@
--- The numbers of a frame, by places of the text: two digits to a byte, high byte first.
-use Prim.Native.Nat.{ℕ, zero, suc, _+_, _*_, _/_, _<_}
+-- The fields of a frame, by positions of the text.
+--     offsetIn l f, sizeIn l f   the bytes that stand ahead of the field f in a frame of the layout l, and its own
+use Prim.Native.Nat.{ℕ, zero, suc, _+_, _*_, _^_, _≤_, _<_}
 use mathlib.Core.Path.{_≡_, refl, ap, _∙_}
-use mathlib.Core.List.{List, [], _∷_}
+use mathlib.Core.Bool.{cond}
+use mathlib.Core.List.{List, [], _∷_, _++_}
 use native.Mathlib.Omega.{arith}
 use native.Mathlib.Numerals.{add-one}
-use native.Mathlib.Nat.{not-suc-le-zero}
-use lib.ListN.{length, take, drop, getD}
-use lib.Seq.{drop-cons, getD-drop, getD-take, length-take-le}
-use Rattle.rules.specs.Text.{digitOf, pairsOf, frameOf, numberFrom, fieldAt}
-use Rattle.reading.specs.Place.{digitRun, byteIn, pairIn, quadIn}
-use Rattle.reading.proofs.Lines.{digitLine, digitRun-fits, digitRun-digit}
+use native.Mathlib.Nat.{not-suc-le-zero, pow-suc, pow-le-pow-right}
+use lib.Dec.{eqb}
+use lib.ListN.{length, take, drop, getD, length-drop}
+use lib.Seq.{drop-drop, getD-drop, take-suc}
+use Rattle.lists.proofs.Lists.{by-bool}
+use Rattle.rules.specs.Layout.{Field, Sized, Layout, fieldNumber, sizeOf, frameSize, numberFrom, numberOf, fieldAmong, fieldIn}
+use Rattle.rules.specs.Text.{pairsOf, frameOf, fieldOf}
+use Rattle.reading.specs.Positions.{digitsAhead, lineAt, Frame, byteIn, numberIn}
+use Rattle.reading.proofs.Hex.{ahead-inside, ahead-digit}
+use Rattle.reading.proofs.Framing.{twice-more, frame-number}
 
--- ---- Bytes of a frame
+-- ---- Where a field stands
 
-unfoldable pub twice : ℕ → ℕ
-twice zero = zero
-twice (suc k) = suc (suc (twice k))
+abbrev offsetAmong : List Sized → Field → ℕ
+offsetAmong [] f = 0
+offsetAmong (s ∷ rest) f = cond (eqb (fieldNumber (s .field)) (fieldNumber f)) 0 (s .size + offsetAmong rest f)
 
-pub twice-is : (k : ℕ) → twice k ≡ k + k
-unfolding twice
-twice-is zero = refl
-twice-is (suc k) =
-    let rest = twice-is k in
-    omega arith
+abbrev sizeAmong : List Sized → Field → ℕ
+sizeAmong [] f = 0
+sizeAmong (s ∷ rest) f = cond (eqb (fieldNumber (s .field)) (fieldNumber f)) (s .size) (sizeAmong rest f)
 
-pairsOf-length : (xs : List ℕ) → length (pairsOf xs) ≡ length xs / 2
+among-is : (fields : List Sized) (f : Field) (k : ℕ) (bytes : List ℕ)
+    → fieldAmong fields f (drop k bytes) ≡ numberOf (take (sizeAmong fields f) (drop (k + offsetAmong fields f) bytes))
+unfolding fieldAmong numberFrom
+among-is [] f k bytes = refl
+among-is (s ∷ rest) f k bytes =
+    by-bool (eqb (fieldNumber (s .field)) (fieldNumber f))
+    (λ t.
+    let here : k + 0 ≡ k = omega arith in
+    rw (t, here))
+    (λ e.
+    let there : k + s .size + offsetAmong rest f ≡ k + (s .size + offsetAmong rest f) = omega arith in
+    rw (e, drop-drop (s .size) k bytes) (among-is rest f (k + s .size) bytes ∙ rw there))
+
+among-fits : (fields : List Sized) (f : Field) → offsetAmong fields f + sizeAmong fields f ≤ sizeOf fields
+among-fits [] f = omega arith
+among-fits (s ∷ rest) f =
+    let later = among-fits rest f in
+    by-bool (eqb (fieldNumber (s .field)) (fieldNumber f)) (λ t. rw t (omega arith)) (λ e. rw e (omega arith))
+
+abbrev pub offsetIn : Layout → Field → ℕ
+offsetIn l f = 1 + offsetAmong (l .fields) f
+
+abbrev pub sizeIn : Layout → Field → ℕ
+sizeIn l f = sizeAmong (l .fields) f
+
+pub field-is : (text : List ℕ) (at : ℕ) (l : Layout) (f : Field) → Frame text at (frameSize l)
+    → fieldOf l f (lineAt text at) ≡ numberIn text at (offsetIn l f) (sizeIn l f)
+unfolding fieldOf fieldIn
+field-is text at l f frame =
+    among-is (l .fields) f 1 (frameOf (lineAt text at))
+    ∙ frame-number text at (frameSize l) frame (offsetIn l f) (sizeIn l f) (omega (arith, among-fits (l .fields) f))
+
+-- ---- Its number, one byte after the other
+
+numberFrom-snoc : (v : ℕ) (bytes : List ℕ) (b : ℕ) → numberFrom v (bytes ++ (b ∷ [])) ≡ numberFrom v bytes * 256 + b
+unfolding numberFrom
+numberFrom-snoc v [] b = refl
+numberFrom-snoc v (x ∷ xs) b = numberFrom-snoc (v * 256 + x) xs b
+
+pairsOf-at : (xs : List ℕ) (k : ℕ) → k * 2 + 1 < length xs → (k < length (pairsOf xs)) × (getD (pairsOf xs) k 0 ≡ byteIn xs (k * 2))
 unfolding pairsOf
-pairsOf-length [] = refl
-pairsOf-length (high ∷ []) = refl
-pairsOf-length (high ∷ low ∷ xs) =
-    let rest = pairsOf-length xs in
-    omega arith
-
-pairsOf-at : (xs : List ℕ) (k : ℕ) → suc (twice k) < length xs → getD (pairsOf xs) k 0 ≡ digitOf (getD xs (twice k) 0) * 16 + digitOf (getD xs (suc (twice k)) 0)
-unfolding pairsOf twice
 pairsOf-at [] k h = absurd (not-suc-le-zero h)
 pairsOf-at (high ∷ []) k h = absurd (omega arith)
-pairsOf-at (high ∷ low ∷ xs) zero h = refl
-pairsOf-at (high ∷ low ∷ xs) (suc k) h = pairsOf-at xs k (omega arith)
+pairsOf-at (high ∷ low ∷ xs) zero h = (omega arith, refl)
+pairsOf-at (high ∷ low ∷ xs) (suc k) h =
+    let later = pairsOf-at xs k (omega arith) in
+    let low : suc (suc (k * 2)) + 1 ≡ suc (suc (k * 2 + 1)) = omega arith in
+    rw (twice-more k, low) (omega (arith, later .0), later .1)
 
--- ---- Fields of one, two and four bytes
+module _ (text : List ℕ) (at k : ℕ) where
+  pub number-none : numberIn text at k 0 ≡ 0
+  unfolding numberIn numberFrom
+  number-none = refl
 
-fieldAt-one : (f : List ℕ) (k : ℕ) → k < length f → fieldAt f k 1 ≡ getD f k 0
-unfolding fieldAt numberFrom
-fieldAt-one f k h = rw (drop-cons f k 0 h) (omega arith)
+  module _ (i : ℕ) (h : (k + i) * 2 + 1 < digitsAhead (drop at text)) where
+    pub number-next : numberIn text at k (i + 1) ≡ numberIn text at k i * 256 + byteIn text (at + (k + i) * 2)
+    unfolding numberIn
+    number-next =
+        let bytes = pairsOf (drop at text) in
+        let inside = ahead-inside text at ((k + i) * 2 + 1) h in
+        let there = pairsOf-at (drop at text) (k + i) (omega (arith, length-drop at text)) in
+        let long : i < length (drop k bytes) = omega (arith, there .0, length-drop k bytes) in
+        let low : at + ((k + i) * 2 + 1) ≡ at + (k + i) * 2 + 1 = omega arith in
+        rw (add-one i, take-suc (drop k bytes) i 0 long, numberFrom-snoc 0 (take i (drop k bytes)) _, getD-drop k bytes i 0)
+        (ap (λ b. numberOf (take i (drop k bytes)) * 256 + b)
+        (there .1 ∙ rw (getD-drop at text ((k + i) * 2) 0, getD-drop at text ((k + i) * 2 + 1) 0, low)))
 
-fieldAt-two : (f : List ℕ) (k : ℕ) → k + 1 < length f → fieldAt f k 2 ≡ getD f k 0 * 256 + getD f (k + 1) 0
-unfolding fieldAt numberFrom
-fieldAt-two f k h =
-    let here : k < length f = omega arith in
-    let next : suc k < length f = omega arith in
-    rw (drop-cons f k 0 here, drop-cons f (suc k) 0 next, add-one k) (omega arith)
+    pub byte-small : byteIn text (at + (k + i) * 2) < 256
+    byte-small =
+        let low : at + ((k + i) * 2 + 1) ≡ at + (k + i) * 2 + 1 = omega arith in
+        let second = rw low at (ahead-digit text at ((k + i) * 2 + 1) h) in
+        omega (arith, ahead-digit text at ((k + i) * 2) (omega arith))
 
-fieldAt-four : (f : List ℕ) (k : ℕ) → k + 3 < length f → fieldAt f k 4 ≡ (getD f k 0 * 256 + getD f (k + 1) 0) * 65536 + (getD f (k + 2) 0 * 256 + getD f (k + 3) 0)
-unfolding fieldAt numberFrom
-fieldAt-four f k h =
-    let first : k < length f = omega arith in
-    let second : suc k < length f = omega arith in
-    let third : suc (suc k) < length f = omega arith in
-    let fourth : suc (suc (suc k)) < length f = omega arith in
-    let one : k + 1 ≡ suc k = omega arith in
-    let two : k + 2 ≡ suc (suc k) = omega arith in
-    let three : k + 3 ≡ suc (suc (suc k)) = omega arith in
-    rw (drop-cons f k 0 first, drop-cons f (suc k) 0 second, drop-cons f (suc (suc k)) 0 third, drop-cons f (suc (suc (suc k))) 0 fourth, one, two, three)
-    (omega arith)
+-- ---- What bytes are worth
 
--- ---- A line of digits at a place of the text
+pub worth-small : (i : ℕ) → i ≤ 3 → 256 ^ i ≤ 16777216
+worth-small i h = pow-le-pow-right (omega arith) h
 
-module _ (text : List ℕ) (at : ℕ) where
-  pub frame-length : length (frameOf (digitLine (drop at text))) ≡ digitRun (drop at text) / 2
-  unfolding frameOf digitLine
-  frame-length = pairsOf-length (take (digitRun (drop at text)) (drop at text)) ∙ ap (λ n. n / 2) (length-take-le (digitRun (drop at text)) (drop at text) (digitRun-fits (drop at text)))
-
-  digit-at : (i : ℕ) → i < digitRun (drop at text) → getD (take (digitRun (drop at text)) (drop at text)) i 0 ≡ getD text (at + i) 0
-  digit-at i h = getD-take (digitRun (drop at text)) (drop at text) i 0 h ∙ getD-drop at text i 0
-
-  pub digit-small : (i : ℕ) → i < digitRun (drop at text) → digitOf (getD text (at + i) 0) < 16
-  digit-small i h = rw (getD-drop at text i 0) at (digitRun-digit (drop at text) i h)
-
-  byte-at : (k : ℕ) → suc (twice k) < digitRun (drop at text) → getD (frameOf (digitLine (drop at text))) k 0 ≡ byteIn text (at + twice k)
-  unfolding frameOf digitLine
-  byte-at k h =
-      let run = digitRun (drop at text) in
-      let long : suc (twice k) < length (take run (drop at text)) = omega (arith, length-take-le run (drop at text) (digitRun-fits (drop at text))) in
-      let step : at + suc (twice k) ≡ at + twice k + 1 = omega arith in
-      pairsOf-at (take run (drop at text)) k long
-      ∙ rw (digit-at (twice k) (omega arith), digit-at (suc (twice k)) h, step)
-
-  pub field-one : (k : ℕ) → suc (twice k) < digitRun (drop at text) → fieldAt (frameOf (digitLine (drop at text))) k 1 ≡ byteIn text (at + twice k)
-  field-one k h =
-      fieldAt-one (frameOf (digitLine (drop at text))) k (omega (arith, frame-length, twice-is k)) ∙ byte-at k h
-
-  pub field-two : (k : ℕ) → suc (twice (suc k)) < digitRun (drop at text) → fieldAt (frameOf (digitLine (drop at text))) k 2 ≡ pairIn text (at + twice k)
-  unfolding twice
-  field-two k h =
-      let second : at + twice (suc k) ≡ at + twice k + 2 = omega arith in
-      fieldAt-two (frameOf (digitLine (drop at text))) k (omega (arith, frame-length, twice-is k))
-      ∙ rw (add-one k, byte-at k (omega arith), byte-at (suc k) h, second)
-
-  pub field-four : (k : ℕ) → suc (twice (suc (suc (suc k)))) < digitRun (drop at text) → fieldAt (frameOf (digitLine (drop at text))) k 4 ≡ quadIn text (at + twice k)
-  unfolding twice
-  field-four k h =
-      let one : k + 1 ≡ suc k = omega arith in
-      let two : k + 2 ≡ suc (suc k) = omega arith in
-      let three : k + 3 ≡ suc (suc (suc k)) = omega arith in
-      let second : at + twice (suc k) ≡ at + twice k + 2 = omega arith in
-      let third : at + twice (suc (suc k)) ≡ at + twice k + 4 = omega arith in
-      let fourth : at + twice (suc (suc (suc k))) ≡ at + twice k + 4 + 2 = omega arith in
-      fieldAt-four (frameOf (digitLine (drop at text))) k (omega (arith, frame-length, twice-is k))
-      ∙ rw (one, two, three, byte-at k (omega arith), byte-at (suc k) (omega arith), byte-at (suc (suc k)) (omega arith), byte-at (suc (suc (suc k))) h, second, third, fourth)
+pub worth-next : (i v b : ℕ) → v < 256 ^ i → b < 256 → v * 256 + b < 256 ^ (i + 1)
+worth-next i v b h k = rw (add-one i, pow-suc 256 i) (omega arith)

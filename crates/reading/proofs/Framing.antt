@@ -1,140 +1,109 @@
--- A line as a frame: what the code finds at a place of the text decides `frameCheck`, and a frame that is not refused stands where it should.
-use Prim.Native.Nat.{ℕ, zero, suc, _+_, _*_, _/_, _%_, _≤_, _<_}
-use mathlib.Core.Path.{_≡_, sym, ap, _∙_}
-use mathlib.Core.Bool.{true, false}
-use mathlib.Core.List.{List, _∷_}
+-- A line as a frame: what stands from a position on decides `frameCheck`, and a frame that is not refused stands where it should.
+use Prim.Native.Nat.{ℕ, zero, suc, _+_, _*_, _/_, _≤_}
+use mathlib.Core.Path.{_≡_, refl, sym, ap, _∙_}
+use mathlib.Core.Bool.{false, not, _&&_}
+use mathlib.Core.List.{List, [], _∷_}
 use native.Mathlib.Omega.{arith}
-use native.Mathlib.Decide.{decLe, ℕ-discrete}
-use borrow.Author.Tests.{eq-eqb, ne-eqb}
-use lib.ListN.{length, drop, getD, length-drop}
+use borrow.Author.Tests.{eq-eqb, ne-eqb, eqb-true, not-false}
+use lib.Dec.{eqb}
+use lib.ListN.{length, take, drop, length-drop}
+use lib.Seq.{length-take-le}
 use Rattle.faults.specs.declared.Fault.the-variants.{LineMalformed, FrameWrong}
 use Rattle.faults.specs.declared.Checked.the-variants.{Lawful, Refused}
-use Rattle.rules.specs.Text.{Line, linesOf, wellFormed, frameOf, fieldAt, frameCheck}
-use Rattle.faults.proofs.Checks.{refused-not-lawful}
-use Rattle.reading.specs.Place.{digitRun, lineAt, byteIn, Frame}
-use Rattle.reading.proofs.Lines.{digitLine, wellFormed-none, wellFormed-odd, wellFormed-even, lineAt-digits, lineAt-other, linesOf-next}
-use Rattle.reading.proofs.Fields.{twice, frame-length, field-one}
+use Rattle.faults.specs.Checks.{refuseIf}
+use Rattle.faults.proofs.Checks.{then-first, then-second, refuseIf-not}
+use Rattle.lists.proofs.Lists.{and-left}
+use Rattle.lists.proofs.Parts.{take-drop-take}
+use Rattle.rules.specs.Layout.{lineLength, numberOf, kindIn}
+use Rattle.rules.specs.Text.{wellFormed, pairsOf, frameOf, frameCheck}
+use Rattle.reading.specs.Positions.{digitsAhead, linesFrom, lineAt, Frame, numberIn}
+use Rattle.reading.proofs.Lines.{Formed, lines-next, formed-yes, formed-is}
+
+-- ---- Bytes of digits
+
+pairsOf-length : (xs : List ℕ) → length (pairsOf xs) ≡ length xs / 2
+unfolding pairsOf
+pairsOf-length [] = refl
+pairsOf-length (high ∷ []) = refl
+pairsOf-length (high ∷ low ∷ xs) =
+    let rest = pairsOf-length xs in
+    omega arith
+
+pub twice-more : (k : ℕ) → suc k * 2 ≡ suc (suc (k * 2))
+twice-more k = omega arith
+
+pairsOf-take : (size : ℕ) (xs : List ℕ) → pairsOf (take (size * 2) xs) ≡ take size (pairsOf xs)
+unfolding pairsOf
+pairsOf-take zero xs = refl
+pairsOf-take (suc size) [] = rw (twice-more size)
+pairsOf-take (suc size) (high ∷ []) = rw (twice-more size)
+pairsOf-take (suc size) (high ∷ low ∷ xs) = rw (twice-more size, pairsOf-take size xs)
+
+-- ---- A frame
+
+module _ (text : List ℕ) (at size : ℕ) (f : Frame text at size) where
+  pub frame-next : linesFrom text at ≡ lineAt text at ∷ linesFrom text (at + lineLength size)
+  unfolding lineAt
+  frame-next =
+      let next = lines-next text at (rw (f .digits) (f .inside)) (rw (f .digits) (f .newline)) in
+      next ∙ rw (next, f .digits)
+
+  frame-bytes : frameOf (lineAt text at) ≡ take size (pairsOf (drop at text))
+  unfolding lineAt frameOf
+  frame-bytes =
+      rw (lines-next text at (rw (f .digits) (f .inside)) (rw (f .digits) (f .newline)), f .digits) (pairsOf-take size (drop at text))
+
+  pub frame-length : length (frameOf (lineAt text at)) ≡ size
+  frame-length =
+      let inside = f .inside in
+      let long : size ≤ length (pairsOf (drop at text)) = omega (arith, pairsOf-length (drop at text), length-drop at text) in
+      ap length frame-bytes ∙ length-take-le size (pairsOf (drop at text)) long
+
+  pub frame-number : (k m : ℕ) → k + m ≤ size → numberOf (take m (drop k (frameOf (lineAt text at)))) ≡ numberIn text at k m
+  unfolding numberIn
+  frame-number k m h = ap numberOf (rw frame-bytes (take-drop-take m k size (pairsOf (drop at text)) h))
+
+pub formed-frame : (text : List ℕ) (at size : ℕ) → Formed text at → digitsAhead (drop at text) / 2 ≡ size → Frame text at size
+formed-frame text at size f e =
+    let digits : digitsAhead (drop at text) ≡ size * 2 = omega (arith, f .even) in
+    record { digits = digits; inside = rw digits at (f .inside); newline = rw digits at (f .newline) }
 
 -- ---- What decides a frame
 
-module _ (k kind size : ℕ) (line : Line) where
-  pub frameCheck-malformed : wellFormed line ≡ false → frameCheck k kind size line ≡ Refused LineMalformed k
+module _ (text : List ℕ) (at k kind size : ℕ) where
+  pub check-malformed : wellFormed (lineAt text at) ≡ false → frameCheck k kind size (lineAt text at) ≡ Refused LineMalformed k
   unfolding frameCheck
-  frameCheck-malformed e = rw e
+  check-malformed e = rw e
 
-  pub frameCheck-size : wellFormed line ≡ true → (length (frameOf line) ≡ size → ⊥) → frameCheck k kind size line ≡ Refused FrameWrong k
+  module _ (s : ℕ) (f : Formed text at) (e : digitsAhead (drop at text) / 2 ≡ s) where
+    framed : Frame text at s
+    framed = formed-frame text at s f e
+
+    pub check-size : (s ≡ size → ⊥) → frameCheck k kind size (lineAt text at) ≡ Refused FrameWrong k
+    unfolding frameCheck
+    check-size other = rw (formed-yes text at f, frame-length text at s framed, ne-eqb s size other)
+
+    kind-is : kindIn (frameOf (lineAt text at)) ≡ numberIn text at 0 1
+    kind-is = frame-number text at s framed 0 1 (omega (arith, f .some, f .even))
+
+    module _ (fits : s ≡ size) where
+      pub check-kind : (numberIn text at 0 1 ≡ kind → ⊥) → frameCheck k kind size (lineAt text at) ≡ Refused FrameWrong k
+      unfolding frameCheck
+      check-kind other = rw (formed-yes text at f, frame-length text at s framed, eq-eqb s size fits, kind-is, ne-eqb _ kind other)
+
+      pub check-good : numberIn text at 0 1 ≡ kind → frameCheck k kind size (lineAt text at) ≡ Lawful
+      unfolding frameCheck
+      check-good same = rw (formed-yes text at f, frame-length text at s framed, eq-eqb s size fits, kind-is, eq-eqb _ kind same)
+
+  pub frameCheck-frame : frameCheck k kind size (lineAt text at) ≡ Lawful → Frame text at size
   unfolding frameCheck
-  frameCheck-size t other = rw (t, ne-eqb (length (frameOf line)) size other)
-
-  pub frameCheck-kind : wellFormed line ≡ true → length (frameOf line) ≡ size → (fieldAt (frameOf line) 0 1 ≡ kind → ⊥) → frameCheck k kind size line ≡ Refused FrameWrong k
-  unfolding frameCheck
-  frameCheck-kind t e other = rw (t, eq-eqb (length (frameOf line)) size e, ne-eqb (fieldAt (frameOf line) 0 1) kind other)
-
-  pub frameCheck-good : wellFormed line ≡ true → length (frameOf line) ≡ size → fieldAt (frameOf line) 0 1 ≡ kind → frameCheck k kind size line ≡ Lawful
-  unfolding frameCheck
-  frameCheck-good t e f = rw (t, eq-eqb (length (frameOf line)) size e, eq-eqb (fieldAt (frameOf line) 0 1) kind f)
-
-  refuted : frameCheck k kind size line ≡ Lawful → wellFormed line ≡ false → ⊥
-  refuted h e = refused-not-lawful LineMalformed k (sym (frameCheck-malformed e) ∙ h)
-
--- ---- By place
-
-module _ (text : List ℕ) (at : ℕ) where
-  pub frame-line : (size : ℕ) → Frame text at size → lineAt text at ≡ digitLine (drop at text)
-  frame-line size f =
-      lineAt-digits text at (omega (arith, f .run, f .inside, length-drop at text)) (rw (f .run) (f .newline))
-
-  pub frame-next : (size : ℕ) → Frame text at size → linesOf (drop at text) ≡ lineAt text at ∷ linesOf (drop (at + (size * 2 + 1)) text)
-  frame-next size f =
-      rw (← (f .run)) (linesOf-next text at (omega (arith, f .run, f .inside, length-drop at text)) (rw (f .run) (f .newline)))
-
-  pub kind-is : 1 < digitRun (drop at text) → fieldAt (frameOf (digitLine (drop at text))) 0 1 ≡ byteIn text at
-  unfolding twice
-  kind-is h =
-      let here : at + 0 ≡ at = omega arith in
-      field-one text at 0 h ∙ ap (byteIn text) here
-
-  pub frameCheck-frame : (k kind size : ℕ) → frameCheck k kind size (lineAt text at) ≡ Lawful → Frame text at size
-  frameCheck-frame k kind size h =
-      elim (decLe (suc (digitRun (drop at text))) (length (drop at text))) [
-        | yes inside ↦
-            elim (ℕ-discrete (getD text (at + digitRun (drop at text)) 0) 0x0a) [
-              | yes newline ↦ whole inside newline
-              | no other ↦ absurd (refuted k kind size (lineAt text at) h (lineAt-other text at (λ i n. other n)))
-            ]
-        | no outside ↦ absurd (refuted k kind size (lineAt text at) h (lineAt-other text at (λ i n. outside i)))
-      ]
-    where
-      R : ℕ
-      R = digitRun (drop at text)
-
-      whole : R < length (drop at text) → getD text (at + R) 0 ≡ 0x0a → Frame text at size
-      whole inside newline = record { run = run; inside = omega (arith, run, length-drop at text); newline = rw run at newline }
-        where
-          line : lineAt text at ≡ digitLine (drop at text)
-          line = lineAt-digits text at inside newline
-
-          formed : (wellFormed (digitLine (drop at text)) ≡ false) → ⊥
-          formed e = refuted k kind size (lineAt text at) h (rw line e)
-
-          some : 0 < R
-          some = elim (decLe (suc zero) R) [ yes s ↦ s | no n ↦ absurd (formed (wellFormed-none (drop at text) (omega arith))) ]
-
-          even : R % 2 ≡ 0
-          even = elim (ℕ-discrete (R % 2) 1) [ yes odd ↦ absurd (formed (wellFormed-odd (drop at text) odd)) | no e ↦ omega arith ]
-
-          sized : length (frameOf (digitLine (drop at text))) ≡ size
-          sized =
-              elim (ℕ-discrete (length (frameOf (digitLine (drop at text)))) size) [
-                | yes s ↦ s
-                | no n ↦
-                    absurd
-                    (refused-not-lawful FrameWrong k
-                    (sym (frameCheck-size k kind size (digitLine (drop at text)) (wellFormed-even (drop at text) some even) n) ∙ rw line at h))
-              ]
-
-          run : R ≡ size * 2
-          run = omega (arith, sym (frame-length text at) ∙ sized, even)
-
--- ---- The tests of the code, in their order: r digits stand at place at
-
-module _ (text : List ℕ) (at k kind size r : ℕ) (e : r ≡ digitRun (drop at text)) where
-  pub check-cut : at ≤ length text → length text ≤ at + r → frameCheck k kind size (lineAt text at) ≡ Refused LineMalformed k
-  check-cut h cut =
-      frameCheck-malformed k kind size (lineAt text at) (lineAt-other text at (λ i n. omega (arith, length-drop at text)))
-
-  pub check-other : (getD text (at + r) 0 ≡ 0x0a → ⊥) → frameCheck k kind size (lineAt text at) ≡ Refused LineMalformed k
-  check-other other =
-      frameCheck-malformed k kind size (lineAt text at) (lineAt-other text at (λ i n. other (ap (λ v. getD text (at + v) 0) e ∙ n)))
-
-  module _ (inside : at + r < length text) (newline : getD text (at + r) 0 ≡ 0x0a) where
-    is-line : lineAt text at ≡ digitLine (drop at text)
-    is-line = lineAt-digits text at (omega (arith, length-drop at text)) (ap (λ v. getD text (at + v) 0) (sym e) ∙ newline)
-
-    pub check-empty : r ≡ 0 → frameCheck k kind size (lineAt text at) ≡ Refused LineMalformed k
-    check-empty none =
-        frameCheck-malformed k kind size (lineAt text at) (rw is-line (wellFormed-none (drop at text) (sym e ∙ none)))
-
-    pub check-odd : r % 2 ≡ 1 → frameCheck k kind size (lineAt text at) ≡ Refused LineMalformed k
-    check-odd odd =
-        frameCheck-malformed k kind size (lineAt text at) (rw is-line (wellFormed-odd (drop at text) (ap (λ v. v % 2) (sym e) ∙ odd)))
-
-    module _ (some : 0 < r) (even : r % 2 ≡ 0) where
-      formed : wellFormed (lineAt text at) ≡ true
-      formed = rw is-line (wellFormed-even (drop at text) (omega arith) (ap (λ v. v % 2) (sym e) ∙ even))
-
-      sized : length (frameOf (lineAt text at)) ≡ r / 2
-      sized = rw is-line (frame-length text at ∙ ap (λ v. v / 2) (sym e))
-
-      pub check-size : (r ≡ size * 2 → ⊥) → frameCheck k kind size (lineAt text at) ≡ Refused FrameWrong k
-      check-size other = frameCheck-size k kind size (lineAt text at) formed (λ h. other (omega (arith, sym sized ∙ h)))
-
-      is-kind : fieldAt (frameOf (lineAt text at)) 0 1 ≡ byteIn text at
-      is-kind = rw is-line (kind-is text at (omega arith))
-
-      pub check-kind : r ≡ size * 2 → (byteIn text at ≡ kind → ⊥) → frameCheck k kind size (lineAt text at) ≡ Refused FrameWrong k
-      check-kind h other =
-          frameCheck-kind k kind size (lineAt text at) formed (omega (arith, sized)) (λ f. other (sym is-kind ∙ f))
-
-      pub check-good : r ≡ size * 2 → byteIn text at ≡ kind → frameCheck k kind size (lineAt text at) ≡ Lawful
-      check-good h f = frameCheck-good k kind size (lineAt text at) formed (omega (arith, sized)) (is-kind ∙ f)
+  frameCheck-frame h =
+      let line = lineAt text at in
+      let whole = eqb (length (frameOf line)) size in
+      let same = eqb (kindIn (frameOf line)) kind in
+      let form = refuseIf (not (wellFormed line)) LineMalformed k in
+      let wrong = refuseIf (not (whole && same)) FrameWrong k in
+      let formed = formed-is text at (not-false _ (refuseIf-not _ _ _ (then-first form wrong h))) in
+      let both = not-false (whole && same) (refuseIf-not _ _ _ (then-second form wrong h)) in
+      formed-frame text at size formed
+      (sym (frame-length text at _ (formed-frame text at _ formed refl)) ∙ eqb-true _ size (and-left whole same both))

@@ -1,15 +1,24 @@
--- Laws of a digit and of the numbers that two, four and eight digits write.
-use Prim.Native.Nat.{ℕ, _+_, _-_, _≤_, _<_}
-use mathlib.Core.Path.{_≡_}
-use mathlib.Core.List.{List}
+-- Hexadecimal digits: the value of one, and how many stand ahead in a text.
+--     isDigit b             b is a hexadecimal digit
+use Prim.Native.Nat.{ℕ, suc, _+_, _-_, _≤_, _<_}
+use mathlib.Core.Path.{_≡_, refl}
+use mathlib.Core.Bool.{Bool, true, false}
+use mathlib.Core.List.{List, [], _∷_}
 use native.Mathlib.Omega.{arith}
+use native.Mathlib.Numerals.{add-one}
 use native.Mathlib.Nat.{le-refl}
-use lib.ListN.{getD}
+use borrow.Author.Tests.{lt-ltb, le-ltb, ltb-true}
+use lib.Dec.{ltb}
+use lib.ListN.{length, take, drop, getD, drop-of-length-le, length-drop}
+use lib.Seq.{drop-cons, getD-take, getD-drop, length-take-le}
 use Rattle.faults.specs.Checks.{inBounds}
 use Rattle.faults.proofs.Checks.{inBounds-high, inBounds-yes, inBounds-not}
+use Rattle.lists.specs.Count.{every}
+use Rattle.lists.proofs.Lists.{by-bool, all-at, every-all}
 use Rattle.rules.specs.Text.{digitOf}
-use Rattle.lists.proofs.Lists.{by-bool}
-use Rattle.reading.specs.Place.{byteIn, pairIn}
+use Rattle.reading.specs.Positions.{digitsAhead}
+
+-- ---- One digit
 
 pub digitOf-number : (b : ℕ) → 48 ≤ b → b ≤ 57 → digitOf b ≡ b - 48
 unfolding digitOf
@@ -30,12 +39,47 @@ digitOf-le b =
     (λ t. rw t (omega (arith, inBounds-high 48 b 57 t)))
     (λ e. rw e (by-bool (inBounds 97 b 102) (λ t. rw t (omega (arith, inBounds-high 97 b 102 t))) (λ f. rw f (le-refl 16))))
 
-pub byteIn-le : (text : List ℕ) (at : ℕ) → byteIn text at ≤ 272
-byteIn-le text at = omega (arith, digitOf-le (getD text at 0), digitOf-le (getD text (at + 1) 0))
+abbrev pub isDigit : ℕ → Bool
+isDigit b = ltb (digitOf b) 16
 
--- four digits write less than 65,536
-pub pairIn-small : (text : List ℕ) (at : ℕ) → ((i : ℕ) → i < 4 → digitOf (getD text (at + i) 0) < 16) → pairIn text at < 65536
-pairIn-small text at small =
-    let third : at + 2 + 1 ≡ at + 3 = omega arith in
-    let first : at + 0 ≡ at = omega arith in
-    rw third (omega (arith, rw first at (small 0 (omega arith)), small 1 (omega arith), small 2 (omega arith), small 3 (omega arith)))
+pub newline-no-digit : isDigit 0x0a ≡ false
+unfolding digitOf
+newline-no-digit = refl
+
+-- ---- Digits ahead
+
+pub digitsAhead-fits : (xs : List ℕ) → digitsAhead xs ≤ length xs
+unfolding digitsAhead
+digitsAhead-fits [] = omega arith
+digitsAhead-fits (b ∷ bs) =
+    let rest = digitsAhead-fits bs in
+    by-bool (isDigit b) (λ t. rw t (omega arith)) (λ e. rw e (omega arith))
+
+pub digitsAhead-every : (xs : List ℕ) → every isDigit (take (digitsAhead xs) xs) ≡ true
+unfolding digitsAhead every
+digitsAhead-every [] = refl
+digitsAhead-every (b ∷ bs) = by-bool (isDigit b) (λ t. rw (t, t) (digitsAhead-every bs)) (λ e. rw e)
+
+-- from a position of a text on, one byte after the other
+module _ (text : List ℕ) (at : ℕ) where
+  pub ahead-inside : (m : ℕ) → m < digitsAhead (drop at text) → at + m < length text
+  ahead-inside m h = omega (arith, digitsAhead-fits (drop at text), length-drop at text)
+
+  pub ahead-digit : (m : ℕ) → m < digitsAhead (drop at text) → digitOf (getD text (at + m) 0) < 16
+  ahead-digit m h =
+      let xs = drop at text in
+      let long : m < length (take (digitsAhead xs) xs) = omega (arith, length-take-le (digitsAhead xs) xs (digitsAhead-fits xs)) in
+      let digit = all-at (λ b. isDigit b ≡ true) (take (digitsAhead xs) xs) 0 (every-all isDigit _ (digitsAhead-every xs)) m long in
+      ltb-true _ 16 (rw (getD-take (digitsAhead xs) xs m 0 h, getD-drop at text m 0) at digit)
+
+  pub ahead-next : at < length text → digitOf (getD text at 0) < 16 → digitsAhead (drop at text) ≡ suc (digitsAhead (drop (at + 1) text))
+  unfolding digitsAhead
+  ahead-next inside digit = rw (drop-cons text at 0 inside, lt-ltb (digitOf (getD text at 0)) 16 digit, add-one at)
+
+  pub ahead-stops : at < length text → 16 ≤ digitOf (getD text at 0) → digitsAhead (drop at text) ≡ 0
+  unfolding digitsAhead
+  ahead-stops inside other = rw (drop-cons text at 0 inside, le-ltb (digitOf (getD text at 0)) 16 other)
+
+  pub ahead-ends : length text ≤ at → digitsAhead (drop at text) ≡ 0
+  unfolding digitsAhead
+  ahead-ends ended = rw (drop-of-length-le text ended)

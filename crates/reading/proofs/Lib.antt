@@ -1,11 +1,9 @@
 pub mod Hex
 pub mod Lines
-pub mod Fields
 pub mod Framing
-pub mod Numbers
-pub mod Heading
+pub mod Fields
+pub mod Said
+pub mod Standing
 pub mod StringLines
-pub mod Filling
 pub mod ReleaseLines
-pub mod ReleasePlaces
 pub mod Whole

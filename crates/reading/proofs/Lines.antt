@@ -1,178 +1,152 @@
--- A text from a place on: the digits in a row at its head decide its first line.
---     isDigit b             b is a hexadecimal digit
-use Prim.Native.Nat.{ℕ, zero, suc, _+_, _-_, _%_, _≤_, _<_}
+-- The first line from a position on: it is well formed exactly where digits, one or more, evenly many, lead up to a 0a.
+--     Formed text at        so it is from `at` on
+use Prim.Native.Nat.{ℕ, zero, suc, _+_, _%_, _≤_, _<_}
 use mathlib.Core.Path.{_≡_, refl, sym, ap, _∙_}
-use mathlib.Core.Logic.{_⊎_, inl, inr}
-use mathlib.Core.Bool.{Bool, true, false, _&&_}
+use mathlib.Core.Bool.{true, false, _&&_}
 use mathlib.Core.List.{List, [], _∷_}
 use native.Mathlib.Omega.{arith}
 use native.Mathlib.Numerals.{add-one}
 use native.Mathlib.Nat.{not-suc-le-zero}
-use borrow.Author.Tests.{lt-ltb, ltb-true, eq-eqb, ne-eqb, eqb-true}
+use borrow.Author.Tests.{lt-ltb, ltb-true, eq-eqb, eqb-true}
 use lib.Dec.{ltb, eqb}
-use lib.ListN.{length, take, drop, getD, length-drop}
+use lib.ListN.{length, take, drop, getD, length-drop, drop-of-length-le}
 use lib.Seq.{drop-drop, getD-drop, length-take-le}
 use Rattle.lists.specs.Count.{every}
-use Rattle.rules.specs.Text.{Line, before, linesOf, digitOf, wellFormed}
-use Rattle.lists.proofs.Lists.{by-bool, true-not-false}
-use Rattle.reading.specs.Place.{digitRun, headLine, lineAt}
+use Rattle.lists.proofs.Lists.{by-bool, true-not-false, and-left, and-right}
+use Rattle.rules.specs.Text.{Line, before, linesOf, wellFormed}
+use Rattle.reading.specs.Positions.{digitsAhead, headLine, linesFrom, lineAt}
+use Rattle.reading.proofs.Hex.{isDigit, newline-no-digit, digitsAhead-fits, digitsAhead-every}
 
-abbrev pub isDigit : ℕ → Bool
-isDigit b = ltb (digitOf b) 16
+-- ---- Digits up to a 0a are a line
 
--- 0a is no digit
-newline-no-digit : (b : ℕ) → isDigit b ≡ true → eqb b 0x0a ≡ false
-unfolding digitOf
-newline-no-digit b t = ne-eqb b 0x0a (λ e. true-not-false (sym t ∙ ap isDigit e ∙ other))
-  where
-    other : isDigit 0x0a ≡ false
-    other = refl
+abbrev pub digitLine : List ℕ → Line
+digitLine xs = record { bytes = take (digitsAhead xs) xs; ended = true }
 
--- ---- The run of digits
+digit-no-newline : (b : ℕ) → isDigit b ≡ true → eqb b 0x0a ≡ false
+digit-no-newline b t =
+    by-bool (eqb b 0x0a) (λ n. absurd (true-not-false (sym t ∙ ap isDigit (eqb-true b 0x0a n) ∙ newline-no-digit))) (λ e. e)
 
-pub digitRun-fits : (xs : List ℕ) → digitRun xs ≤ length xs
-unfolding digitRun
-digitRun-fits [] = omega arith
-digitRun-fits (b ∷ bs) =
-    let rest = digitRun-fits bs in
-    by-bool (isDigit b) (λ t. rw t (omega arith)) (λ e. rw e (omega arith))
-
-pub digitRun-digits : (xs : List ℕ) → every isDigit (take (digitRun xs) xs) ≡ true
-unfolding digitRun every
-digitRun-digits [] = refl
-digitRun-digits (b ∷ bs) = by-bool (isDigit b) (λ t. rw (t, t) (digitRun-digits bs)) (λ e. rw e)
-
-pub digitRun-digit : (xs : List ℕ) (i : ℕ) → i < digitRun xs → digitOf (getD xs i 0) < 16
-unfolding digitRun
-digitRun-digit [] i h = absurd (not-suc-le-zero h)
-digitRun-digit (b ∷ bs) zero h =
-    by-bool (isDigit b) (λ t. ltb-true (digitOf b) 16 t) (λ e. absurd (not-suc-le-zero (rw e at h)))
-digitRun-digit (b ∷ bs) (suc i) h =
-    by-bool (isDigit b) (λ t. digitRun-digit bs i (inner (rw t at h))) (λ e. absurd (not-suc-le-zero (rw e at h)))
-  where
-    inner : suc i < suc (digitRun bs) → i < digitRun bs
-    inner k = omega arith
-
--- one digit more
-pub digitRun-more : (xs : List ℕ) (i : ℕ) → i < length xs → ((j : ℕ) → j < i → isDigit (getD xs j 0) ≡ true) → isDigit (getD xs i 0) ≡ false → digitRun xs ≡ i
-unfolding digitRun
-digitRun-more [] i h digits e = absurd (not-suc-le-zero h)
-digitRun-more (b ∷ bs) zero h digits e = rw e
-digitRun-more (b ∷ bs) (suc i) h digits e =
-    rw (digits zero (omega arith)) (ap suc (digitRun-more bs i (omega arith) (λ j k. digits (suc j) (omega arith)) e))
-
-pub digitRun-all : (xs : List ℕ) → ((j : ℕ) → j < length xs → isDigit (getD xs j 0) ≡ true) → digitRun xs ≡ length xs
-unfolding digitRun
-digitRun-all [] digits = refl
-digitRun-all (b ∷ bs) digits =
-    rw (digits zero (omega arith)) (ap suc (digitRun-all bs (λ j k. digits (suc j) (omega arith))))
-
--- the run from a place of a text on, found by looking at one byte after the other
-module _ (text : List ℕ) (at i : ℕ) (from : at ≤ i) (digits : (j : ℕ) → j < i → at ≤ j → isDigit (getD text j 0) ≡ true) where
-  pub digitRun-stops : i < length text → isDigit (getD text i 0) ≡ false → digitRun (drop at text) ≡ i - at
-  digitRun-stops inside e =
-      let there : at + (i - at) ≡ i = omega arith in
-      digitRun-more (drop at text) (i - at) (omega (arith, length-drop at text))
-      (λ j h. rw (getD-drop at text j 0) (digits (at + j) (omega arith) (omega arith)))
-      (rw (getD-drop at text (i - at) 0, there) e)
-
-  pub digitRun-ends : length text ≡ i → digitRun (drop at text) ≡ i - at
-  digitRun-ends last =
-      digitRun-all (drop at text)
-      (λ j h. rw (getD-drop at text j 0) (digits (at + j) (omega (arith, length-drop at text)) (omega arith)))
-      ∙ omega (arith, length-drop at text)
-
--- ---- The first line
-
--- digits up to a 0a are a line
-pub lines-digits : (xs : List ℕ) → digitRun xs < length xs → getD xs (digitRun xs) 0 ≡ 0x0a → linesOf xs ≡ record { bytes = take (digitRun xs) xs; ended = true } ∷ linesOf (drop (digitRun xs + 1) xs)
-unfolding digitRun linesOf before
+lines-digits : (xs : List ℕ) → digitsAhead xs < length xs → getD xs (digitsAhead xs) 0 ≡ 0x0a
+    → linesOf xs ≡ digitLine xs ∷ linesOf (drop (digitsAhead xs + 1) xs)
+unfolding digitsAhead linesOf before
 lines-digits [] h e = absurd (not-suc-le-zero h)
 lines-digits (b ∷ bs) h e =
     by-bool (isDigit b)
     (λ t.
     let rest = lines-digits bs (inner (rw t at h)) (rw t at e) in
-    let next : digitRun bs + 1 ≡ suc (digitRun bs) = add-one (digitRun bs) in
-    rw (t, newline-no-digit b t, rest, next, add-one (suc (digitRun bs))))
+    rw (t, digit-no-newline b t, rest, add-one (digitsAhead bs), add-one (suc (digitsAhead bs))))
     (λ f. rw (f, eq-eqb b 0x0a (rw f at e)))
   where
-    inner : suc (digitRun bs) < suc (length bs) → digitRun bs < length bs
+    inner : suc (digitsAhead bs) < suc (length bs) → digitsAhead bs < length bs
     inner k = omega arith
 
--- anything else before the 0a, or no 0a, spoils the line
-abbrev pub Spoilt : Line → Type 0
-Spoilt line = (line .ended ≡ false) ⊎ (every isDigit (line .bytes) ≡ false)
+-- ---- A line of digits alone, with its 0a, has its 0a after the digits ahead
 
-spoilt-more : (b : ℕ) (lines : List Line) → isDigit b ≡ true → Spoilt (headLine lines) → Spoilt (headLine (before b lines))
+abbrev Whole : List ℕ → Type 0
+Whole xs = (digitsAhead xs < length xs) × (getD xs (digitsAhead xs) 0 ≡ 0x0a)
+
+whole-more : (b : ℕ) (bs : List ℕ) → isDigit b ≡ true → Whole bs → Whole (b ∷ bs)
+unfolding digitsAhead
+whole-more b bs t h = rw t (omega (arith, h .0), h .1)
+
+whole-here : (b : ℕ) (bs : List ℕ) → b ≡ 0x0a → Whole (b ∷ bs)
+unfolding digitsAhead
+whole-here b bs e =
+    let f : isDigit b ≡ false = ap isDigit e ∙ newline-no-digit in
+    rw f (omega arith, e)
+
+whole-before : (b : ℕ) (bs : List ℕ) (lines : List Line)
+    → (headLine lines .ended ≡ true → every isDigit (headLine lines .bytes) ≡ true → Whole bs)
+    → headLine (before b lines) .ended ≡ true → every isDigit (headLine (before b lines) .bytes) ≡ true → Whole (b ∷ bs)
 unfolding before every
-spoilt-more b [] t h = inl refl
-spoilt-more b (line ∷ lines) t (inl e) = inl e
-spoilt-more b (line ∷ lines) t (inr e) = inr (rw t e)
-
-spoilt-here : (b : ℕ) (lines : List Line) → isDigit b ≡ false → Spoilt (headLine (before b lines))
-unfolding before every
-spoilt-here b [] e = inl refl
-spoilt-here b (line ∷ lines) e = inr (rw e)
-
-pub lines-other : (xs : List ℕ) → (digitRun xs < length xs → getD xs (digitRun xs) 0 ≡ 0x0a → ⊥) → Spoilt (headLine (linesOf xs))
-unfolding digitRun linesOf
-lines-other [] out = inl refl
-lines-other (b ∷ bs) out =
+whole-before b bs [] more ended digits = absurd (true-not-false (sym ended))
+whole-before b bs (line ∷ lines) more ended digits =
     by-bool (isDigit b)
-    (λ t. rw (newline-no-digit b t) (spoilt-more b (linesOf bs) t (lines-other bs (λ h e. out (rw t (omega arith)) (rw t e)))))
-    (λ f.
+    (λ t. whole-more b bs t (more ended (rw t at digits)))
+    (λ f. absurd (true-not-false (sym (rw f at digits))))
+
+line-whole : (xs : List ℕ) → headLine (linesOf xs) .ended ≡ true → every isDigit (headLine (linesOf xs) .bytes) ≡ true → Whole xs
+unfolding linesOf
+line-whole [] ended digits = absurd (true-not-false (sym ended))
+line-whole (b ∷ bs) ended digits =
     by-bool (eqb b 0x0a)
-    (λ n. absurd (out (rw f (omega arith)) (rw f (eqb-true b 0x0a n))))
-    (λ n. rw n (spoilt-here b (linesOf bs) f)))
+    (λ n. whole-here b bs (eqb-true b 0x0a n))
+    (λ n. whole-before b bs (linesOf bs) (line-whole bs) (rw n at ended) (rw n at digits))
 
--- ---- Well-formed lines
+-- ---- From a position on
 
-and-false : (a : Bool) → (a && false) ≡ false
-and-false true = refl
-and-false false = refl
-
-pub wellFormed-spoilt : (line : Line) → Spoilt line → wellFormed line ≡ false
-unfolding wellFormed
-wellFormed-spoilt line (inl e) = rw e
-wellFormed-spoilt line (inr e) = rw e (and-false (line .ended && ltb 0 (length (line .bytes)) && eqb (length (line .bytes) % 2) 0))
-
--- a line of r digits, with its 0a
-unfoldable pub digitLine : List ℕ → Line
-digitLine xs = record { bytes = take (digitRun xs) xs; ended = true }
-
-digitLine-length : (xs : List ℕ) → length (take (digitRun xs) xs) ≡ digitRun xs
-digitLine-length xs = length-take-le (digitRun xs) xs (digitRun-fits xs)
-
-pub wellFormed-none : (xs : List ℕ) → digitRun xs ≡ 0 → wellFormed (digitLine xs) ≡ false
-unfolding wellFormed digitLine
-wellFormed-none xs h = rw (digitLine-length xs, h)
-
-pub wellFormed-odd : (xs : List ℕ) → digitRun xs % 2 ≡ 1 → wellFormed (digitLine xs) ≡ false
-unfolding wellFormed digitLine
-wellFormed-odd xs h =
-    let some : 0 < digitRun xs = omega arith in
-    rw (digitLine-length xs, lt-ltb 0 (digitRun xs) some, h)
-
-pub wellFormed-even : (xs : List ℕ) → 0 < digitRun xs → digitRun xs % 2 ≡ 0 → wellFormed (digitLine xs) ≡ true
-unfolding wellFormed digitLine
-wellFormed-even xs some h = rw (digitLine-length xs, lt-ltb 0 (digitRun xs) some, h) (digitRun-digits xs)
-
--- ---- A text from a place on
+pub record Formed (text : List ℕ) (at : ℕ) : Type 0 where
+  pub inside : at + digitsAhead (drop at text) < length text
+  pub newline : getD text (at + digitsAhead (drop at text)) 0 ≡ 0x0a
+  pub some : 0 < digitsAhead (drop at text)
+  pub even : digitsAhead (drop at text) % 2 ≡ 0
 
 module _ (text : List ℕ) (at : ℕ) where
-  abbrev pub runAt : ℕ
-  runAt = digitRun (drop at text)
+  abbrev ahead : ℕ
+  ahead = digitsAhead (drop at text)
 
-  pub lineAt-digits : runAt < length (drop at text) → getD text (at + runAt) 0 ≡ 0x0a → lineAt text at ≡ digitLine (drop at text)
-  unfolding lineAt digitLine
-  lineAt-digits h e = ap headLine (lines-digits (drop at text) h (getD-drop at text runAt 0 ∙ e))
+  pub lines-next : at + ahead < length text → getD text (at + ahead) 0 ≡ 0x0a
+      → linesFrom text at ≡ digitLine (drop at text) ∷ linesFrom text (at + (ahead + 1))
+  lines-next inside newline =
+      let long : ahead < length (drop at text) = omega (arith, length-drop at text) in
+      lines-digits (drop at text) long (getD-drop at text ahead 0 ∙ newline) ∙ rw (drop-drop (ahead + 1) at text)
 
-  pub linesOf-next : runAt < length (drop at text) → getD text (at + runAt) 0 ≡ 0x0a → linesOf (drop at text) ≡ lineAt text at ∷ linesOf (drop (at + (runAt + 1)) text)
-  unfolding lineAt
-  linesOf-next h e =
-      let split = lines-digits (drop at text) h (getD-drop at text runAt 0 ∙ e) in
-      split ∙ rw (split, drop-drop (runAt + 1) at text)
+  bytes-length : length (take ahead (drop at text)) ≡ ahead
+  bytes-length = length-take-le ahead (drop at text) (digitsAhead-fits (drop at text))
 
-  pub lineAt-other : (runAt < length (drop at text) → getD text (at + runAt) 0 ≡ 0x0a → ⊥) → wellFormed (lineAt text at) ≡ false
-  unfolding lineAt
-  lineAt-other out = wellFormed-spoilt (headLine (linesOf (drop at text))) (lines-other (drop at text) (λ h e. out h (sym (getD-drop at text runAt 0) ∙ e)))
+  pub formed-yes : Formed text at → wellFormed (lineAt text at) ≡ true
+  unfolding lineAt wellFormed
+  formed-yes f =
+      rw (lines-next (f .inside) (f .newline), bytes-length, lt-ltb 0 ahead (f .some), f .even) (digitsAhead-every (drop at text))
+
+  pub formed-is : wellFormed (lineAt text at) ≡ true → Formed text at
+  unfolding lineAt wellFormed
+  formed-is t =
+      let line = headLine (linesFrom text at) in
+      let some = ltb 0 (length (line .bytes)) in
+      let even = eqb (length (line .bytes) % 2) 0 in
+      let digits = every isDigit (line .bytes) in
+      let front = and-left (line .ended && some && even) digits t in
+      let short = and-left (line .ended && some) even front in
+      let whole = line-whole (drop at text) (and-left (line .ended) some short) (and-right (line .ended && some && even) digits t) in
+      let inside : at + ahead < length text = omega (arith, whole .0, length-drop at text) in
+      let newline : getD text (at + ahead) 0 ≡ 0x0a = sym (getD-drop at text ahead 0) ∙ whole .1 in
+      let same = ap (λ lines. length (headLine lines .bytes)) (lines-next inside newline) ∙ bytes-length in
+      record {
+        inside = inside;
+        newline = newline;
+        some = ltb-true 0 ahead (ap (ltb 0) (sym same) ∙ and-right (line .ended) some short);
+        even = eqb-true (ahead % 2) 0 (ap (λ n. eqb (n % 2) 0) (sym same) ∙ and-right (line .ended && some) even front);
+      }
+
+  pub formed-not : (Formed text at → ⊥) → wellFormed (lineAt text at) ≡ false
+  formed-not out = by-bool (wellFormed (lineAt text at)) (λ t. absurd (out (formed-is t))) (λ e. e)
+
+  -- what decides last
+  pub formed-even : at + ahead < length text → getD text (at + ahead) 0 ≡ 0x0a → 0 < ahead
+      → eqb (ahead % 2) 0 ≡ wellFormed (lineAt text at)
+  formed-even inside newline some =
+      by-bool (eqb (ahead % 2) 0)
+      (λ t. t ∙ sym (formed-yes (record { inside = inside; newline = newline; some = some; even = eqb-true (ahead % 2) 0 t })))
+      (λ e. e ∙ sym (formed-not (λ f. true-not-false (sym (eq-eqb (ahead % 2) 0 (f .even)) ∙ e))))
+
+-- ---- A text that has not ended has a line
+
+before-head : (b : ℕ) (lines : List Line) → (rest : List Line) × (before b lines ≡ headLine (before b lines) ∷ rest)
+unfolding before
+before-head b [] = ([], refl)
+before-head b (line ∷ lines) = (lines, refl)
+
+linesOf-head : (xs : List ℕ) → zero < length xs → (rest : List Line) × (linesOf xs ≡ headLine (linesOf xs) ∷ rest)
+unfolding linesOf
+linesOf-head [] h = absurd (not-suc-le-zero h)
+linesOf-head (b ∷ bs) h =
+    by-bool (eqb b 0x0a) (λ t. (linesOf bs, rw t)) (λ e. (before-head b (linesOf bs) .0, rw e (before-head b (linesOf bs) .1)))
+
+pub line-here : (text : List ℕ) (at : ℕ) → at < length text → (rest : List Line) × (linesFrom text at ≡ lineAt text at ∷ rest)
+unfolding lineAt
+line-here text at h = linesOf-head (drop at text) (omega (arith, length-drop at text))
+
+pub lines-none : (text : List ℕ) (at : ℕ) → length text ≤ at → linesFrom text at ≡ []
+unfolding linesOf
+lines-none text at h = rw (drop-of-length-le text h)

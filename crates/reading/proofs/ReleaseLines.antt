@@ -1,142 +1,161 @@
 -- The release lines: frames first, then the releases that they write. Together these decide as line after line does.
---     decided k j u end     the answer, where release u of the list (0: none) is the first unlawful one, the line of the first has
---                           number k, j releases stand ahead of it, and `end` is what ended the frames
-use Prim.Native.Nat.{ℕ, suc, _+_, _-_, _≤_, _<_}
+--     decided k j u end     the answer, where u is the place of the first unlawful release (0: none), the line of the release j has
+--                           number k, and `end` is what ended the frames
+use Prim.Native.Nat.{ℕ, zero, suc, _+_, _-_, _≤_, _<_}
 use mathlib.Core.Path.{_≡_, refl, sym, ap, _∙_}
-use mathlib.Core.Bool.{true, false, cond}
-use mathlib.Core.List.{List, [], _∷_, map}
+use mathlib.Core.Bool.{cond}
+use mathlib.Core.List.{List, [], _∷_, map, tail-eq-of-cons-eq}
 use native.Mathlib.Omega.{arith}
-use native.Mathlib.Decide.{decLe}
+use native.Mathlib.Nat.{le-refl}
 use borrow.Author.Tests.{lt-ltb, le-ltb}
 use lib.Dec.{ltb}
-use lib.ListN.{take}
-use Rattle.rules.specs.declared.Plan.{Plan}
-use Rattle.rules.specs.declared.Release.{Release}
+use lib.ListN.{length, take}
 use Rattle.faults.specs.declared.Fault.{Fault}
 use Rattle.faults.specs.declared.Fault.the-variants.{ReleaseTooMany, ReleaseUnlawful}
 use Rattle.faults.specs.declared.Checked.{Checked}
 use Rattle.faults.specs.declared.Checked.the-variants.{Lawful, Refused}
-use Rattle.rules.specs.Release.{releaseLawful, unlawfulFrom}
-use Rattle.rules.specs.Text.{Line, releaseOf, frameCheck, releaseLineCheck, releaseLinesCheck}
+use Rattle.faults.proofs.Checks.{by-checked, refused-not-lawful}
 use Rattle.lists.proofs.Lists.{by-bool}
-use Rattle.faults.proofs.Checks.{then-lawful, then-refused}
-use Rattle.reading.specs.declared.Framed.{Framed}
-use Rattle.reading.specs.Place.{framesFrom}
+use Rattle.rules.specs.declared.Plan.{Plan}
+use Rattle.rules.specs.declared.Release.{Release}
+use Rattle.rules.specs.Release.{releaseLawful, unlawfulFrom}
+use Rattle.rules.specs.Layout.{Layout, Frames, frameSize, lineSize}
+use Rattle.rules.specs.Text.{Line, releaseOf, releaseLineCheck, releaseLinesCheck, layoutCheck}
+use Rattle.reading.specs.Positions.{headLine, linesFrom, lineAt, Stand, oneMore, framesIn}
+use Rattle.reading.proofs.Lines.{line-here, lines-none}
+use Rattle.reading.proofs.Framing.{frameCheck-frame, frame-next}
+use Rattle.reading.proofs.Standing.{stand-none, stand-more}
 
--- ---- framesFrom, line after line
+-- ---- The frames, line after line
 
-module _ (k j : ℕ) (line : Line) (lines : List Line) where
-  pub framesFrom-refused : (f : Fault) (a : ℕ) → frameCheck k 3 8 line ≡ Refused f a → framesFrom k j (line ∷ lines) ≡ record { count = j; checked = Refused f a }
-  unfolding framesFrom
-  framesFrom-refused f a e = rw e
+module _ (l : Layout) where
+  frames-end : (k room : ℕ) → framesIn l k room [] ≡ record { count = 0; checked = Lawful }
+  unfolding framesIn
+  frames-end k room = refl
 
-  pub framesFrom-full : frameCheck k 3 8 line ≡ Lawful → 999 < j → framesFrom k j (line ∷ lines) ≡ record { count = j; checked = Refused ReleaseTooMany k }
-  unfolding framesFrom
-  framesFrom-full e h = rw (e, lt-ltb 999 j h)
+  module _ (k : ℕ) (line : Line) (lines : List Line) where
+    frames-refused : (room : ℕ) (f : Fault) (a : ℕ) → layoutCheck k l line ≡ Refused f a
+        → framesIn l k room (line ∷ lines) ≡ record { count = 0; checked = Refused f a }
+    unfolding framesIn
+    frames-refused zero f a e = rw e
+    frames-refused (suc room) f a e = rw e
 
-  pub framesFrom-next : frameCheck k 3 8 line ≡ Lawful → j ≤ 999 → framesFrom k j (line ∷ lines) ≡ framesFrom (suc k) (suc j) lines
-  unfolding framesFrom
-  framesFrom-next e h = rw (e, le-ltb 999 j h)
+    frames-full : layoutCheck k l line ≡ Lawful
+        → framesIn l k 0 (line ∷ lines) ≡ record { count = 0; checked = Refused ReleaseTooMany k }
+    unfolding framesIn
+    frames-full e = rw e
 
-pub framesFrom-end : (k j : ℕ) → framesFrom k j [] ≡ record { count = j; checked = Lawful }
-unfolding framesFrom
-framesFrom-end k j = refl
+    frames-next : (room : ℕ) → layoutCheck k l line ≡ Lawful
+        → framesIn l k (suc room) (line ∷ lines) ≡ oneMore (framesIn l (suc k) room lines)
+    unfolding framesIn
+    frames-next room e = rw e
 
--- the three ways a line can go
-pub data Way (k j : ℕ) (line : Line) : Type 0 where
-  refused : (f : Fault) (a : ℕ) → frameCheck k 3 8 line ≡ Refused f a → Way k j line
-  full : frameCheck k 3 8 line ≡ Lawful → 999 < j → Way k j line
-  on : frameCheck k 3 8 line ≡ Lawful → j ≤ 999 → Way k j line
+  pub frames-few : (lines : List Line) (k room : ℕ) → framesIn l k room lines .count ≤ room
+  frames-few [] k room = rw (frames-end k room) (omega arith)
+  frames-few (line ∷ lines) k zero =
+      by-checked (layoutCheck k l line)
+      (λ e. rw (frames-full k line lines e) (le-refl 0))
+      (λ f a e. rw (frames-refused k line lines 0 f a e) (le-refl 0))
+  frames-few (line ∷ lines) k (suc room) =
+      by-checked (layoutCheck k l line)
+      (λ e. rw (frames-next k line lines room e) (omega (arith, frames-few lines (suc k) room)))
+      (λ f a e. rw (frames-refused k line lines (suc room) f a e) (omega arith))
 
-pub way : (k j : ℕ) (line : Line) → Way k j line
-way k j line = go (frameCheck k 3 8 line) refl
-  where
-    go : (v : Checked) → frameCheck k 3 8 line ≡ v → Way k j line
-    go Lawful e = elim (decLe j 999) [ yes room ↦ on e room | no none ↦ full e (omega arith) ]
-    go (Refused f a) e = refused f a e
+  -- where nothing ended the frames, every line was one
+  pub frames-all : (lines : List Line) (k room : ℕ) → framesIn l k room lines .checked ≡ Lawful
+      → framesIn l k room lines .count ≡ length lines
+  frames-all [] k room h = rw (frames-end k room)
+  frames-all (line ∷ lines) k zero h =
+      by-checked (layoutCheck k l line)
+      (λ e. absurd (refused-not-lawful ReleaseTooMany k (rw (frames-full k line lines e) at h)))
+      (λ f a e. absurd (refused-not-lawful f a (rw (frames-refused k line lines 0 f a e) at h)))
+  frames-all (line ∷ lines) k (suc room) h =
+      by-checked (layoutCheck k l line)
+      (λ e.
+      let next = frames-next k line lines room e in
+      rw next (ap suc (frames-all lines (suc k) room (rw next at h))))
+      (λ f a e. absurd (refused-not-lawful f a (rw (frames-refused k line lines (suc room) f a e) at h)))
 
--- ---- Frames first, releases afterwards, decide as line after line does
+  -- ---- By positions of the text
+
+  module _ (text : List ℕ) where
+    module _ (at k : ℕ) where
+      pub frames-none-at : (room : ℕ) → length text ≤ at → framesIn l k room (linesFrom text at) ≡ record { count = 0; checked = Lawful }
+      frames-none-at room h = rw (lines-none text at h) (frames-end k room)
+
+      pub frames-refused-at : (room : ℕ) → at < length text → (f : Fault) (a : ℕ) → layoutCheck k l (lineAt text at) ≡ Refused f a
+          → framesIn l k room (linesFrom text at) ≡ record { count = 0; checked = Refused f a }
+      frames-refused-at room h f a e = rw (line-here text at h .1) (frames-refused k (lineAt text at) _ room f a e)
+
+      module _ (e : layoutCheck k l (lineAt text at) ≡ Lawful) where
+        pub frames-full-at : at < length text
+            → framesIn l k 0 (linesFrom text at) ≡ record { count = 0; checked = Refused ReleaseTooMany k }
+        frames-full-at h = rw (line-here text at h .1) (frames-full k (lineAt text at) _ e)
+
+        pub frames-next-at : (room : ℕ) → framesIn l k (suc room) (linesFrom text at)
+            ≡ oneMore (framesIn l (suc k) room (linesFrom text (at + lineSize l)))
+        frames-next-at room =
+            let frame = frameCheck-frame text at k (l .kind) (frameSize l) e in
+            rw (frame-next text at (frameSize l) frame) (frames-next k (lineAt text at) _ room e)
+
+    pub frames-stand : (lines : List Line) (at k room : ℕ) → linesFrom text at ≡ lines → at ≤ length text
+        → Stand text at (frameSize l) (framesIn l k room lines .count)
+    unfolding lineAt
+    frames-stand [] at k room e inside = rw (frames-end k room) (stand-none text (frameSize l) at inside)
+    frames-stand (line ∷ lines) at k zero e inside =
+        let none : framesIn l k 0 (line ∷ lines) .count ≡ 0 = omega (arith, frames-few (line ∷ lines) k 0) in
+        rw none (stand-none text (frameSize l) at inside)
+    frames-stand (line ∷ lines) at k (suc room) e inside =
+        by-checked (layoutCheck k l line)
+        (λ good.
+        let head = ap headLine e in
+        let frame = frameCheck-frame text at k (l .kind) (frameSize l) (ap (layoutCheck k l) head ∙ good) in
+        let next = sym (tail-eq-of-cons-eq (sym e ∙ frame-next text at (frameSize l) frame)) in
+        rw (frames-next k line lines room good)
+        (stand-more text (frameSize l) at (framesIn l (suc k) room lines .count) frame
+        (frames-stand lines (at + lineSize l) (suc k) room next (omega (arith, frame .inside)))))
+        (λ f a bad. rw (frames-refused k line lines (suc room) f a bad) (stand-none text (frameSize l) at inside))
+
+-- ---- Frames first, releases afterwards
 
 unfoldable pub decided : ℕ → ℕ → ℕ → Checked → Checked
-decided k j u end = cond (ltb 0 u) (Refused ReleaseUnlawful (k + u - suc j)) end
+decided k j u end = cond (ltb 0 u) (Refused ReleaseUnlawful (k + u - j)) end
 
 decided-none : (k j : ℕ) (end : Checked) → decided k j 0 end ≡ end
 unfolding decided
 decided-none k j end = refl
 
-decided-at : (k j u : ℕ) (end : Checked) → 0 < u → decided k j u end ≡ Refused ReleaseUnlawful (k + u - suc j)
-unfolding decided
-decided-at k j u end h = rw (lt-ltb 0 u h)
-
 decided-later : (k j u : ℕ) (end : Checked) → decided (suc k) (suc j) u end ≡ decided k j u end
 unfolding decided
 decided-later k j u end =
-    let same : suc k + u - suc (suc j) ≡ k + u - suc j = omega arith in
+    let same : suc k + u - suc j ≡ k + u - j = omega arith in
     rw same
 
-pub framesFrom-grows : (lines : List Line) (k j : ℕ) → j ≤ framesFrom k j lines .count
-framesFrom-grows [] k j = omega (arith, ap (λ (v : Framed). v .count) (framesFrom-end k j))
-framesFrom-grows (line ∷ lines) k j = go (framesFrom-grows lines (suc k) (suc j)) (way k j line)
-  where
-    go : suc j ≤ framesFrom (suc k) (suc j) lines .count → Way k j line → j ≤ framesFrom k j (line ∷ lines) .count
-    go later (refused f a e) = omega (arith, ap (λ (v : Framed). v .count) (framesFrom-refused k j line lines f a e))
-    go later (full e h) = omega (arith, ap (λ (v : Framed). v .count) (framesFrom-full k j line lines e h))
-    go later (on e h) = omega (arith, ap (λ (v : Framed). v .count) (framesFrom-next k j line lines e h))
+decided-here : (k j : ℕ) (end : Checked) → 1 ≤ j → decided k j j end ≡ Refused ReleaseUnlawful k
+unfolding decided
+decided-here k j end h =
+    let here : k + j - j ≡ k = omega arith in
+    rw (lt-ltb 0 j h, here)
 
-pub framesFrom-few : (lines : List Line) (k j : ℕ) → j ≤ 1000 → framesFrom k j lines .count ≤ 1000
-framesFrom-few [] k j low = omega (arith, ap (λ (v : Framed). v .count) (framesFrom-end k j))
-framesFrom-few (line ∷ lines) k j low = go (framesFrom-few lines (suc k) (suc j)) (way k j line)
-  where
-    go : (suc j ≤ 1000 → framesFrom (suc k) (suc j) lines .count ≤ 1000) → Way k j line → framesFrom k j (line ∷ lines) .count ≤ 1000
-    go later (refused f a e) = omega (arith, ap (λ (v : Framed). v .count) (framesFrom-refused k j line lines f a e))
-    go later (full e h) = omega (arith, ap (λ (v : Framed). v .count) (framesFrom-full k j line lines e h))
-    go later (on e h) = omega (arith, later (omega arith), ap (λ (v : Framed). v .count) (framesFrom-next k j line lines e h))
-
-module _ (p : Plan) where
-  line-refused : (k j : ℕ) (seen : List Release) (line : Line) (f : Fault) (a : ℕ) → frameCheck k 3 8 line ≡ Refused f a → releaseLineCheck p k (suc j) seen line ≡ Refused f a
-  unfolding releaseLineCheck
-  line-refused k j seen line f a e = then-refused (frameCheck k 3 8 line) _ f a e
-
-  line-full : (k j : ℕ) (seen : List Release) (line : Line) → frameCheck k 3 8 line ≡ Lawful → 999 < j → releaseLineCheck p k (suc j) seen line ≡ Refused ReleaseTooMany k
-  unfolding releaseLineCheck
-  line-full k j seen line e h =
-      let many : 1000 < suc j = omega arith in
-      then-lawful (frameCheck k 3 8 line) _ e ∙ rw (lt-ltb 1000 (suc j) many)
-
-  line-good : (k j : ℕ) (seen : List Release) (line : Line) → frameCheck k 3 8 line ≡ Lawful → j ≤ 999 → releaseLawful p seen (releaseOf line) ≡ true → releaseLineCheck p k (suc j) seen line ≡ Lawful
-  unfolding releaseLineCheck
-  line-good k j seen line e h t =
-      let room : suc j ≤ 1000 = omega arith in
-      then-lawful (frameCheck k 3 8 line) _ e ∙ rw (le-ltb 1000 (suc j) room, t)
-
-  line-bad : (k j : ℕ) (seen : List Release) (line : Line) → frameCheck k 3 8 line ≡ Lawful → j ≤ 999 → releaseLawful p seen (releaseOf line) ≡ false → releaseLineCheck p k (suc j) seen line ≡ Refused ReleaseUnlawful k
-  unfolding releaseLineCheck
-  line-bad k j seen line e h t =
-      let room : suc j ≤ 1000 = omega arith in
-      then-lawful (frameCheck k 3 8 line) _ e ∙ rw (le-ltb 1000 (suc j) room, t)
-
-  pub releaseLines-decided : (lines : List Line) (k j : ℕ) (seen : List Release) → releaseLinesCheck p k (suc j) seen lines ≡ decided k j (unlawfulFrom p seen (suc j) (map releaseOf (take (framesFrom k j lines .count - j) lines))) (framesFrom k j lines .checked)
-  unfolding releaseLinesCheck unlawfulFrom
-  releaseLines-decided [] k j seen =
-      let none : framesFrom k j [] .count - j ≡ 0 = omega (arith, ap (λ (v : Framed). v .count) (framesFrom-end k j)) in
-      rw none (sym (decided-none k j (framesFrom k j [] .checked) ∙ ap (λ (v : Framed). v .checked) (framesFrom-end k j)))
-  releaseLines-decided (line ∷ lines) k j seen = go (releaseLines-decided lines (suc k) (suc j) (releaseOf line ∷ seen)) (way k j line)
-    where
-      go : releaseLinesCheck p (suc k) (suc (suc j)) (releaseOf line ∷ seen) lines ≡ decided (suc k) (suc j) (unlawfulFrom p (releaseOf line ∷ seen) (suc (suc j)) (map releaseOf (take (framesFrom (suc k) (suc j) lines .count - suc j) lines))) (framesFrom (suc k) (suc j) lines .checked) → Way k j line → releaseLinesCheck p k (suc j) seen (line ∷ lines) ≡ decided k j (unlawfulFrom p seen (suc j) (map releaseOf (take (framesFrom k j (line ∷ lines) .count - j) (line ∷ lines)))) (framesFrom k j (line ∷ lines) .checked)
-      go later (refused f a e) =
-          let none : j - j ≡ 0 = omega arith in
-          rw (framesFrom-refused k j line lines f a e, none, line-refused k j seen line f a e) (sym (decided-none k j (Refused f a)))
-      go later (full e h) =
-          let none : j - j ≡ 0 = omega arith in
-          rw (framesFrom-full k j line lines e h, none, line-full k j seen line e h) (sym (decided-none k j (Refused ReleaseTooMany k)))
-      go later (on e h) =
-          let grown = framesFrom-grows lines (suc k) (suc j) in
-          let one : framesFrom (suc k) (suc j) lines .count - j ≡ suc (framesFrom (suc k) (suc j) lines .count - suc j) = omega arith in
-          by-bool (releaseLawful p seen (releaseOf line))
-          (λ t.
-          rw (framesFrom-next k j line lines e h, one, t, line-good k j seen line e h t)
-          (later ∙ decided-later k j _ (framesFrom (suc k) (suc j) lines .checked)))
-          (λ n.
-          let here : k + suc j - suc j ≡ k = omega arith in
-          rw (framesFrom-next k j line lines e h, one, n, line-bad k j seen line e h n)
-          (sym (decided-at k j (suc j) (framesFrom (suc k) (suc j) lines .checked) (omega arith) ∙ ap (λ v. Refused ReleaseUnlawful v) here)))
+module _ (v : Frames) (p : Plan) where
+  -- the first line writes the release j, and room is left for as many as make 1,000
+  pub releaseLines-decided : (lines : List Line) (k j room : ℕ) (seen : List Release) → 1 ≤ j → j + room ≡ 1001
+      → releaseLinesCheck v p k j seen lines
+      ≡ decided k j (unlawfulFrom p seen j (map (releaseOf v) (take (framesIn (v .release) k room lines .count) lines)))
+      (framesIn (v .release) k room lines .checked)
+  unfolding releaseLinesCheck releaseLineCheck unlawfulFrom framesIn
+  releaseLines-decided [] k j room seen low all = sym (decided-none k j Lawful)
+  releaseLines-decided (line ∷ lines) k j zero seen low all =
+      let many : 1000 < j = omega arith in
+      by-checked (layoutCheck k (v .release) line)
+      (λ e. rw (e, lt-ltb 1000 j many) (sym (decided-none k j _)))
+      (λ f a e. rw e (sym (decided-none k j _)))
+  releaseLines-decided (line ∷ lines) k j (suc room) seen low all =
+      let few : j ≤ 1000 = omega arith in
+      let later = releaseLines-decided lines (suc k) (suc j) room (releaseOf v line ∷ seen) (omega arith) (omega arith) in
+      by-checked (layoutCheck k (v .release) line)
+      (λ e.
+      by-bool (releaseLawful p seen (releaseOf v line))
+      (λ t. rw (e, le-ltb 1000 j few, t) (later ∙ decided-later k j _ _))
+      (λ n. rw (e, le-ltb 1000 j few, n) (sym (decided-here k j _ low))))
+      (λ f a e. rw e (sym (decided-none k j _)))

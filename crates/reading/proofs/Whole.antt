@@ -1,146 +1,177 @@
 -- The whole text: its parts, read one after the other, decide as the definition does.
-use Prim.Native.Nat.{ℕ, _+_, _-_, _*_, _≤_, _<_}
+use Prim.Native.Nat.{ℕ, _+_, _-_, _≤_, _<_}
 use mathlib.Core.Path.{_≡_, refl, sym, ap, _∙_}
-use mathlib.Core.List.{List, [], _∷_, map}
+use mathlib.Core.List.{List, _∷_, map}
 use native.Mathlib.Omega.{arith}
 use borrow.Author.Tests.{lt-ltb, le-ltb}
-use lib.ListN.{length, take, drop}
+use lib.ListN.{length, length-map}
 use lib.Seq.{take-at, take-all}
-use Rattle.rules.specs.declared.Plan.{Plan}
+use Rattle.days.specs.Days.{days}
 use Rattle.faults.specs.declared.Fault.{Fault}
-use Rattle.faults.specs.declared.Fault.the-variants.{TextTooLong, FrameWrong, MultipleOver, ReleaseUnlawful}
+use Rattle.faults.specs.declared.Fault.the-variants.{TextTooLong, FrameWrong, ReleaseUnlawful}
 use Rattle.faults.specs.declared.Checked.the-variants.{Lawful, Refused}
-use Rattle.rules.specs.Plan.{multipleOf}
+use Rattle.faults.proofs.Checks.{then-first, then-second, then-lawful}
+use Rattle.lists.specs.Count.{filled}
+use Rattle.rules.specs.declared.Plan.{Plan}
+use Rattle.rules.specs.Plan.{noString}
+use Rattle.rules.specs.Refusal.{headCheck, multipleCheck}
 use Rattle.rules.specs.Release.{releasesOf, firstUnlawful}
-use Rattle.rules.specs.Text.{Line, linesOf, nIn, releaseOf, planIn, releasesIn, headerCheck, stringLinesCheck, releaseLinesCheck, bodyCheck, linesCheck, textCheck, lawfulReading, readingOf}
-use Rattle.faults.proofs.Checks.{then-lawful}
+use Rattle.rules.specs.Layout.{Frames, frameSize, version01, lineSize}
+use Rattle.rules.specs.Text.{Line, linesOf, nIn, aIn, runIn, stringOf, releaseOf, planIn, releasesIn, versionCheck, headerCheck, layoutCheck}
+use Rattle.rules.specs.Text.{stringLinesCheck, bodyCheck, linesCheck, textCheck, lawfulReading, readingOf}
+use Rattle.laws.proofs.Lawful.{headCheck-lawful}
 use Rattle.laws.proofs.Releases.{firstUnlawful-le}
 use Rattle.reading.specs.declared.Framed.{Framed}
-use Rattle.reading.specs.Place.{lineAt, Frame, HeaderRead, StringsRead, planBy, releasesBy, releaseListBy, framesFrom, restCheck, restReading, bodyReading, refusedReading}
-use Rattle.reading.proofs.Framing.{frame-next}
-use Rattle.reading.proofs.Numbers.{a-is, run-is}
-use Rattle.reading.proofs.Heading.{lawful-n}
-use Rattle.reading.proofs.StringLines.{Strings, strings-given, line-here, lines-none}
-use Rattle.reading.proofs.Filling.{releasesBy-length}
-use Rattle.reading.proofs.ReleaseLines.{decided, framesFrom-few, releaseLines-decided}
-use Rattle.reading.proofs.ReleasePlaces.{Released, released, framesFrom-all}
+use Rattle.reading.specs.Positions.{linesFrom, lineAt, linesAt, Frame, Stand, framesIn, refusedReading, headerNumbers}
+use Rattle.reading.specs.Positions.{stringsAt, releasesAt, HeaderRead, StringsRead, bodyReading, listCheck, listReading, restReading, releaseList}
+use Rattle.reading.proofs.Lines.{line-here, lines-none}
+use Rattle.reading.proofs.Framing.{frameCheck-frame, frame-next}
+use Rattle.reading.proofs.Standing.{linesAt-length}
+use Rattle.reading.proofs.StringLines.{strings-stand}
+use Rattle.reading.proofs.ReleaseLines.{frames-few, frames-all, frames-stand, decided, releaseLines-decided}
 
-pub refused-reading : (f : Fault) (a : ℕ) (lines : List Line) → lawfulReading (Refused f a) lines ≡ refusedReading f a
-unfolding lawfulReading
-refused-reading f a lines = refl
+module _ (v : Frames) (text : List ℕ) where
+  -- ---- The header
 
--- ---- The header
+  header-next : Frame text 0 (frameSize (v .header)) → linesOf text ≡ lineAt text 0 ∷ linesFrom text (stringsAt v)
+  header-next f =
+      let here : 0 + stringsAt v ≡ stringsAt v = omega arith in
+      frame-next text 0 (frameSize (v .header)) f ∙ rw here
 
-module _ (text : List ℕ) (h : HeaderRead text) where
-  pub header-next : linesOf text ≡ lineAt text 0 ∷ linesOf (drop 19 text)
-  header-next = frame-next text 0 9 (h .frame)
+  pub header-read : headerCheck v (lineAt text 0) ≡ Lawful → HeaderRead v text
+  unfolding headerCheck
+  header-read h =
+      let line = lineAt text 0 in
+      let frame = layoutCheck 1 (v .header) line in
+      let head = headCheck 1 (nIn v line) (aIn v line) (runIn v line) in
+      record {
+        frame = frameCheck-frame text 0 1 (v .header .kind) (frameSize (v .header)) (then-first frame (headerNumbers v line) h);
+        head = then-second (versionCheck v line) head (then-second frame (headerNumbers v line) h);
+      }
 
-  pub header-few : nIn (lineAt text 0) ≤ 10
-  header-few = lawful-n (lineAt text 0) (h .numbers) .1
+  pub plan-said : (start n : ℕ) → Frame text 0 (frameSize (v .header)) → start ≡ stringsAt v → n ≡ nIn v (lineAt text 0)
+      → Stand text start (frameSize (v .string)) n
+      → planIn v (linesOf text)
+      ≡ record {
+        n = n;
+        a = days (aIn v (lineAt text 0));
+        run = days (runIn v (lineAt text 0));
+        strings = filled 10 noString (map (stringOf v) (linesAt text start (lineSize (v .string)) n));
+      }
+  unfolding planIn
+  plan-said start n f here count s = rw (header-next f, ← here, ← count, s .first)
 
-  pub header-inside : 19 ≤ length text
-  header-inside = omega (arith, h .frame .inside)
+  module _ (h : HeaderRead v text) where
+    pub header-few : nIn v (lineAt text 0) ≤ 10
+    header-few = headCheck-lawful 1 _ _ _ (h .head) .nMax
+
+    pub header-inside : stringsAt v ≤ length text
+    header-inside = omega (arith, h .frame .inside)
+
+    plan-n : planIn v (linesOf text) .n ≡ nIn v (lineAt text 0)
+    unfolding planIn
+    plan-n = rw (header-next (h .frame))
+
+    pub body-refused : (f : Fault) (a : ℕ) → stringLinesCheck v 2 (nIn v (lineAt text 0)) (linesFrom text (stringsAt v)) ≡ Refused f a
+        → bodyReading v text ≡ refusedReading f a
+    unfolding bodyReading bodyCheck lawfulReading
+    body-refused f a e = rw (plan-n, e)
 
   -- ---- The strings
 
-  module _ (e : stringLinesCheck 2 (nIn (lineAt text 0)) (linesOf (drop 19 text)) ≡ Lawful) where
-    pub strings-read : Strings text 19 (nIn (lineAt text 0))
-    strings-read = strings-given text 19 2 (nIn (lineAt text 0)) header-inside e
+  pub planned : (p : Plan) → HeaderRead v text → p ≡ planIn v (linesOf text) → (n : ℕ) → n ≡ nIn v (lineAt text 0)
+      → stringLinesCheck v 2 n (linesFrom text (stringsAt v)) ≡ Lawful → StringsRead v text p
+  planned p h e n count lawful =
+      let same : p .n ≡ n = ap (λ (q : Plan). q .n) e ∙ plan-n h ∙ sym count in
+      record { header = h; plan = e; strings = rw same lawful }
 
-    pub plan-said : planIn (linesOf text) ≡ planBy text (nIn (lineAt text 0))
-    unfolding planIn planBy
-    plan-said = rw (header-next, strings-read .said, a-is text (h .frame), run-is text (h .frame))
+  module _ (p : Plan) (s : StringsRead v text p) where
+    pub strings-n : p .n ≡ nIn v (lineAt text 0)
+    strings-n = ap (λ (q : Plan). q .n) (s .plan) ∙ plan-n (s .header)
 
-    pub body-rest : bodyReading text ≡ restReading text (planBy text (nIn (lineAt text 0)))
-    unfolding bodyReading restReading restCheck bodyCheck planBy
-    body-rest =
-        ap (λ v. lawfulReading v (linesOf text))
-        (rw (plan-said, strings-read .rest) (then-lawful (stringLinesCheck 2 (nIn (lineAt text 0)) (linesOf (drop 19 text))) _ e))
+    pub strings-few : p .n ≤ 10
+    strings-few = omega (arith, strings-n, header-few (s .header))
 
-  pub body-refused : (f : Fault) (a : ℕ) → stringLinesCheck 2 (nIn (lineAt text 0)) (linesOf (drop 19 text)) ≡ Refused f a → bodyReading text ≡ refusedReading f a
-  unfolding bodyReading bodyCheck planIn lawfulReading
-  body-refused f a e = rw (header-next, e)
+    standing : Stand text (stringsAt v) (frameSize (v .string)) (p .n)
+    standing = strings-stand v text (stringsAt v) 2 (p .n) (header-inside (s .header)) (s .strings)
 
--- ---- The releases
+    pub body-rest : bodyReading v text ≡ restReading v text p
+    unfolding bodyReading restReading listCheck bodyCheck
+    body-rest = ap (λ c. lawfulReading v c (linesOf text)) (rw (← (s .plan), standing .rest) (then-lawful _ _ (s .strings)))
 
-list-of : (text : List ℕ) (at c : ℕ) → releasesOf (releaseListBy text at c) ≡ releasesBy text at c
-unfolding releaseListBy
-list-of text at c = take-at (releasesBy text at c) _ c (releasesBy-length text at c)
+    pub rest-refused : (f : Fault) (a : ℕ) → multipleCheck (p .n + 1) p ≡ Refused f a → restReading v text p ≡ refusedReading f a
+    unfolding restReading lawfulReading
+    rest-refused f a e = rw e
 
-module _ (text : List ℕ) (p : Plan) (s : StringsRead text p) where
-  -- where the release lines start, the lines, and the frames among them
-  abbrev pub place : ℕ
-  place = 19 + p .n * 17
+    pub rest-list : multipleCheck (p .n + 1) p ≡ Lawful → restReading v text p ≡ listReading v text p
+    unfolding restReading listReading
+    rest-list e = ap (λ c. lawfulReading v c (linesOf text)) (then-lawful _ _ e)
 
-  abbrev pub framed : Framed
-  framed = framesFrom (p .n + 2) 0 (linesOf (drop place text))
+    -- ---- The releases: where they start, the frames among their lines, and what these write
 
-  pub plan-n : p .n ≡ nIn (lineAt text 0)
-  unfolding planBy
-  plan-n = ap (λ (q : Plan). q .n) (s .plan)
+    abbrev pub start : ℕ
+    start = releasesAt v (p .n)
 
-  pub place-inside : place ≤ length text
-  place-inside = omega (arith, plan-n, strings-read text (s .header) (s .strings) .inside)
+    abbrev pub framed : Framed
+    framed = framesIn (v .release) (p .n + 2) 1000 (linesFrom text start)
 
-  given : Released text place (framed .count) (linesOf (drop place text))
-  given =
-      let all : framed .count - 0 ≡ framed .count = omega arith in
-      rw all at (released text (linesOf (drop place text)) place (p .n + 2) 0 refl)
+    abbrev pub unlawful : ℕ
+    unlawful = firstUnlawful p (releasesOf (releaseList v text start (framed .count)))
 
-  pub frames-each : (i : ℕ) → i < framed .count → Frame text (place + i * 17) 8
-  frames-each = given .each
+    pub start-inside : start ≤ length text
+    start-inside = standing .inside
 
-  pub frames-few : framed .count ≤ 1000
-  frames-few = framesFrom-few (linesOf (drop place text)) (p .n + 2) 0 (omega arith)
+    pub framed-few : framed .count ≤ 1000
+    framed-few = frames-few (v .release) (linesFrom text start) (p .n + 2) 1000
 
-  abbrev pub unlawful : ℕ
-  unlawful = firstUnlawful p (releasesOf (releaseListBy text place (framed .count)))
+    pub framed-stand : Stand text start (frameSize (v .release)) (framed .count)
+    framed-stand = frames-stand (v .release) text (linesFrom text start) start (p .n + 2) 1000 refl start-inside
 
-  pub unlawful-few : unlawful ≤ 1001
-  unlawful-few =
-      omega (arith, firstUnlawful-le p (releasesOf (releaseListBy text place (framed .count))), ap length (list-of text place (framed .count)), releasesBy-length text place (framed .count), frames-few)
+    written : List Line
+    written = linesAt text start (lineSize (v .release)) (framed .count)
 
-  lines-decided : releaseLinesCheck p (p .n + 2) 1 [] (linesOf (drop place text)) ≡ decided (p .n + 2) 0 unlawful (framed .checked)
-  unfolding firstUnlawful
-  lines-decided =
-      let all : framed .count - 0 ≡ framed .count = omega arith in
-      releaseLines-decided p (linesOf (drop place text)) (p .n + 2) 0 []
-      ∙ rw (all, given .said, list-of text place (framed .count))
+    many : length (map (releaseOf v) written) ≡ framed .count
+    unfolding written
+    many = length-map written (releaseOf v) ∙ linesAt-length text (lineSize (v .release)) start (framed .count)
 
-  pub rest-multiple : 100000 < multipleOf p → restReading text p ≡ refusedReading MultipleOver (p .n + 1)
-  unfolding restReading restCheck lawfulReading
-  rest-multiple h = rw (lt-ltb 100000 (multipleOf p) h)
+    list-of : releasesOf (releaseList v text start (framed .count)) ≡ map (releaseOf v) written
+    unfolding releaseList written
+    list-of = take-at (map (releaseOf v) written) _ (framed .count) many
 
-  module _ (small : multipleOf p ≤ 100000) where
-    rest-is : restReading text p ≡ lawfulReading (decided (p .n + 2) 0 unlawful (framed .checked)) (linesOf text)
-    unfolding restReading restCheck
-    rest-is = rw (le-ltb 100000 (multipleOf p) small, lines-decided)
+    pub unlawful-few : unlawful ≤ 1001
+    unlawful-few =
+        let listed = firstUnlawful-le p (releasesOf (releaseList v text start (framed .count))) in
+        omega (arith, listed, ap length list-of, many, framed-few)
 
-    pub rest-unlawful : (u : ℕ) → u ≡ unlawful → 0 < u → restReading text p ≡ refusedReading ReleaseUnlawful (p .n + 1 + u)
+    list-decided : listReading v text p ≡ lawfulReading v (decided (p .n + 2) 1 unlawful (framed .checked)) (linesOf text)
+    unfolding listReading listCheck firstUnlawful written
+    list-decided =
+        ap (λ c. lawfulReading v c (linesOf text))
+        (releaseLines-decided v p (linesFrom text start) (p .n + 2) 1 1000 _ (omega arith) refl ∙ rw (framed-stand .first, list-of))
+
+    pub list-unlawful : (u : ℕ) → u ≡ unlawful → 0 < u → listReading v text p ≡ refusedReading ReleaseUnlawful (p .n + 1 + u)
     unfolding decided lawfulReading
-    rest-unlawful u e h =
+    list-unlawful u e h =
         let line : p .n + 2 + u - 1 ≡ p .n + 1 + u = omega arith in
-        rest-is ∙ rw (← e, lt-ltb 0 u h, line)
+        list-decided ∙ rw (← e, lt-ltb 0 u h, line)
 
-    pub rest-refused : 0 ≡ unlawful → (f : Fault) (a : ℕ) → framed .checked ≡ Refused f a → restReading text p ≡ refusedReading f a
-    unfolding decided lawfulReading
-    rest-refused none f a e = rest-is ∙ rw (← none, e)
+    module _ (none : 0 ≡ unlawful) where
+      pub list-refused : (f : Fault) (a : ℕ) → framed .checked ≡ Refused f a → listReading v text p ≡ refusedReading f a
+      unfolding decided lawfulReading
+      list-refused f a e = list-decided ∙ rw (← none, e)
 
-    releases-said : framed .checked ≡ Lawful → releasesIn (linesOf text) ≡ releaseListBy text place (framed .count)
-    unfolding releasesIn releaseListBy
-    releases-said e =
-        let strings = strings-read text (s .header) (s .strings) in
-        let there : 19 + nIn (lineAt text 0) * 17 ≡ place = omega (arith, plan-n) in
-        let count : framed .count ≡ length (linesOf (drop place text)) = omega (arith, framesFrom-all (linesOf (drop place text)) (p .n + 2) 0 e) in
-        let whole : take (framed .count) (linesOf (drop place text)) ≡ linesOf (drop place text) = take-all (framed .count) (linesOf (drop place text)) (omega arith) in
-        let said : map releaseOf (linesOf (drop place text)) ≡ releasesBy text place (framed .count) = ap (map releaseOf) (sym whole) ∙ given .said in
-        rw (header-next text (s .header), strings .rest, there, said, releasesBy-length text place (framed .count))
+      releases-said : framed .checked ≡ Lawful → releasesIn v (linesOf text) ≡ releaseList v text start (framed .count)
+      unfolding releasesIn releaseList written
+      releases-said e =
+          let count = frames-all (v .release) (linesFrom text start) (p .n + 2) 1000 e in
+          let whole = take-all (framed .count) (linesFrom text start) (omega arith) in
+          let said = ap (map (releaseOf v)) (sym whole ∙ framed-stand .first) in
+          rw (header-next (s .header .frame), ← strings-n, standing .rest, said, many)
 
-    pub rest-lawful : 0 ≡ unlawful → framed .checked ≡ Lawful → restReading text p ≡ record { checked = Lawful; plan = p; releases = releaseListBy text place (framed .count) }
-    unfolding decided lawfulReading
-    rest-lawful none e =
-        rest-is
-        ∙ rw (← none, e, releases-said e, plan-said text (s .header) (s .strings), ← (s .plan))
+      pub list-lawful : framed .checked ≡ Lawful
+          → listReading v text p ≡ record { checked = Lawful; plan = p; releases = releaseList v text start (framed .count) }
+      unfolding decided lawfulReading
+      list-lawful e = list-decided ∙ rw (← none, e, releases-said e, ← (s .plan))
 
 -- ---- The whole
 
@@ -154,12 +185,13 @@ module _ (text : List ℕ) where
     unfolding readingOf textCheck lawfulReading linesCheck
     read-empty none = rw (le-ltb 65536 (length text) fits, lines-none text 0 (omega arith))
 
-    pub read-refused : 0 < length text → (f : Fault) (a : ℕ) → headerCheck (lineAt text 0) ≡ Refused f a → readingOf text ≡ refusedReading f a
+    pub read-refused : 0 < length text → (f : Fault) (a : ℕ) → headerCheck version01 (lineAt text 0) ≡ Refused f a
+        → readingOf text ≡ refusedReading f a
     unfolding readingOf textCheck lawfulReading linesCheck
     read-refused some f a e = rw (le-ltb 65536 (length text) fits, line-here text 0 some .1, e)
 
-    pub read-body : headerCheck (lineAt text 0) ≡ Lawful → HeaderRead text → readingOf text ≡ bodyReading text
+    pub read-body : headerCheck version01 (lineAt text 0) ≡ Lawful → readingOf text ≡ bodyReading version01 text
     unfolding readingOf textCheck linesCheck bodyReading
-    read-body e h =
-        ap (λ v. lawfulReading v (linesOf text))
-        (rw (le-ltb 65536 (length text) fits, header-next text h) (then-lawful (headerCheck (lineAt text 0)) _ e))
+    read-body e =
+        ap (λ c. lawfulReading version01 c (linesOf text))
+        (rw (le-ltb 65536 (length text) fits, header-next version01 text (header-read version01 text e .frame)) (then-lawful _ _ e))

@@ -1,12 +1,13 @@
-// Hexadecimal digits and the numbers that they write, high byte first.
+// Hexadecimal digits, and the numbers that fields of a frame say, high byte first.
+use layouts::Field;
 ghost use mathlib.Core.Path.{_≡_};
-ghost use Prim.Native.Nat.{ℕ, _+_, _<_, _≤_};
-ghost use lib.ListN.{length, getD, drop};
+ghost use Prim.Native.Nat.{_+_, _*_, _<_, _≤_};
+ghost use lib.ListN.{length, drop};
 ghost use Rattle.rules.specs.Text.{digitOf};
-ghost use Rattle.reading.specs.Place.{digitRun, byteIn, pairIn, quadIn};
+ghost use Rattle.reading.specs.Positions.{digitsAhead, byteIn, numberIn};
 
 // The value of a lowercase hexadecimal digit, or 16 for any other byte.
-pub(crate) fn digit(b: u8) -> u32
+fn digit(b: u8) -> u32
     ensures exact { λ r. ⌜ r ≡ digitOf b ⌝ }
 {
     let v = b as u32;
@@ -25,10 +26,10 @@ pub(crate) fn digit(b: u8) -> u32
     16
 }
 
-// How many digits stand in a row from `at` on.
-pub(crate) fn digit_run(text: &[u8], at: usize) -> usize
+// How many digits stand from `at` on, one after the other.
+pub(crate) fn digits_ahead(text: &[u8], at: usize) -> usize
     requires { ⌜ at ≤ length (now text) ⌝ }
-    ensures exact { λ r. ⌜ r ≡ digitRun (drop at (now (text .entry))) ⌝ }
+    ensures exact { λ r. ⌜ r ≡ digitsAhead (drop at (now (text .entry))) ⌝ }
 {
     let mut i = at;
     while i < text.len() {
@@ -41,8 +42,8 @@ pub(crate) fn digit_run(text: &[u8], at: usize) -> usize
     i - at
 }
 
-// The number that two digits write.
-pub(crate) fn byte_at(text: &[u8], at: usize) -> u32
+// The byte that two digits write.
+fn byte_at(text: &[u8], at: usize) -> u32
     requires { ⌜ at + 1 < length (now text) ⌝ }
     ensures exact { λ r. ⌜ r ≡ byteIn (now (text .entry)) at ⌝ }
 {
@@ -51,19 +52,16 @@ pub(crate) fn byte_at(text: &[u8], at: usize) -> u32
     digit(high) * 16 + digit(low)
 }
 
-// The number that four digits write.
-pub(crate) fn pair_at(text: &[u8], at: usize) -> u32
-    requires { ⌜ at + 3 < length (now text) ⌝ }
-    ensures exact { λ r. ⌜ r ≡ pairIn (now (text .entry)) at ⌝ }
+// The number that a field says of the frame that starts at `at`.
+pub(crate) fn field_at(text: &[u8], at: usize, field: Field) -> u32
+    requires { ⌜ ((field .at + field .size) * 2 ≤ digitsAhead (drop at (now text))) × (field .size ≤ 4) ⌝ }
+    ensures exact { λ r. ⌜ r ≡ numberIn (now (text .entry)) at (field .at) (field .size) ⌝ }
 {
-    byte_at(text, at) * 256 + byte_at(text, at + 2)
-}
-
-// The number that eight digits write.
-pub(crate) fn quad_at(text: &[u8], at: usize) -> u32
-    requires { ⌜ at + 7 < length (now text) ⌝ }
-    requires { ⌜ ((i : ℕ) → i < 8 → digitOf (getD (now text) (at + i) 0) < 16) ⌝ }
-    ensures exact { λ r. ⌜ r ≡ quadIn (now (text .entry)) at ⌝ }
-{
-    pair_at(text, at) * 65536 + pair_at(text, at + 4)
+    let mut v: u32 = 0;
+    let mut i: usize = 0;
+    while i < field.size {
+        v = v * 256 + byte_at(text, at + (field.at + i) * 2);
+        i += 1;
+    }
+    v
 }

@@ -9,10 +9,13 @@ mod strings;
 
 use days::Day;
 use days::Length;
-use digits::byte_at;
+use digits::field_at;
 use faults::Checked;
 use faults::Fault;
 use header::header_check;
+use layouts::HEADER_COUNT;
+use layouts::HEADER_LINE;
+use layouts::STRING_LINE;
 use releases::release_frames;
 use releases::releases_in;
 use rules::BatteryString;
@@ -23,9 +26,9 @@ use rules::Releases;
 use strings::plan_in;
 use strings::string_lines_check;
 ghost use mathlib.Core.Path.{_≡_};
-ghost use Prim.Native.Nat.{_+_, _*_};
+ghost use Rattle.rules.specs.Layout.{version01};
 ghost use Rattle.rules.specs.Text.{readingOf};
-ghost use Rattle.reading.specs.Place.{HeaderRead, StringsRead, bodyReading, restReading, refusedReading};
+ghost use Rattle.reading.specs.Positions.{HeaderRead, StringsRead, bodyReading, restReading, listReading, refusedReading};
 
 // Release lines that are frames, up to the first that is not or the end: how many, and the fault that ended them.
 pub struct Framed {
@@ -64,19 +67,16 @@ fn refusal(fault: Fault, at: usize) -> Reading
     }
 }
 
-// The release lines, once the header and the strings have said the plan p: 6 first, then each line's 2, 3, 7, 8.
-fn read_releases(text: &[u8], p: Plan) -> Reading
-    requires { ⌜ StringsRead (now text) p ⌝ }
-    ensures exact { λ r. ⌜ r ≡ restReading (now (text .entry)) p ⌝ }
+// The release lines of the plan p: each line's 2, 3, 7, 8.
+fn read_list(text: &[u8], p: Plan) -> Reading
+    requires { ⌜ StringsRead version01 (now text) p ⌝ }
+    ensures exact { λ r. ⌜ r ≡ listReading version01 (now (text .entry)) p ⌝ }
 {
     let n = p.n;
-    if 100000 < bounds::multiple(p) {
-        return refusal(Fault::MultipleOver, n + 1);
-    }
-    let at = 19 + n * 17;
-    let framed = release_frames(text, at, n + 2);
+    let start = HEADER_LINE + n * STRING_LINE;
+    let framed = release_frames(text, start, n + 2);
     let count = framed.count;
-    let rs = releases_in(text, at, count);
+    let rs = releases_in(text, start, count);
     let bad = bounds::first_unlawful(p, rs);
     if 0 < bad {
         return refusal(Fault::ReleaseUnlawful, n + 1 + bad);
@@ -92,15 +92,27 @@ fn read_releases(text: &[u8], p: Plan) -> Reading
     }
 }
 
+// What follows the strings of the plan p: 6 at the last of them, then the release lines.
+fn read_rest(text: &[u8], p: Plan) -> Reading
+    requires { ⌜ StringsRead version01 (now text) p ⌝ }
+    ensures exact { λ r. ⌜ r ≡ restReading version01 (now (text .entry)) p ⌝ }
+{
+    let multiple = bounds::multiple_check(p.n + 1, p);
+    match multiple {
+        Checked::Lawful => read_list(text, p),
+        Checked::Refused { fault, at } => refusal(fault, at),
+    }
+}
+
 // The lines after a lawful header.
 fn read_body(text: &[u8]) -> Reading
-    requires { ⌜ HeaderRead (now text) ⌝ }
-    ensures exact { λ r. ⌜ r ≡ bodyReading (now (text .entry)) ⌝ }
+    requires { ⌜ HeaderRead version01 (now text) ⌝ }
+    ensures exact { λ r. ⌜ r ≡ bodyReading version01 (now (text .entry)) ⌝ }
 {
-    let n = byte_at(text, 4) as usize;
-    let strings = string_lines_check(text, n);
+    let n = field_at(text, 0, HEADER_COUNT) as usize;
+    let strings = string_lines_check(text, HEADER_LINE, n);
     match strings {
-        Checked::Lawful => read_releases(text, plan_in(text, n)),
+        Checked::Lawful => read_rest(text, plan_in(text, HEADER_LINE, n)),
         Checked::Refused { fault, at } => refusal(fault, at),
     }
 }

@@ -1,47 +1,52 @@
-// The release lines: 03, place (1), day (4), need (2). Each starts 17 bytes after the one before.
+// The release lines, one after the other.
 use super::Framed;
-use super::digits::byte_at;
-use super::digits::pair_at;
-use super::digits::quad_at;
+use super::digits::field_at;
 use super::frames::frame_check;
 use days::Day;
 use days::Length;
 use faults::Checked;
 use faults::Fault;
+use layouts::RELEASE;
+use layouts::RELEASE_DAY;
+use layouts::RELEASE_LINE;
+use layouts::RELEASE_NEED;
+use layouts::RELEASE_PLACE;
 use rules::Release;
 use rules::Releases;
 ghost use mathlib.Core.Path.{_≡_};
-ghost use Prim.Native.Nat.{ℕ, _+_, _*_, _≤_, _<_};
-ghost use lib.ListN.{length, drop};
-ghost use Rattle.rules.specs.Text.{linesOf, releaseOf};
-ghost use Rattle.reading.specs.Place.{lineAt, Frame, framesFrom, releaseListBy};
+ghost use Prim.Native.Nat.{_≤_};
+ghost use lib.ListN.{length};
+ghost use Rattle.rules.specs.Layout.{version01, frameSize};
+ghost use Rattle.rules.specs.Text.{releaseOf};
+ghost use Rattle.reading.specs.Positions.{lineAt, linesFrom, Frame, Stand, framesIn, releaseList};
 
 // What a release frame says.
 fn release_at(text: &[u8], at: usize) -> Release
-    requires { ⌜ Frame (now text) at 8 ⌝ }
-    ensures exact { λ r. ⌜ r ≡ releaseOf (lineAt (now (text .entry)) at) ⌝ }
+    requires { ⌜ Frame (now text) at (frameSize (version01 .release)) ⌝ }
+    ensures exact { λ r. ⌜ r ≡ releaseOf version01 (lineAt (now (text .entry)) at) ⌝ }
 {
-    let place = byte_at(text, at + 2) as usize;
-    let day = Day(quad_at(text, at + 4));
-    let need = Length(pair_at(text, at + 12));
+    let place = field_at(text, at, RELEASE_PLACE) as usize;
+    let day = Day(field_at(text, at, RELEASE_DAY));
+    let need = Length(field_at(text, at, RELEASE_NEED));
     Release { day, place, need }
 }
 
-// Release lines from `at` on, the first with number k: how many are frames before the text ends, a line is no frame, or a thousand are there.
-pub(crate) fn release_frames(text: &[u8], at: usize, k: usize) -> Framed
-    requires { ⌜ (at ≤ length (now text)) × (at ≤ 1000) × (k ≤ 1000) ⌝ }
-    ensures exact { λ r. ⌜ r ≡ framesFrom k 0 (linesOf (drop at (now (text .entry)))) ⌝ }
+// Release lines from `start` on, the first with number k: how many are frames before the text ends, a line is no frame or a
+// thousand are there.
+pub(crate) fn release_frames(text: &[u8], start: usize, k: usize) -> Framed
+    requires { ⌜ (start ≤ length (now text)) × (start ≤ 1000) × (k ≤ 1000) ⌝ }
+    ensures exact { λ r. ⌜ r ≡ framesIn (version01 .release) k 1000 (linesFrom (now (text .entry)) start) ⌝ }
 {
     let mut j: usize = 0;
     loop {
-        let here = at + j * 17;
+        let here = start + j * RELEASE_LINE;
         if text.len() <= here {
             return Framed {
                 count: j,
                 checked: Checked::Lawful,
             };
         }
-        let line = frame_check(text, here, k + j, 3, 8);
+        let line = frame_check(text, here, k + j, RELEASE);
         match line {
             Checked::Lawful => {
                 if 999 < j {
@@ -65,11 +70,11 @@ pub(crate) fn release_frames(text: &[u8], at: usize, k: usize) -> Framed
     }
 }
 
-// The releases that `count` frames from `at` on write.
-pub(crate) fn releases_in(text: &[u8], at: usize, count: usize) -> Releases
-    requires { ⌜ (at ≤ 1000) × (count ≤ 1000) ⌝ }
-    requires { ⌜ ((i : ℕ) → i < count → Frame (now text) (at + i * 17) 8) ⌝ }
-    ensures exact { λ r. ⌜ r ≡ releaseListBy (now (text .entry)) at count ⌝ }
+// The releases that `count` frames from `start` on write.
+pub(crate) fn releases_in(text: &[u8], start: usize, count: usize) -> Releases
+    requires { ⌜ (start ≤ 1000) × (count ≤ 1000) ⌝ }
+    requires { ⌜ Stand (now text) start (frameSize (version01 .release)) count ⌝ }
+    ensures exact { λ r. ⌜ r ≡ releaseList version01 (now (text .entry)) start count ⌝ }
 {
     let none = Release {
         day: Day(0),
@@ -79,7 +84,7 @@ pub(crate) fn releases_in(text: &[u8], at: usize, count: usize) -> Releases
     let mut list = [none; 1000];
     let mut i: usize = 0;
     while i < count {
-        list[i] = release_at(text, at + i * 17);
+        list[i] = release_at(text, start + i * RELEASE_LINE);
         i += 1;
     }
     Releases { count, list }

@@ -1,37 +1,44 @@
-// The string lines: 02, X (1), T (2), C (2), D (2). The i-th, from 0, starts 17 bytes after the one before.
-use super::digits::byte_at;
-use super::digits::pair_at;
-use super::digits::quad_at;
+// The string lines, one after the other.
+use super::digits::field_at;
 use super::frames::frame_check;
 use days::Length;
 use faults::Checked;
 use faults::Fault;
+use layouts::HEADER_MOVING;
+use layouts::HEADER_RUN;
+use layouts::STRING;
+use layouts::STRING_C;
+use layouts::STRING_D;
+use layouts::STRING_LINE;
+use layouts::STRING_T;
+use layouts::STRING_X;
 use rules::BatteryString;
 use rules::Plan;
 ghost use mathlib.Core.Path.{_≡_};
-ghost use Prim.Native.Nat.{ℕ, _+_, _*_, _≤_, _<_};
-ghost use lib.ListN.{length, drop};
-ghost use Rattle.rules.specs.Text.{linesOf, stringOf, stringLineCheck, stringLinesCheck};
-ghost use Rattle.reading.specs.Place.{lineAt, Frame, planBy};
+ghost use Prim.Native.Nat.{_≤_};
+ghost use lib.ListN.{length};
+ghost use Rattle.rules.specs.Layout.{version01, frameSize};
+ghost use Rattle.rules.specs.Text.{linesOf, nIn, stringOf, planIn, stringLineCheck, stringLinesCheck};
+ghost use Rattle.reading.specs.Positions.{lineAt, linesFrom, Frame, Stand, stringsAt};
 
 // What a string frame says.
 fn string_at(text: &[u8], at: usize) -> BatteryString
-    requires { ⌜ Frame (now text) at 8 ⌝ }
-    ensures exact { λ r. ⌜ r ≡ stringOf (lineAt (now (text .entry)) at) ⌝ }
+    requires { ⌜ Frame (now text) at (frameSize (version01 .string)) ⌝ }
+    ensures exact { λ r. ⌜ r ≡ stringOf version01 (lineAt (now (text .entry)) at) ⌝ }
 {
-    let x = byte_at(text, at + 2);
-    let t = Length(pair_at(text, at + 4));
-    let c = Length(pair_at(text, at + 8));
-    let d = Length(pair_at(text, at + 12));
+    let x = field_at(text, at, STRING_X);
+    let t = Length(field_at(text, at, STRING_T));
+    let c = Length(field_at(text, at, STRING_C));
+    let d = Length(field_at(text, at, STRING_D));
     BatteryString { t, c, d, x }
 }
 
 // Line k, which starts at `at`: 2, 3, then 5.
 fn string_line_check(text: &[u8], at: usize, k: usize) -> Checked
     requires { ⌜ at ≤ length (now text) ⌝ }
-    ensures exact { λ r. ⌜ r ≡ stringLineCheck k (lineAt (now (text .entry)) at) ⌝ }
+    ensures exact { λ r. ⌜ r ≡ stringLineCheck version01 k (lineAt (now (text .entry)) at) ⌝ }
 {
-    let frame = frame_check(text, at, k, 2, 8);
+    let frame = frame_check(text, at, k, STRING);
     match frame {
         Checked::Lawful => {
             let s = string_at(text, at);
@@ -48,21 +55,21 @@ fn string_line_check(text: &[u8], at: usize, k: usize) -> Checked
     }
 }
 
-// The n lines after the header. A line that is missing is 3.
-pub(crate) fn string_lines_check(text: &[u8], n: usize) -> Checked
-    requires { ⌜ (19 ≤ length (now text)) × (n ≤ 10) ⌝ }
-    ensures exact { λ r. ⌜ r ≡ stringLinesCheck 2 n (linesOf (drop 19 (now (text .entry)))) ⌝ }
+// n string lines, the first at `start`. A line that is missing is 3.
+pub(crate) fn string_lines_check(text: &[u8], start: usize, n: usize) -> Checked
+    requires { ⌜ (start ≤ length (now text)) × (start ≤ 1000) × (n ≤ 10) ⌝ }
+    ensures exact { λ r. ⌜ r ≡ stringLinesCheck version01 2 n (linesFrom (now (text .entry)) start) ⌝ }
 {
     let mut i: usize = 0;
     while i < n {
-        let at = 19 + i * 17;
-        if text.len() <= at {
+        let here = start + i * STRING_LINE;
+        if text.len() <= here {
             return Checked::Refused {
                 fault: Fault::FrameWrong,
                 at: i + 2,
             };
         }
-        let line = string_line_check(text, at, i + 2);
+        let line = string_line_check(text, here, i + 2);
         match line {
             Checked::Lawful => {
                 i += 1;
@@ -75,12 +82,12 @@ pub(crate) fn string_lines_check(text: &[u8], n: usize) -> Checked
     Checked::Lawful
 }
 
-// The plan that a lawful header and n lawful string lines write.
-pub(crate) fn plan_in(text: &[u8], n: usize) -> Plan
-    requires { ⌜ Frame (now text) 0 9 ⌝ }
-    requires { ⌜ n ≤ 10 ⌝ }
-    requires { ⌜ ((i : ℕ) → i < n → Frame (now text) (19 + i * 17) 8) ⌝ }
-    ensures exact { λ r. ⌜ r ≡ planBy (now (text .entry)) n ⌝ }
+// The plan that a lawful header and n lawful string lines write, of which the first starts at `start`.
+pub(crate) fn plan_in(text: &[u8], start: usize, n: usize) -> Plan
+    requires { ⌜ Frame (now text) 0 (frameSize (version01 .header)) ⌝ }
+    requires { ⌜ (start ≡ stringsAt version01) × (n ≡ nIn version01 (lineAt (now text) 0)) × (n ≤ 10) ⌝ }
+    requires { ⌜ Stand (now text) start (frameSize (version01 .string)) n ⌝ }
+    ensures exact { λ r. ⌜ r ≡ planIn version01 (linesOf (now (text .entry))) ⌝ }
 {
     let zero = Length(0);
     let none = BatteryString {
@@ -92,10 +99,10 @@ pub(crate) fn plan_in(text: &[u8], n: usize) -> Plan
     let mut strings = [none; 10];
     let mut i: usize = 0;
     while i < n {
-        strings[i] = string_at(text, 19 + i * 17);
+        strings[i] = string_at(text, start + i * STRING_LINE);
         i += 1;
     }
-    let a = Length(pair_at(text, 6));
-    let run = Length(quad_at(text, 10));
+    let a = Length(field_at(text, 0, HEADER_MOVING));
+    let run = Length(field_at(text, 0, HEADER_RUN));
     Plan { n, a, run, strings }
 }

@@ -12,11 +12,11 @@ use Rattle.rules.specs.declared.BatteryString.{BatteryString}
 use Rattle.rules.specs.declared.Plan.{Plan}
 use Rattle.rules.specs.declared.Release.{Release}
 use Rattle.rules.specs.declared.Releases.{Releases}
-use Rattle.lists.specs.Count.{sumOf, largest, smallest, smallestWith, every, keep, countOf, upFrom, leastFrom}
+use Rattle.lists.specs.Count.{sumOf, largest, smallest, smallestWith, every, keep, countOf, upFrom, leastFrom, firstOf}
 use Rattle.rules.specs.Plan.{noString, stringLawful, commonMultiple, multipleOf, dMin, dMax}
 use Rattle.rules.specs.Demand.{movingCost, holdOf, jobs, blockerHold, blockLimit, need, demand, load, overloaded}
-use Rattle.rules.specs.Verdict.{pairsAt, allPairs, broken, firstBroken, compared, judged, verdictOf, isPass}
-use Rattle.rules.specs.Search.{permit, withSet, setPasses, setsOf, ordered, firstPassing, searchOf}
+use Rattle.rules.specs.Verdict.{pairsAt, allPairs, broken, compared, judged, verdictOf, isPass}
+use Rattle.rules.specs.Search.{permit, withSet, setPasses, setsOf, ordered, searchOf}
 use Rattle.rules.specs.Release.{noRelease, tooClose, outOfOrder, releaseLawful, unlawfulFrom, firstUnlawful}
 use Rattle.rules.specs.Run.{chosen, lateAt, newSlot, joinFrom, joined, holder, payer, taken, nextUp, given, useOf, spent, morning, stateAt, useOn, lateOn, history, daysOf, missDay, runOf}
 use Rattle.rules.specs.Refusal.{countCheck, numbersCheck, stringsCheck, multipleCheck, planCheck, setCheck, releasesCheck, runCheck, verdictAnswer, setAnswer, searchAnswer, runAnswer}
@@ -25,7 +25,10 @@ use Rattle.rules.specs.Answer.{answerOf}
 use Rattle.rules.specs.Answer as answers
 use Rattle.rules.specs.Lines.{bytesOf, decimalIn, decimal, refusedLine, verdictLine, assignLine, outcomeLine, linesFor}
 use Rattle.lists.specs.Count.{filled}
-use Rattle.rules.specs.Text.{before, linesOf, digitOf, wellFormed, pairsOf, frameOf, numberFrom, fieldAt, nIn, aIn, runIn, stringOf, releaseOf, planIn, releasesIn, frameCheck, headerCheck, stringLineCheck, stringLinesCheck, releaseLineCheck, releaseLinesCheck, bodyCheck, linesCheck, textCheck, lawfulReading, readingOf}
+use Rattle.rules.specs.Layout.{numberFrom, fieldAmong, fieldIn}
+use Rattle.rules.specs.Text.{before, linesOf, digitOf, wellFormed, pairsOf, frameOf, fieldOf, frameCheck, nIn, aIn, runIn, stringOf, releaseOf}
+use Rattle.rules.specs.Text.{planIn, releasesIn, versionCheck, headerCheck, stringLineCheck, stringLinesCheck, releaseLineCheck}
+use Rattle.rules.specs.Text.{releaseLinesCheck, bodyCheck, linesCheck, textCheck, lawfulReading, readingOf}
 
 -- ---- Writing plans and texts down
 
@@ -139,7 +142,8 @@ table =
     ∷ row (read-text sample) (says lawful)
     ∷ row (file sample) (written (bytesOf "verdict pass pairs 44\nassign 1\nrun clean work 8 move 1 idle 11\n"))
     -- its second string with T 1001
-    ∷ row (file (line 18 0x010102000100000014 ++ line 16 0x0201000a00030005 ++ line 16 0x020003e90005000a)) (written (bytesOf "refused 5 line 3\n"))
+    ∷ row (file (line 18 0x010102000100000014 ++ line 16 0x0201000a00030005 ++ line 16 0x020003e90005000a))
+    (written (bytesOf "refused 5 line 3\n"))
     ∷ row (file []) (written (bytesOf "refused 3 line 1\n"))
     -- equal deadlines never take the bank
     ∷ row (run-with level 2 (release 0 1 5 ∷ release 1 2 3 ∷ [])) (says (clean 8 0 12))
@@ -154,12 +158,15 @@ unfolding
     sumOf largest smallest smallestWith every keep countOf upFrom leastFrom
     stringLawful commonMultiple multipleOf dMin dMax
     movingCost holdOf jobs blockerHold blockLimit need demand load overloaded
-    pairsAt allPairs broken firstBroken compared judged verdictOf isPass
-    permit withSet setPasses setsOf ordered firstPassing searchOf
+    pairsAt allPairs broken firstOf compared judged verdictOf isPass
+    permit withSet setPasses setsOf ordered searchOf
     tooClose outOfOrder releaseLawful unlawfulFrom firstUnlawful
-    chosen lateAt newSlot joinFrom joined holder payer taken nextUp given useOf spent morning stateAt useOn lateOn history daysOf missDay runOf
-    countCheck numbersCheck stringsCheck multipleCheck planCheck setCheck releasesCheck runCheck verdictAnswer setAnswer searchAnswer runAnswer
-    before linesOf digitOf wellFormed pairsOf frameOf numberFrom fieldAt nIn aIn runIn stringOf releaseOf planIn releasesIn
-    frameCheck headerCheck stringLineCheck stringLinesCheck releaseLineCheck releaseLinesCheck bodyCheck linesCheck textCheck lawfulReading readingOf
+    chosen lateAt newSlot joinFrom joined holder payer taken nextUp given useOf spent morning stateAt useOn lateOn history daysOf missDay
+    runOf
+    countCheck numbersCheck stringsCheck multipleCheck planCheck setCheck releasesCheck runCheck verdictAnswer setAnswer searchAnswer
+    runAnswer
+    before linesOf digitOf wellFormed pairsOf frameOf numberFrom fieldAmong fieldIn fieldOf
+    nIn aIn runIn stringOf releaseOf planIn releasesIn frameCheck versionCheck headerCheck
+    stringLineCheck stringLinesCheck releaseLineCheck releaseLinesCheck bodyCheck linesCheck textCheck lawfulReading readingOf
     answers.answered answerOf bytesOf decimalIn decimal refusedLine verdictLine assignLine outcomeLine linesFor
 worked = refl

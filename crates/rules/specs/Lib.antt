@@ -1,4 +1,4 @@
--- The rules of document 01, in its order. Read: Plan, Demand, Verdict, Search, Release, Run, Refusal, Text, Answer, Said, Lines.
+-- The rules of document 01, in its order. Read: Plan, Demand, Verdict, Search, Release, Run, Refusal, Layout, Text, Answer, Said, Lines.
 pub mod Plan
 pub mod Demand
 pub mod Verdict
@@ -6,6 +6,7 @@ pub mod Search
 pub mod Release
 pub mod Run
 pub mod Refusal
+pub mod Layout
 pub mod Text
 pub mod Answer
 pub mod Said

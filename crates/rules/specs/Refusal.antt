@@ -1,11 +1,16 @@
 -- Refusals of entries that take numbers (document 01, "Refusal numbers"), and what each entry answers for any input.
+-- A check takes the place `at` that it reports at: a text is held to the same checks, with the number of a line.
+--     headCheck at n a run  4 for n, then 5 for A and N
+--     stringCheck at s      5 for a string outside its bounds
+--     multipleCheck at p    6 for H
+--     manyCheck at j        7 for more than 1,000 releases
 --     stringsCheck k ss     5 with the place, from k on, of the first string outside its bounds
 --     planCheck p           4, then 5 for A and N (with 0), then 5 place by place, then 6 (with 0)
 --     setCheck p m          the same with a permission set: 5 with 0 for 2^n or more, straight after A and N
 --     runCheck p rs         planCheck, then 7 (with 1,001), then 8 with the place in the list
 --     verdictAnswer p, setAnswer p m, searchAnswer p, runAnswer p rs    the answers of the entries
 use Prim.Native.Nat.{ℕ, suc, _^_}
-use mathlib.Core.Bool.{not, cond, _&&_}
+use mathlib.Core.Bool.{not, _&&_}
 use mathlib.Core.List.{List, [], _∷_}
 use lib.Dec.{ltb, leb}
 use Rattle.rules.specs.declared.BatteryString.{BatteryString}
@@ -27,37 +32,48 @@ use Rattle.rules.specs.Search.{withSet, searchOf}
 use Rattle.rules.specs.Release.{releasesOf, firstUnlawful}
 use Rattle.rules.specs.Run.{runOf}
 
+-- ---- The bounds
+
+unfoldable pub countCheck : ℕ → ℕ → Checked
+countCheck at n = refuseIf (not (inBounds 1 n 10)) StringCount at
+
+unfoldable pub numbersCheck : ℕ → ℕ → ℕ → Checked
+numbersCheck at a run = refuseIf (not (inBounds 0 a 1000 && inBounds 1 run 1000000)) OutOfBounds at
+
+abbrev pub headCheck : ℕ → ℕ → ℕ → ℕ → Checked
+headCheck at n a run = then (countCheck at n) (numbersCheck at a run)
+
+abbrev pub stringCheck : ℕ → BatteryString → Checked
+stringCheck at s = refuseIf (not (stringLawful s)) OutOfBounds at
+
+unfoldable pub multipleCheck : ℕ → Plan → Checked
+multipleCheck at p = refuseIf (ltb 100000 (multipleOf p)) MultipleOver at
+
+abbrev pub manyCheck : ℕ → ℕ → Checked
+manyCheck at j = refuseIf (ltb 1000 j) ReleaseTooMany at
+
 -- ---- The order of faults
-
-unfoldable pub countCheck : Plan → Checked
-countCheck p = refuseIf (not (inBounds 1 (p .n) 10)) StringCount 0
-
-unfoldable pub numbersCheck : Plan → Checked
-numbersCheck p = refuseIf (not (inBounds 0 (p .a .0) 1000 && inBounds 1 (p .run .0) 1000000)) OutOfBounds 0
 
 unfoldable pub stringsCheck : ℕ → List BatteryString → Checked
 stringsCheck k [] = checked.Lawful
 stringsCheck k (s ∷ ss) =
     let later = stringsCheck (suc k) ss in
-    cond (stringLawful s) later (checked.Refused OutOfBounds k)
-
-unfoldable pub multipleCheck : Plan → Checked
-multipleCheck p = refuseIf (ltb 100000 (multipleOf p)) MultipleOver 0
+    then (stringCheck k s) later
 
 unfoldable pub planCheck : Plan → Checked
 planCheck p =
-    let strings = then (stringsCheck 1 (stringsOf p)) (multipleCheck p) in
-    then (countCheck p) (then (numbersCheck p) strings)
+    let strings = then (stringsCheck 1 (stringsOf p)) (multipleCheck 0 p) in
+    then (headCheck 0 (p .n) (p .a .0) (p .run .0)) strings
 
 unfoldable pub setCheck : Plan → ℕ → Checked
 setCheck p m =
-    let strings = then (stringsCheck 1 (stringsOf p)) (multipleCheck p) in
-    then (countCheck p) (then (numbersCheck p) (then (refuseIf (leb (2 ^ p .n) m) OutOfBounds 0) strings))
+    let strings = then (stringsCheck 1 (stringsOf p)) (multipleCheck 0 p) in
+    then (headCheck 0 (p .n) (p .a .0) (p .run .0)) (then (refuseIf (leb (2 ^ p .n) m) OutOfBounds 0) strings)
 
 unfoldable pub releasesCheck : Plan → Releases → Checked
 releasesCheck p rs =
     let bad = firstUnlawful p (releasesOf rs) in
-    then (refuseIf (ltb 1000 (rs .count)) ReleaseTooMany 1001) (refuseIf (ltb 0 bad) ReleaseUnlawful bad)
+    then (manyCheck 1001 (rs .count)) (refuseIf (ltb 0 bad) ReleaseUnlawful bad)
 
 unfoldable pub runCheck : Plan → Releases → Checked
 runCheck p rs =

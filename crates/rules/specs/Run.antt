@@ -61,17 +61,13 @@ noSlot = emptySlot noString
 abbrev pub slotAt : List Slot → ℕ → Slot
 slotAt ss i = getD ss (i - 1) noSlot
 
+-- a slot with another job
+abbrev pub putJob : Slot → Job → Slot
+putJob s j = record { string = s .string; job = j; release = s .release; deadline = s .deadline; serves = s .serves }
+
 -- the slots with the job at place i made another
 abbrev pub withJob : List Slot → ℕ → Job → List Slot
-withJob ss i j =
-    set ss (i - 1)
-    (record {
-      string = slotAt ss i .string;
-      job = j;
-      release = slotAt ss i .release;
-      deadline = slotAt ss i .deadline;
-      serves = slotAt ss i .serves;
-    })
+withJob ss i j = set ss (i - 1) (putJob (slotAt ss i) j)
 
 unfoldable pub chosen : (Slot → Bool) → (Slot → Slot → Bool) → List Slot → ℕ → ℕ
 chosen ok ahead ss zero = 0
@@ -120,19 +116,19 @@ joined p rs t ss = joinFrom p t 1 rs ss
 unfoldable pub holder : List Slot → ℕ
 holder ss = chosen (λ s. onBank (s .job)) noneAhead ss (length ss)
 
--- s was released on day t, may take the bank, and is due strictly before the job h that is on it
-abbrev pub mayTake : ℕ → Slot → Slot → Bool
-mayTake t h s =
+-- s was released on day t, may take the bank, and is due strictly before a job on it that is due on day e
+abbrev pub mayTake : ℕ → ℕ → Slot → Bool
+mayTake t e s =
     waits (s .job)
     && eqb (s .release .0) t
     && eqb (s .string .x) 1
-    && ltb (s .deadline .0) (h .deadline .0)
+    && ltb (s .deadline .0) e
 
 abbrev pub dueBefore : Slot → Slot → Bool
 dueBefore s r = ltb (s .deadline .0) (r .deadline .0)
 
 unfoldable pub payer : ℕ → List Slot → ℕ
-payer t ss = chosen (mayTake t (slotAt ss (holder ss))) dueBefore ss (length ss)
+payer t ss = chosen (mayTake t (slotAt ss (holder ss) .deadline .0)) dueBefore ss (length ss)
 
 abbrev pub stopped : Job → Job
 stopped Empty = Empty

@@ -1,4 +1,5 @@
--- What an answer says, in document 01's words, numbers and values ("Where an answer is an enum, a definition gives this paper's number and values
+-- What an answer says, in document 01's words, numbers and values ("Where an answer is an enum, a definition gives this paper's number and
+-- values
 -- for each of the enum's cases"). Statements about an answer speak of what it says.
 --     lawful                                  nothing is refused
 --     refused number at                       the refusal number, and the line, the place, or 0 for the whole

@@ -7,15 +7,16 @@
 --     searchOf p            the first set of that order that passes
 -- The X of the plan plays no part in the answer.
 use Prim.Native.Nat.{ℕ, suc, _/_, _%_, _^_}
-use mathlib.Core.Bool.{Bool, cond}
+use mathlib.Core.Bool.{Bool}
 use mathlib.Core.List.{List, [], _∷_, flatMap}
+use mathlib.Core.Option.{Option, none, some}
 use lib.Dec.{eqb}
 use lib.Count.{ones}
 use Rattle.rules.specs.declared.BatteryString.{BatteryString}
 use Rattle.rules.specs.declared.Plan.{Plan}
 use Rattle.rules.specs.declared.Assign.{Assign}
 use Rattle.rules.specs.declared.Assign.the-variants.{Takers, Nobody}
-use Rattle.lists.specs.Count.{upFrom, keep}
+use Rattle.lists.specs.Count.{upFrom, keep, firstOf}
 use Rattle.rules.specs.Verdict.{verdictOf, isPass}
 
 unfoldable pub permit : ℕ → List BatteryString → List BatteryString
@@ -34,11 +35,13 @@ setsOf n k = keep (λ m. eqb (ones m) k) (upFrom 0 (2 ^ n))
 unfoldable pub ordered : ℕ → List ℕ
 ordered n = flatMap (setsOf n) (upFrom 0 (suc n))
 
-unfoldable pub firstPassing : Plan → List ℕ → Assign
-firstPassing p [] = Nobody
-firstPassing p (m ∷ ms) =
-    let later = firstPassing p ms in
-    cond (setPasses p m) (Takers m) later
+-- what is answered where a set is found, and where none is
+abbrev pub assigned : Option ℕ → Assign
+assigned none = Nobody
+assigned (some m) = Takers m
+
+abbrev pub firstPassing : Plan → List ℕ → Assign
+firstPassing p ms = assigned (firstOf (setPasses p) ms)
 
 unfoldable pub searchOf : Plan → Assign
 searchOf p = firstPassing p (ordered (p .n))

@@ -15,7 +15,7 @@ use Rattle.days.specs.Days.{days}
 use Rattle.rules.specs.declared.Plan.{Plan}
 use Rattle.rules.specs.declared.Verdict.{Verdict}
 use Rattle.rules.specs.declared.Verdict.the-variants.{Refused, Overload, Fail, Pass}
-use Rattle.lists.specs.Count.{upFrom}
+use Rattle.lists.specs.Count.{upFrom, firstOf}
 use Rattle.rules.specs.Plan.{multipleOf, dMax}
 use Rattle.rules.specs.Demand.{blockLimit, demand, overloaded}
 
@@ -32,11 +32,8 @@ allPairs p = flatMap (pairsAt p) (upFrom 1 (dMax p + multipleOf p - 1))
 unfoldable pub broken : Plan → Pair → Bool
 broken p q = ltb (q .l) (demand p (q .l) (q .b))
 
-unfoldable pub firstBroken : Plan → List Pair → Option Pair
-firstBroken p [] = none
-firstBroken p (q ∷ qs) =
-    let later = firstBroken p qs in
-    cond (broken p q) (some q) later
+abbrev pub firstBroken : Plan → List Pair → Option Pair
+firstBroken p qs = firstOf (broken p) qs
 
 unfoldable pub compared : Plan → List Pair → List Pair
 compared p [] = []

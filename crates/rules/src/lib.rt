@@ -4,6 +4,9 @@ use days::Day;
 use days::Length;
 use faults::Checked;
 use faults::Fault;
+ghost use mathlib.Core.Path.{_≡_};
+ghost use Rattle.days.specs.Days.{days};
+ghost use Rattle.rules.specs.Demand.{movingCost};
 
 // A battery string: least days between two releases, most working days of a job, days from release to deadline, and
 // whether its jobs may take the bank (1) or not (0).
@@ -20,6 +23,15 @@ pub struct Plan {
     pub a: Length,
     pub run: Length,
     pub strings: [BatteryString; 10],
+}
+
+impl Plan {
+    // What a job of the string pays for taking the bank.
+    pub fn moving_cost(self, s: BatteryString) -> Length
+        ensures exact { λ r. ⌜ r ≡ days (movingCost self s) ⌝ }
+    {
+        self.a
+    }
 }
 
 // A release: its day, the place of its string (from 1), and the working days it needs.

@@ -24,7 +24,7 @@ use Rattle.run.specs.declared.day.Evening.{Evening}
 use Rattle.run.specs.declared.tally.Tally.{Tally}
 use Rattle.run.specs.Tally.{addedTo, tallyOf}
 use Rattle.run.specs.Day.{EndedOn}
-use Rattle.run.proofs.Joining.{dayAt, joinFrom-none, joinFrom-drop, joinFrom-here}
+use Rattle.run.proofs.JoinList.{dayAt, joinFrom-none, joinFrom-drop, joinFrom-here}
 use Rattle.run.proofs.State.{stateAt-old, taken-quiet}
 use Rattle.run.proofs.Counting.{tallyOf-start, tallyOf-more}
 
@@ -51,12 +51,12 @@ pub record Joined (p : Plan) (rs : List Release) (t from : ℕ) (slots : List Sl
   pub coming : (i : ℕ) → next ≤ i → i < length rs → t < dayAt rs i
   pub quiet : next ≤ from → take (p .n) slots ≡ stateAt p rs t
 
-module _ (p : Plan) (rs : List Release) where
+module _ {p : Plan} {rs : List Release} where
   -- day 0
-  pub standing-start : (slots : List Slot) (tally : Tally) → take (p .n) slots ≡ map emptySlot (stringsOf p)
+  pub standing-start : {slots : List Slot} {tally : Tally} → take (p .n) slots ≡ map emptySlot (stringsOf p)
       → tally ≡ record { work = days 0; moving = days 0; idle = days 0 } → Standing p rs 0 slots 0 tally
   unfolding stateAt
-  standing-start slots tally first none =
+  standing-start first none =
       record {
         state = first;
         clean = λ i h. absurd (omega arith);
@@ -67,16 +67,16 @@ module _ (p : Plan) (rs : List Release) where
       }
 
   -- step 1
-  pub standing-late : (t : ℕ) (slots : List Slot) (next : ℕ) (tally : Tally) → Standing p rs t slots next tally
+  pub standing-late : {t : ℕ} {slots : List Slot} {next : ℕ} {tally : Tally} → Standing p rs t slots next tally
       → lateAt t (take (p .n) slots) ≡ lateOn p rs t
   unfolding lateOn
-  standing-late t slots next tally s = ap (lateAt t) (s .state)
+  standing-late {t} s = ap (lateAt t) (s .state)
 
   -- step 2 starts
-  pub joining-start : (t : ℕ) (slots : List Slot) (next : ℕ) (tally : Tally) → Standing p rs t slots next tally
+  pub joining-start : {t : ℕ} {slots : List Slot} {next : ℕ} {tally : Tally} → Standing p rs t slots next tally
       → Joining p rs t next slots next
   unfolding joined
-  joining-start t slots next tally s =
+  joining-start {t} {slots} {next} s =
       record {
         pending =
             rw (s .state) (sym (joinFrom-drop p t next 1 rs (stateAt p rs t) (λ i h l e. omega (arith, s .passed i h))));
@@ -88,10 +88,10 @@ module _ (p : Plan) (rs : List Release) where
       }
 
   -- the release at next is of today
-  pub joining-more : (t from : ℕ) (slots : List Slot) (next : ℕ) (r : Release) → r ≡ getD rs next noRelease → 1 ≤ r .place → r .place ≤ p .n
-      → next < length rs → r .day .0 ≡ t → Joining p rs t from slots next
+  pub joining-more : {t from : ℕ} {slots : List Slot} {next : ℕ} (r : Release) → r ≡ getD rs next noRelease → 1 ≤ r .place
+      → r .place ≤ p .n → next < length rs → r .day .0 ≡ t → Joining p rs t from slots next
       → Joining p rs t from (set slots (r .place - 1) (newSlot p r (next + 1))) (next + 1)
-  joining-more t from slots next r read low high room today j =
+  joining-more {t} {from} {slots} {next} r read low high room today j =
       record {
         pending =
             let here = joinFrom-here p t next rs (take (p .n) slots) room (ap (λ q. q .day .0) (sym read) ∙ today) in
@@ -101,17 +101,20 @@ module _ (p : Plan) (rs : List Release) where
         within = omega arith;
         passed =
             λ i h.
-            elim (ℕ-discrete i next) [ yes same ↦ rw same (omega (arith, ap (λ q. q .day .0) read)) | no before ↦ j .passed i (omega arith) ];
+            elim (ℕ-discrete i next)
+            [ yes same ↦ rw same (omega (arith, ap (λ q. q .day .0) read)) | no before ↦ j .passed i (omega arith) ];
         coming = λ i h l. j .coming i (omega arith) l;
         quiet = λ h. absurd (omega (arith, j .since));
       }
 
   -- no release is left
-  pub joined-last : (t from : ℕ) (slots : List Slot) (next : ℕ) → length rs ≤ next → Joining p rs t from slots next
+  pub joined-last : {t from : ℕ} {slots : List Slot} {next : ℕ} → length rs ≤ next → Joining p rs t from slots next
       → Joined p rs t from slots next
-  joined-last t from slots next end j =
+  joined-last {t} {slots = slots} {next = next} end j =
       record {
-        state = sym (joinFrom-none p t (next + 1) (drop next rs) (take (p .n) slots) (λ i h e. omega (arith, simp length-drop at h))) ∙ j .pending;
+        state =
+            sym (joinFrom-none p t (next + 1) (drop next rs) (take (p .n) slots) (λ i h e. omega (arith, simp length-drop at h)))
+            ∙ j .pending;
         within = j .within;
         passed = j .passed;
         coming = λ i h l. absurd (omega arith);
@@ -119,9 +122,9 @@ module _ (p : Plan) (rs : List Release) where
       }
 
   -- the release at next is of a later day, and so are those after it
-  pub joined-before : (t from : ℕ) (slots : List Slot) (next : ℕ) → ((i k : ℕ) → i ≤ k → k < length rs → dayAt rs i ≤ dayAt rs k)
+  pub joined-before : {t from : ℕ} {slots : List Slot} {next : ℕ} → ((i k : ℕ) → i ≤ k → k < length rs → dayAt rs i ≤ dayAt rs k)
       → next < length rs → (dayAt rs next ≡ t → ⊥) → Joining p rs t from slots next → Joined p rs t from slots next
-  joined-before t from slots next sorted room other j =
+  joined-before {t} {slots = slots} {next = next} sorted room other j =
       let later : t < dayAt rs next = omega (arith, j .coming next (le-refl next) room) in
       record {
         state =
@@ -138,16 +141,16 @@ module _ (p : Plan) (rs : List Release) where
       }
 
   -- where no release joined, step 3 changes nothing
-  pub joined-quiet : (t from : ℕ) (slots : List Slot) (next : ℕ) → Joined p rs t from slots next → next ≤ from
+  pub joined-quiet : {t from : ℕ} {slots : List Slot} {next : ℕ} → Joined p rs t from slots next → next ≤ from
       → taken p t (take (p .n) slots) ≡ take (p .n) slots
-  joined-quiet t from slots next j h = rw (j .quiet h) (taken-quiet p t (stateAt p rs t) (stateAt-old p rs t))
+  joined-quiet {t} j h = rw (j .quiet h) (taken-quiet p t (stateAt p rs t) (stateAt-old p rs t))
 
   -- the day ends
-  pub standing-next : (t from : ℕ) (slots : List Slot) (next : ℕ) (tally : Tally) (e : Evening) → ((i : ℕ) → i < t → lateOn p rs i ≡ 0)
+  pub standing-next : {t from : ℕ} {slots : List Slot} {next : ℕ} {tally : Tally} {e : Evening} → ((i : ℕ) → i < t → lateOn p rs i ≡ 0)
       → lateOn p rs t ≡ 0 → tally ≡ tallyOf p rs t → Joined p rs t from slots next → EndedOn p t slots e
       → Standing p rs (t + 1) (e .slots) next (addedTo tally (e .used))
   unfolding stateAt morning useOn
-  standing-next t from slots next tally e clean now count j ended =
+  standing-next {t} {e = e} clean now count j ended =
       record {
         state = rw add-one (ended .after ∙ ap (λ ss. spent (given (taken p t ss))) (j .state));
         clean = λ i h. elim (ℕ-discrete i t) [ yes same ↦ rw same now | no before ↦ clean i (omega arith) ];

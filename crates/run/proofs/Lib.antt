@@ -1,12 +1,7 @@
 -- Why the code of the run meets its definition, in the order in which the parts build on each other.
-pub mod Chosen
-pub mod Places
-pub mod Steps
-pub mod Moving
-pub mod Filling
-pub mod Releases
-pub mod Joining
+pub mod FirstSlots
+pub mod MayJoin
+pub mod JoinList
 pub mod State
 pub mod Counting
-pub mod Ending
 pub mod Daily

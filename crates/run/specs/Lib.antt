@@ -1,6 +1,4 @@
 -- What the code of the run promises beside the definitions of `rules`.
-pub mod Job
-pub mod Question
 pub mod Day
 pub mod Tally
 pub mod Join

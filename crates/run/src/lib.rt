@@ -1,21 +1,21 @@
 // The run, day by day: what the bank does under a plan and a list of releases, and how the run ends.
-mod job; // job.rt: what happens to a job alone
-mod question; // question.rt: what is asked of the slots
-mod slots; // slots.rt: slots by place
+mod change; // change.rt: slots with one job made another
 mod release; // release.rt: step 2
-mod day; // day.rt: the other steps of a day
+mod day; // day.rt: steps 3 to 5
 mod tally; // tally.rt: the days by kind
 
-use day::late_place;
 use day::rest_of_day;
 use days::Day;
 use days::Length;
 use faults::Checked;
-use release::empty_slots;
+use release::day_after;
 use release::join;
 use rules::Outcome;
 use rules::Plan;
 use rules::Releases;
+use slots::Question;
+use slots::chosen_place;
+use slots::empty_slots;
 use tally::Tally;
 use tally::clean;
 use tally::counted;
@@ -43,7 +43,7 @@ fn run_days(p: Plan, rs: Releases) -> Outcome
     ensures exact { λ r. ⌜ r ≡ runOf p (releasesOf rs) ⌝ }
 {
     let n = p.n;
-    let end = p.run.0;
+    let end = day_after(Day(0), p.run);
     let strings = p.strings;
     let count = rs.count;
     let list = rs.list;
@@ -54,10 +54,9 @@ fn run_days(p: Plan, rs: Releases) -> Outcome
         idle: Length(0),
     };
     let mut next: usize = 0;
-    let mut t: u32 = 0;
-    while t < end {
-        let today = Day(t);
-        let late = late_place(slots, n, today);
+    let mut today = Day(0);
+    while today.before(end) {
+        let late = chosen_place(Question::Late { day: today }, slots, n);
         if late != 0 {
             return Outcome::Miss {
                 day: today,
@@ -67,7 +66,7 @@ fn run_days(p: Plan, rs: Releases) -> Outcome
         let first = next;
         while next < count {
             let r = list[next];
-            if r.day.0 != t {
+            if r.day.0 != today.0 {
                 break;
             }
             let joined = join(slots, p, r, next + 1);
@@ -79,13 +78,12 @@ fn run_days(p: Plan, rs: Releases) -> Outcome
         let used = evening.used;
         slots = after;
         tally = counted(tally, used);
-        t += 1;
+        today = day_after(today, Length(1));
     }
-    let last = Day(end);
-    let late = late_place(slots, n, last);
+    let late = chosen_place(Question::Late { day: end }, slots, n);
     if late != 0 {
         return Outcome::Miss {
-            day: last,
+            day: end,
             place: late,
         };
     }

@@ -1,22 +1,20 @@
-// The slots before any release, and step 2: a release joins.
+// Step 2: a release joins.
 use days::Day;
 use days::Later;
 use days::Length;
-use rules::BatteryString;
 use rules::Job;
 use rules::Plan;
 use rules::Release;
 use rules::Slot;
 ghost use mathlib.Core.Path.{_≡_};
-ghost use mathlib.Core.List.{map};
 ghost use Prim.Native.Nat.{_+_, _-_, _<_, _^_};
 ghost use lib.ListN.{set};
 ghost use Rattle.days.specs.Days.{day};
-ghost use Rattle.rules.specs.Run.{emptySlot, newSlot};
+ghost use Rattle.rules.specs.Run.{newSlot};
 ghost use Rattle.run.specs.Join.{Joins};
 
 // The day that lies `length` after `from`, where the code's numbers can say it.
-fn day_after(from: Day, length: Length) -> Day
+pub(crate) fn day_after(from: Day, length: Length) -> Day
     requires { ⌜ from .0 + length .0 < 2 ^ 32 ⌝ }
     ensures exact { λ r. ⌜ r ≡ day (from .0 + length .0) ⌝ }
 {
@@ -50,30 +48,4 @@ pub(crate) fn join(slots: [Slot; 10], p: Plan, r: Release, serves: usize) -> [Sl
         serves,
     };
     joined
-}
-
-fn empty_slot(string: BatteryString) -> Slot
-    ensures exact { λ r. ⌜ r ≡ emptySlot string ⌝ }
-{
-    Slot {
-        string,
-        job: Job::Empty,
-        release: Day(0),
-        deadline: Day(0),
-        serves: 0,
-    }
-}
-
-// The slots of day 0: a slot for each string, and no job.
-pub(crate) fn empty_slots(strings: [BatteryString; 10]) -> [Slot; 10]
-    ensures exact { λ r. ⌜ r ≡ map emptySlot strings ⌝ }
-{
-    let mut slots = [empty_slot(strings[0]); 10];
-    let mut i: usize = 1;
-    while i < 10 {
-        let string = strings[i];
-        slots[i] = empty_slot(string);
-        i += 1;
-    }
-    slots
 }

@@ -2,11 +2,12 @@
 use Prim.Native.Nat.{ℕ, _/_, _%_}
 use mathlib.Core.Path.{_≡_, refl, sym, ap, _∙_}
 use mathlib.Core.List.{List, [], _∷_}
+use Rattle.lists.specs.Count.{firstOf}
 use Rattle.faults.specs.declared.Checked.the-variants.{Lawful}
 use Rattle.rules.specs.declared.BatteryString.{BatteryString}
 use Rattle.rules.specs.declared.Plan.{Plan}
 use Rattle.rules.specs.Verdict.{verdictOf, isPass}
-use Rattle.rules.specs.Search.{permit, withSet, setPasses, ordered, firstPassing, searchOf}
+use Rattle.rules.specs.Search.{permit, withSet, setPasses, ordered, assigned, firstPassing, searchOf}
 use Rattle.rules.specs.Refusal.{planCheck, setCheck, verdictAnswer, setAnswer, searchAnswer}
 use Rattle.laws.proofs.Lawful.{planCheck-lawful}
 use Rattle.laws.proofs.LawfulChecked.{lawful-checked}
@@ -32,15 +33,16 @@ unfolding setPasses
 same-sets p q h m =
     ap (λ r. isPass (verdictOf r)) (sym (withSet-again p 0 m) ∙ ap (λ r. withSet r m) h ∙ withSet-again q 0 m)
 
-same-first : (p q : Plan) → ((m : ℕ) → setPasses p m ≡ setPasses q m) → (ms : List ℕ) → firstPassing p ms ≡ firstPassing q ms
-unfolding firstPassing
+same-first : (p q : Plan) → ((m : ℕ) → setPasses p m ≡ setPasses q m) → (ms : List ℕ)
+    → firstOf (setPasses p) ms ≡ firstOf (setPasses q) ms
+unfolding firstOf
 same-first p q same [] = refl
 same-first p q same (m ∷ ms) = rw (same m, same-first p q same ms)
 
 same-search : (p q : Plan) → withSet p 0 ≡ withSet q 0 → searchOf p ≡ searchOf q
 unfolding searchOf withSet
 same-search p q h =
-    same-first p q (same-sets p q h) (ordered (p .n)) ∙ ap (λ n. firstPassing q (ordered n)) (ap (λ r. r .n) h)
+    ap assigned (same-first p q (same-sets p q h) (ordered (p .n))) ∙ ap (λ n. firstPassing q (ordered n)) (ap (λ r. r .n) h)
 
 -- plans that differ in X alone, each within its bounds, are answered alike
 pub search-blind-to-x : (p q : Plan) → planCheck p ≡ Lawful → planCheck q ≡ Lawful → withSet p 0 ≡ withSet q 0

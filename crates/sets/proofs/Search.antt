@@ -2,22 +2,24 @@
 -- is smaller, and "none" is given exactly if no set below 2^n passes. It names one answer.
 --     Best p m              m passes, no passing set has fewer ones, and none with as many ones is smaller
 use Prim.Native.Nat.{ℕ, _^_, _≤_, _<_}
-use mathlib.Core.Path.{_≡_, sym, ap, _∙_}
+use mathlib.Core.Path.{_≡_, refl, sym, ap, _∙_}
 use mathlib.Core.Logic.{_⊎_, inl, inr, _↔_}
 use mathlib.Core.Bool.{true, false}
+use mathlib.Core.Option.{Option, none, some}
 use native.Mathlib.Omega.{arith}
 use native.Mathlib.Nat.{le-antisymm, le-refl}
 use lib.Count.{ones}
 use Rattle.rules.specs.declared.Plan.{Plan}
 use Rattle.rules.specs.declared.Assign.the-variants.{Takers, Nobody}
 use Rattle.rules.specs.Demand.{Passes}
-use Rattle.rules.specs.Search.{withSet, setPasses, ordered, searchOf}
+use Rattle.lists.specs.Count.{firstOf}
+use Rattle.rules.specs.Search.{assigned, withSet, setPasses, ordered, searchOf}
 use Rattle.lists.proofs.Lists.{true-not-false}
 use Rattle.laws.proofs.Lawful.{LawfulPlan}
 use Rattle.horizon.proofs.Verdict.{pass-exactly}
 use Rattle.horizon.proofs.Sets.{withSet-lawful}
-use Rattle.sets.proofs.First.{firstPassing-answers, nobody-passes, passes-nobody, firstPassing-passes, firstPassing-in, firstPassing-least}
-use Rattle.sets.proofs.First.{Sooner, all-sets, sets-all, sets-rising}
+use Rattle.lists.proofs.FirstOf.{firstOf-none, firstOf-passes, firstOf-in, firstOf-least}
+use Rattle.sets.proofs.SetOrder.{Sooner, all-sets, sets-all, sets-rising}
 
 -- ---- What it is for a set to pass
 
@@ -28,20 +30,36 @@ setPasses-exactly p ok m = pass-exactly (withSet p m) (withSet-lawful p m ok)
 
 -- ---- What the search finds
 
+assigned-takers : (o : Option ℕ) (m : ℕ) → assigned o ≡ Takers m → o ≡ some m
+assigned-takers none m h =
+    let z : _≡_ {A = ℕ} 0 1 = cc in
+    absurd (omega arith)
+assigned-takers (some k) m h =
+    let same : k ≡ m = cc in
+    ap some same
+
+assigned-nobody : (o : Option ℕ) → assigned o ≡ Nobody → o ≡ none
+assigned-nobody none h = refl
+assigned-nobody (some k) h =
+    let z : _≡_ {A = ℕ} 0 1 = cc in
+    absurd (omega arith)
+
 module _ (p : Plan) (m : ℕ) (found : searchOf p ≡ Takers m) where
   pub search-passes : (setPasses p m ≡ true) × (m < 2 ^ p .n)
   unfolding searchOf
-  search-passes = (
-    firstPassing-passes p (ordered (p .n)) m found,
-    firstPassing-in p (λ k. k < 2 ^ p .n) (ordered (p .n)) m (all-sets (p .n) (λ k. k < 2 ^ p .n) (λ k below. below)) found,
-  )
+  search-passes =
+      let first = assigned-takers (firstOf (setPasses p) (ordered (p .n))) m found in (
+        firstOf-passes (setPasses p) (ordered (p .n)) m first,
+        firstOf-in (setPasses p) (λ k. k < 2 ^ p .n) (ordered (p .n)) m (all-sets (p .n) (λ k. k < 2 ^ p .n) (λ k below. below)) first,
+      )
 
   -- every other passing set comes later in the search's order
   pub search-first : (k : ℕ) → k < 2 ^ p .n → setPasses p k ≡ true → (m ≡ k) ⊎ Sooner m k
   unfolding searchOf
   search-first =
       sets-all (p .n) (λ k. setPasses p k ≡ true → (m ≡ k) ⊎ Sooner m k)
-      (firstPassing-least p Sooner (ordered (p .n)) m (sets-rising (p .n)) found)
+      (firstOf-least (setPasses p) Sooner (ordered (p .n)) m (sets-rising (p .n))
+      (assigned-takers (firstOf (setPasses p) (ordered (p .n))) m found))
 
   pub search-fewest : (k : ℕ) → k < 2 ^ p .n → setPasses p k ≡ true → ones m ≤ ones k
   search-fewest k below passes = fewest (search-first k below passes)
@@ -64,11 +82,13 @@ module _ (p : Plan) (m : ℕ) (found : searchOf p ≡ Takers m) where
 module _ (p : Plan) where
   pub search-none : searchOf p ≡ Nobody → (k : ℕ) → k < 2 ^ p .n → setPasses p k ≡ false
   unfolding searchOf
-  search-none h = sets-all (p .n) (λ k. setPasses p k ≡ false) (nobody-passes p (ordered (p .n)) h)
+  search-none h =
+      let first = assigned-nobody (firstOf (setPasses p) (ordered (p .n))) h in
+      sets-all (p .n) (λ k. setPasses p k ≡ false) (firstOf-none (setPasses p) (ordered (p .n)) .0 first)
 
   pub none-search : ((k : ℕ) → k < 2 ^ p .n → setPasses p k ≡ false) → searchOf p ≡ Nobody
   unfolding searchOf
-  none-search h = passes-nobody p (ordered (p .n)) (all-sets (p .n) (λ k. setPasses p k ≡ false) h)
+  none-search h = ap assigned (firstOf-none (setPasses p) (ordered (p .n)) .1 (all-sets (p .n) (λ k. setPasses p k ≡ false) h))
 
 -- ---- One answer
 
@@ -94,13 +114,12 @@ best-unique p m k a b =
     le-antisymm (a .smallest k (b .below) (b .passes) (sym as-many)) (b .smallest m (a .below) (a .passes) as-many)
 
 pub best-search : (p : Plan) (m : ℕ) → Best p m → searchOf p ≡ Takers m
-unfolding searchOf
-best-search p m best = which (firstPassing-answers p (ordered (p .n)))
+best-search p m best = which (firstOf (setPasses p) (ordered (p .n))) refl
   where
-    which : (searchOf p ≡ Nobody) ⊎ ((k : ℕ) × (searchOf p ≡ Takers k)) → searchOf p ≡ Takers m
-    which (inl none-is) = absurd (true-not-false (sym (best .passes) ∙ search-none p none-is m (best .below)))
-    which (inr found) = found .1 ∙ ap Takers (best-unique p (found .0) m (search-best p (found .0) (found .1)) best)
-
--- the search gives the set m exactly if m is best
-pub search-exactly : (p : Plan) (m : ℕ) → (searchOf p ≡ Takers m) ↔ Best p m
-search-exactly p m = (search-best p m, best-search p m)
+    which : (o : Option ℕ) → firstOf (setPasses p) (ordered (p .n)) ≡ o → searchOf p ≡ Takers m
+    which none e =
+        let nobody : searchOf p ≡ Nobody = unfold searchOf in ap assigned e in
+        absurd (true-not-false (sym (best .passes) ∙ search-none p nobody m (best .below)))
+    which (some k) e =
+        let found : searchOf p ≡ Takers k = unfold searchOf in ap assigned e in
+        found ∙ ap Takers (best-unique p k m (search-best p k found) best)

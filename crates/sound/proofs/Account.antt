@@ -24,7 +24,8 @@ use Rattle.rules.specs.Release.{firstUnlawful}
 use Rattle.rules.specs.Demand.{holdOf}
 use Rattle.rules.specs.Run.{onBank, waits, left}
 use Rattle.lists.proofs.Lists.{true-not-false}
-use Rattle.sound.proofs.Chosen.{at, Choice}
+use Rattle.laws.proofs.Slots.{at}
+use Rattle.laws.proofs.Choice.{Choice}
 use Rattle.sound.proofs.Places.{holder-choice}
 use Rattle.laws.proofs.ReleaseList.{str, Released, released-apart}
 use Rattle.lists.proofs.Sums.{sumTo, sumTo-none, sumTo-part}
@@ -135,7 +136,8 @@ module _ (p : Plan) (rs : List Release) (d t : ℕ) (ss : List Slot) (o : Orderl
           let on = one .2 .passes in
           let l = live-if-on p rs t h (at ss h) (o .sits h a) on in
           let far = holder-far h a l in
-          blocked h a on far (omega arith) (omega (arith, l .cap, on-held (at ss h .job) on)) (omega (arith, l .due, l .before)) (λ j e x. refl)
+          blocked h a on far (omega arith) (omega (arith, l .cap, on-held (at ss h .job) on)) (omega (arith, l .due, l .before))
+          (λ j e x. refl)
 
   pub opened : Mode p rs d t ss
   opened = record { start = t; b = 0; k = λ j. 0; account = opened-account; phase = opened-phase }

@@ -1,15 +1,16 @@
 -- Steps 2 and 3 keep the slots orderly, where nobody is late: a release joins an empty slot, since D ≤ T, and who pays came today.
 use Prim.Native.Nat.{ℕ, suc, _+_, _≤_, _<_}
-use mathlib.Core.Path.{_≡_, refl, sym, ap, _∙_}
+use mathlib.Core.Path.{_≡_, sym, ap, _∙_}
 use mathlib.Core.Logic.{inl, inr}
 use mathlib.Core.Bool.{true}
 use mathlib.Core.List.{List}
 use native.Mathlib.Omega.{arith}
 use lib.ListN.{length, getD}
+use Rattle.days.specs.Days.{days}
 use Rattle.rules.specs.declared.Plan.{Plan}
 use Rattle.rules.specs.declared.Release.{Release}
 use Rattle.rules.specs.declared.Slot.{Slot}
-use Rattle.rules.specs.declared.Job.the-variants.{Empty}
+use Rattle.rules.specs.declared.Job.the-variants.{Empty, Waiting}
 use Rattle.rules.specs.Plan.{stringsOf, stringAt, noString}
 use Rattle.rules.specs.Release.{noRelease, firstUnlawful}
 use Rattle.rules.specs.Demand.{movingCost, holdOf}
@@ -17,13 +18,13 @@ use Rattle.rules.specs.Run.{onBank, waits, left, newSlot, joined, taken, lateAt
 use Rattle.lists.proofs.Lists.{true-not-false, all-at}
 use Rattle.laws.proofs.Lawful.{LawfulPlan, LawfulString}
 use Rattle.sound.specs.Served.{payerIn}
-use Rattle.sound.proofs.Chosen.{at}
+use Rattle.laws.proofs.Slots.{at, newSlot-string, newSlot-job, newSlot-release, newSlot-deadline, newSlot-serves}
 use Rattle.sound.proofs.Places.{late-none}
 use Rattle.laws.proofs.ReleaseList.{str, Released, release-lawful, release-string, released-apart}
 use Rattle.sound.proofs.Joining.{Joined, NoneCame, joined-at, joined-length}
 use Rattle.sound.proofs.Taking.{Taker, taken-taking}
 use Rattle.laws.proofs.Demand.{holdOf-work, holdOf-taker}
-use Rattle.sound.proofs.Orderly.{Live, Sits, Orderly, live-if-waits, taken-orderly}
+use Rattle.sound.proofs.Orderly.{held, Live, Sits, Orderly, live-if-waits, taken-orderly}
 
 pub lawful-str : (p : Plan) → LawfulPlan p → (j : ℕ) → j < length (stringsOf p) → LawfulString (str p j)
 lawful-str p lawful j h = all-at LawfulString (stringsOf p) noString (lawful .each) j h
@@ -68,20 +69,23 @@ module _ (p : Plan) (rs : List Release) (lawful : LawfulPlan p) (listed : firstU
     -- a new job is live
     new-live : (j m : ℕ) → j < length (stringsOf p) → m < length rs → getD rs m noRelease .place ≡ suc j → getD rs m noRelease .day .0 ≡ t
         → Live p rs (suc t) j (newSlot p (getD rs m noRelease) (suc m))
-    unfolding newSlot
     new-live j m a h place day =
         let r = getD rs m noRelease in
+        let new = newSlot p r (suc m) in
         let good = release-lawful p rs listed m h in
         let s : stringAt p (r .place) ≡ str p j = release-string p rs j m place in
         let most : r .need .0 ≤ str p j .c .0 = rw s at (good .needMax) in
-        let until : r .day .0 + stringAt p (r .place) .d .0 ≡ r .day .0 + str p j .d .0 = ap (λ b. r .day .0 + b .d .0) s in
+        let job : new .job ≡ Waiting (r .need) (days 0) = newSlot-job p r (suc m) in
+        let from : new .release .0 ≡ r .day .0 = ap (λ d. d .0) (newSlot-release p r (suc m)) in
+        let until : new .deadline .0 ≡ r .day .0 + str p j .d .0 =
+        ap (λ d. d .0) (newSlot-deadline p r (suc m)) ∙ ap (λ b. r .day .0 + b .d .0) s in
         record {
-          some = omega (arith, good .needPos);
-          released = (m, h, place, refl);
-          named = refl;
+          some = omega (arith, ap left job, good .needPos);
+          released = (m, h, place, sym from);
+          named = newSlot-serves p r (suc m);
           before = omega arith;
-          due = until;
-          cap = omega (arith, holdOf-work p (str p j));
+          due = omega arith;
+          cap = omega (arith, ap left job, ap held job, holdOf-work p (str p j));
           open-still = omega (arith, lawful-str p lawful j a .dPos);
         }
 
@@ -106,20 +110,20 @@ module _ (p : Plan) (rs : List Release) (lawful : LawfulPlan p) (listed : firstU
             }))
 
     joined-string : (j : ℕ) → j < length (stringsOf p) → at (joined p rs t ss) j .string ≡ str p j
-    unfolding newSlot
     joined-string j a = go (arrival j a)
       where
         go : Arrival p rs t j (at ss j) (at (joined p rs t ss) j) → at (joined p rs t ss) j .string ≡ str p j
-        go (arrived m h place day empty is) = ap (λ s. s .string) is ∙ release-string p rs j m place
+        go (arrived m h place day empty is) =
+            ap (λ s. s .string) is ∙ newSlot-string p (getD rs m noRelease) (suc m) ∙ release-string p rs j m place
         go (stayed none is) = ap (λ s. s .string) is ∙ o .string-kept j a
 
     -- who is on the bank was on it before
     pub joined-on : (j : ℕ) → j < length (stringsOf p) → onBank (at (joined p rs t ss) j .job) ≡ true → onBank (at ss j .job) ≡ true
-    unfolding newSlot
     joined-on j a on = go (arrival j a)
       where
         go : Arrival p rs t j (at ss j) (at (joined p rs t ss) j) → onBank (at ss j .job) ≡ true
-        go (arrived m h place day empty is) = absurd (true-not-false (sym on ∙ ap (λ s. onBank (s .job)) is))
+        go (arrived m h place day empty is) =
+            absurd (true-not-false (sym on ∙ ap (λ s. onBank (s .job)) is ∙ ap onBank (newSlot-job p (getD rs m noRelease) (suc m))))
         go (stayed none is) = sym (ap (λ s. onBank (s .job)) is) ∙ on
 
     pub joined-orderly : Orderly p rs (suc t) (joined p rs t ss)
@@ -134,14 +138,14 @@ module _ (p : Plan) (rs : List Release) (lawful : LawfulPlan p) (listed : firstU
     -- who takes the bank came today
     taker-new : (h q : ℕ) → q < length (stringsOf p) → Taker t (at (joined p rs t ss) h) (at (joined p rs t ss) q)
         → left (at (joined p rs t ss) q .job) ≤ str p q .c .0
-    unfolding newSlot
     taker-new h q a k = go (arrival q a)
       where
         go : Arrival p rs t q (at ss q) (at (joined p rs t ss) q) → left (at (joined p rs t ss) q .job) ≤ str p q .c .0
         go (arrived m b place day empty is) =
             let r = getD rs m noRelease in
             let most : r .need .0 ≤ str p q .c .0 = rw (release-string p rs q m place) at (release-lawful p rs listed m b .needMax) in
-            let whole : left (at (joined p rs t ss) q .job) ≡ r .need .0 + 0 = ap (λ s. left (s .job)) is in
+            let whole : left (at (joined p rs t ss) q .job) ≡ r .need .0 + 0 =
+            ap (λ s. left (s .job)) is ∙ ap left (newSlot-job p r (suc m)) in
             omega arith
         go (stayed none is) =
             let w : waits (at ss q .job) ≡ true = sym (ap (λ s. waits (s .job)) is) ∙ k .waiting in

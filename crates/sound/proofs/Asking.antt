@@ -18,11 +18,10 @@ use Rattle.rules.specs.declared.Job.the-variants.{Waiting}
 use Rattle.rules.specs.Plan.{stringsOf}
 use Rattle.rules.specs.Release.{noRelease, firstUnlawful}
 use Rattle.rules.specs.Demand.{holdOf}
-use Rattle.rules.specs.Run.{onBank, waits, left, stopped, newSlot, joined, taken, lateAt}
+use Rattle.rules.specs.Run.{onBank, waits, left, stopped, newSlot, joined, taken, lateAt, putJob}
 use Rattle.lists.proofs.Lists.{by-bool, true-not-false, and-left, and-right}
 use Rattle.laws.proofs.Lawful.{LawfulPlan}
-use Rattle.sound.proofs.Chosen.{at}
-use Rattle.sound.proofs.Places.{putJob}
+use Rattle.laws.proofs.Slots.{at, newSlot-release, newSlot-deadline}
 use Rattle.laws.proofs.ReleaseList.{str, Released, release-string}
 use Rattle.lists.proofs.Sums.{sumTo, sumTo-le, sumTo-add}
 use Rattle.sound.proofs.Orderly.{Sits, Orderly, stopped-left, stopped-off, empty-not-waits, live-if-left}
@@ -52,10 +51,11 @@ module _ (p : Plan) (rs : List Release) (t payer j : ℕ) (s k : Slot) where
   -- a job that waits with today's release day came today
   pub waits-today : Sits p rs t j s → Morning p rs t payer j s k → waits (k .job) ≡ true → k .release .0 ≡ t
       → Released rs j t × (k .deadline .0 ≡ t + str p j .d .0)
-  unfolding newSlot
   waits-today sat (new m h place day empty is) w today =
-      let due : k .deadline .0 ≡ getD rs m noRelease .day .0 + str p j .d .0 =
-      ap (λ x. x .deadline .0) is ∙ ap (λ x. getD rs m noRelease .day .0 + x .d .0) (release-string p rs j m place) in
+      let r = getD rs m noRelease in
+      let due : k .deadline .0 ≡ r .day .0 + str p j .d .0 =
+      ap (λ x. x .deadline .0) is ∙ ap (λ x. x .0) (newSlot-deadline p r (suc m)) ∙ ap (λ x. r .day .0 + x .d .0)
+      (release-string p rs j m place) in
       ((m, h, place, day), omega arith)
   waits-today (inl e) (same none (inl is)) w today = absurd (empty-not-waits (k .job) (ap (λ x. x .job) is ∙ e) w)
   waits-today (inl e) (same none (inr is)) w today = absurd (empty-not-waits (k .job) (ap (λ x. x .job) is ∙ ap stopped e) w)
@@ -66,12 +66,12 @@ module _ (p : Plan) (rs : List Release) (t payer j : ℕ) (s k : Slot) where
   pub new-waits : (m : ℕ) → getD rs m noRelease .place ≡ suc j → getD rs m noRelease .day .0 ≡ t
       → k ≡ putJob (newSlot p (getD rs m noRelease) (suc m)) (Waiting (getD rs m noRelease .need) (days (fee p payer j)))
       → (waits (k .job) ≡ true) × (k .release .0 ≡ t)
-  unfolding newSlot
-  new-waits m place day is = (ap (λ x. waits (x .job)) is, ap (λ x. x .release .0) is ∙ day)
+  new-waits m place day is =
+      let from = ap (λ x. x .0) (newSlot-release p (getD rs m noRelease) (suc m)) in
+      (ap (λ x. waits (x .job)) is, ap (λ x. x .release .0) is ∙ from ∙ day)
 
   -- who is on the bank is as he was
   pub on-same : Morning p rs t payer j s k → onBank (k .job) ≡ true → k ≡ s
-  unfolding newSlot
   on-same (new m h place day empty is) on = absurd (true-not-false (sym on ∙ ap (λ x. onBank (x .job)) is))
   on-same (same none (inl is)) on = is
   on-same (same none (inr is)) on = absurd (true-not-false (sym on ∙ ap (λ x. onBank (x .job)) is ∙ stopped-off (s .job)))

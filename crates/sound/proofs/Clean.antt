@@ -15,7 +15,8 @@ use Rattle.rules.specs.Release.{firstUnlawful}
 use Rattle.rules.specs.Demand.{Passes}
 use Rattle.rules.specs.Run.{emptySlot, left, morning, stateAt, lateOn, daysOf, isWork, isMove, isIdle, runOf}
 use Rattle.laws.proofs.Lawful.{LawfulPlan}
-use Rattle.sound.proofs.Chosen.{at}
+use Rattle.laws.proofs.Slots.{at}
+use Rattle.laws.proofs.History.{missDay-none, runOf-clean}
 use Rattle.sound.proofs.Places.{late-nobody}
 use Rattle.laws.proofs.ReleaseList.{str}
 use Rattle.lists.proofs.Sums.{sumTo-part, sumTo-none}
@@ -23,7 +24,6 @@ use Rattle.sound.proofs.Orderly.{Orderly, empty-not-on}
 use Rattle.sound.proofs.Account.{nearLeft, nearLeft-near, nearLeft-some, backlog, Mode, opened}
 use Rattle.sound.proofs.Keeping.{day-orderly, day-mode}
 use Rattle.sound.proofs.Closing.{account-closes}
-use Rattle.sound.proofs.History.{missDay-none, runOf-clean}
 
 -- ---- The first day
 

@@ -16,7 +16,7 @@ use Rattle.rules.specs.declared.Slot.{Slot}
 use Rattle.rules.specs.Release.{noRelease, firstUnlawful}
 use Rattle.rules.specs.Run.{noSlot, newSlot, joinFrom, joined}
 use Rattle.lists.proofs.Lists.{All, all-by, by-bool}
-use Rattle.sound.proofs.Chosen.{at}
+use Rattle.laws.proofs.Slots.{at}
 use Rattle.laws.proofs.ReleaseList.{release-lawful}
 
 -- one of rs, of the place with index j and of day t, is in the slot s; k is the place in the list of the first of rs

@@ -19,7 +19,8 @@ use Rattle.rules.specs.Demand.{holdOf}
 use Rattle.rules.specs.Run.{onBank, waits, left, given, spent, useOf, joined, taken, lateAt}
 use Rattle.lists.proofs.Lists.{by-bool, true-not-false}
 use Rattle.laws.proofs.Lawful.{LawfulPlan}
-use Rattle.sound.proofs.Chosen.{at, Nobody}
+use Rattle.laws.proofs.Slots.{at}
+use Rattle.laws.proofs.Choice.{Nobody}
 use Rattle.laws.proofs.ReleaseList.{str}
 use Rattle.lists.proofs.Sums.{sumTo, sumTo-grown, sumTo-some, sumTo-none}
 use Rattle.sound.proofs.Using.{Using, idleDay, keptDay, givenDay, Used, spent-using, neither-empty, left-empty}
@@ -35,7 +36,8 @@ pub day-orderly : (p : Plan) (rs : List Release) → LawfulPlan p → firstUnlaw
     → Orderly p rs (suc t) (spent (given (taken p t (joined p rs t ss))))
 day-orderly p rs lawful listed t ss o punctual =
     let ks = taken p t (joined p rs t ss) in
-    using-orderly p rs (suc t) ks (spent (given ks)) (useOf (given ks)) (morning-orderly p rs lawful listed t ss o punctual) (spent-using ks)
+    using-orderly p rs (suc t) ks (spent (given ks)) (useOf (given ks)) (morning-orderly p rs lawful listed t ss o punctual)
+    (spent-using ks)
 
 module _ (p : Plan) (rs : List Release) (lawful : LawfulPlan p) (listed : firstUnlawful p rs ≡ 0)
     (t : ℕ) (ss : List Slot) (o : Orderly p rs t ss) (punctual : lateAt t ss ≡ 0) (d : ℕ) (mode : Mode p rs d t ss) where
@@ -147,7 +149,8 @@ module _ (p : Plan) (rs : List Release) (lawful : LawfulPlan p) (listed : firstU
       blocked-phase =
           by-bool (onBank (at es h .job))
           (λ on'.
-          blocked h a on' (omega (arith, turn-due p rs (suc t) d ks es u orderly h k kept-live)) (omega arith) (omega (arith, turned)) long still-no-takers)
+          blocked h a on' (omega (arith, turn-due p rs (suc t) d ks es u orderly h k kept-live)) (omega arith)
+          (omega (arith, turned)) long still-no-takers)
           (λ off.
           flowing
           (λ i b on'.

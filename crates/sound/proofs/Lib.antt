@@ -1,6 +1,5 @@
--- A plan that passes never misses a deadline. Modules stand in the order in which they build on each other; the theorems are in Clean, Answers and Served.
-pub mod History
-pub mod Chosen
+-- A plan that passes never misses a deadline. Modules stand in the order in which they build on each other; the theorems are in
+-- Clean, CleanAnswer and Served.
 pub mod Places
 pub mod Joining
 pub mod Taking
@@ -14,7 +13,7 @@ pub mod Turn
 pub mod Keeping
 pub mod Closing
 pub mod Clean
-pub mod Answers
+pub mod CleanAnswer
 pub mod Parts
 pub mod Progress
 pub mod Served

@@ -1,6 +1,6 @@
 -- Steps 2 and 3 by place: a slot has a new job, with what it pays, and was empty; or it is as it was, but for being stopped.
 --     fee p payer j         the moving days that the place with index j pays
-use Prim.Native.Nat.{ℕ, suc, _+_, _≤_, _<_}
+use Prim.Native.Nat.{ℕ, suc, _≤_, _<_}
 use mathlib.Core.Path.{_≡_, sym, ap, _∙_, subst}
 use mathlib.Core.Logic.{_⊎_, inl, inr, _≢_}
 use mathlib.Core.Bool.{true, cond}
@@ -15,18 +15,17 @@ use Rattle.rules.specs.declared.Plan.{Plan}
 use Rattle.rules.specs.declared.Release.{Release}
 use Rattle.rules.specs.declared.Slot.{Slot}
 use Rattle.rules.specs.declared.Job.the-variants.{Empty, Waiting}
-use Rattle.rules.specs.Plan.{stringsOf, stringAt}
+use Rattle.rules.specs.Plan.{stringsOf}
 use Rattle.rules.specs.Release.{noRelease, firstUnlawful}
 use Rattle.rules.specs.Demand.{movingCost}
-use Rattle.rules.specs.Run.{onBank, waits, stopped, newSlot, joined, taken, lateAt}
+use Rattle.rules.specs.Run.{onBank, waits, stopped, newSlot, joined, taken, lateAt, putJob}
 use Rattle.lists.proofs.Lists.{true-not-false}
 use Rattle.laws.proofs.Lawful.{LawfulPlan}
 use Rattle.sound.specs.Served.{payerIn}
-use Rattle.sound.proofs.Chosen.{at}
-use Rattle.sound.proofs.Places.{putJob}
+use Rattle.laws.proofs.Slots.{at, newSlot-string, newSlot-job, newSlot-own, newSlot-charged}
 use Rattle.laws.proofs.ReleaseList.{str, release-string}
 use Rattle.sound.proofs.Joining.{NoneCame, joined-length}
-use Rattle.sound.proofs.Taking.{Taking, bankFree, bankKept, bankTaken, Taker, taken-taking, chargedSlot, taker-mayTake}
+use Rattle.sound.proofs.Taking.{Taking, bankFree, bankKept, bankTaken, Taker, taken-taking, chargedSlot, mayTake-exactly}
 use Rattle.sound.proofs.Orderly.{Orderly, live-if-waits, took-off}
 use Rattle.sound.proofs.Arriving.{Arrival, arrived, stayed, arrival, joined-orderly}
 
@@ -48,30 +47,31 @@ module _ (p : Plan) (rs : List Release) (lawful : LawfulPlan p) (listed : firstU
   -- nobody pays here
   unpaid : (payer j : ℕ) (k : Slot) → payer ≢ suc j → k ≡ at js j → Arrival p rs t j (at ss j) (at js j)
       → Morning p rs t payer j (at ss j) k
-  unfolding newSlot
   unpaid payer j k other is (arrived m h place day empty came) =
+      let r = getD rs m noRelease in
       let free : fee p payer j ≡ 0 = rw (ne-eqb payer (suc j) other) in
       new m h place day empty
-      (is ∙ came ∙ ap (λ a. putJob (newSlot p (getD rs m noRelease) (suc m)) (Waiting (getD rs m noRelease .need) (days a))) (sym free))
+      (is ∙ came ∙ newSlot-own p r (suc m) ∙ ap (λ a. putJob (newSlot p r (suc m)) (Waiting (r .need) (days a))) (sym free))
   unpaid payer j k other is (stayed none came) = same none (inl (is ∙ came))
 
   -- the holder is stopped
   stopped-here : (payer j : ℕ) (k : Slot) → onBank (at js j .job) ≡ true → k ≡ putJob (at js j) (stopped (at js j .job))
       → Arrival p rs t j (at ss j) (at js j) → Morning p rs t payer j (at ss j) k
-  unfolding newSlot
-  stopped-here payer j k on is (arrived m h place day empty came) = absurd (true-not-false (sym on ∙ ap (λ s. onBank (s .job)) came))
+  stopped-here payer j k on is (arrived m h place day empty came) =
+      absurd (true-not-false (sym on ∙ ap (λ s. onBank (s .job)) came ∙ ap onBank (newSlot-job p (getD rs m noRelease) (suc m))))
   stopped-here payer j k on is (stayed none came) = same none (inr (is ∙ ap (λ s. putJob s (stopped (s .job))) came))
 
   -- the payer pays
   paid-here : (h payer j : ℕ) (k : Slot) → j < length (stringsOf p) → payer ≡ suc j → Taker t (at js h) (at js j)
       → k ≡ chargedSlot p (at js j)
       → Arrival p rs t j (at ss j) (at js j) → Morning p rs t payer j (at ss j) k
-  unfolding newSlot
   paid-here h payer j k a pays taker is (arrived m b place day empty came) =
       let r = getD rs m noRelease in
-      let cost : 0 + movingCost p (stringAt p (r .place)) ≡ fee p payer j =
-      rw (eq-eqb payer (suc j) pays, release-string p rs j m place) (omega arith) in
-      new m b place day empty (is ∙ ap (chargedSlot p) came ∙ ap (λ c. putJob (newSlot p r (suc m)) (Waiting (r .need) (days c))) cost)
+      let s = newSlot p r (suc m) in
+      let cost : movingCost p (s .string) ≡ fee p payer j =
+      rw (eq-eqb payer (suc j) pays) (ap (movingCost p) (newSlot-string p r (suc m) ∙ release-string p rs j m place)) in
+      let paid = newSlot-charged p r (suc m) (movingCost p (s .string)) ∙ ap (λ c. Waiting (r .need) (days c)) cost in
+      new m b place day empty (is ∙ ap (chargedSlot p) came ∙ ap (putJob s) paid)
   paid-here h payer j k a pays taker is (stayed none came) =
       let w : waits (at ss j .job) ≡ true = sym (ap (λ s. waits (s .job)) came) ∙ taker .waiting in
       let l = live-if-waits p rs t j (at ss j) (o .sits j a) w in
@@ -99,7 +99,8 @@ module _ (p : Plan) (rs : List Release) (lawful : LawfulPlan p) (listed : firstU
                   (subst (λ i. at ks i ≡ chargedSlot p (at js i)) (sym payer-here) (k .pays))
                   (arrival p rs lawful listed t ss o punctual j a)
               | no apart ↦
-                  unpaid payer j (at ks j) (λ e. apart (omega arith)) (k .rest j other apart) (arrival p rs lawful listed t ss o punctual j a)
+                  unpaid payer j (at ks j) (λ e. apart (omega arith)) (k .rest j other apart)
+                  (arrival p rs lawful listed t ss o punctual j a)
             ]
       ]
 
@@ -119,7 +120,8 @@ module _ (p : Plan) (rs : List Release) (lawful : LawfulPlan p) (listed : firstU
       elim (decLe (at ks h .deadline .0) (at ks j .deadline .0)) [
         | yes fine ↦ fine
         | no late ↦
-            let holder-due : at ks h .deadline .0 ≡ at js g .deadline .0 = ap (λ xs. at xs h .deadline .0) is ∙ ap (λ i. at js i .deadline .0) keeps in
+            let holder-due : at ks h .deadline .0 ≡ at js g .deadline .0 =
+            ap (λ xs. at xs h .deadline .0) is ∙ ap (λ i. at js i .deadline .0) keeps in
             let taker : Taker t (at js g) (at js j) =
             record {
               waiting = sym (ap (λ xs. waits (at xs j .job)) is) ∙ w;
@@ -127,7 +129,8 @@ module _ (p : Plan) (rs : List Release) (lawful : LawfulPlan p) (listed : firstU
               allowed = sym (ap (λ xs. at xs j .string .x) is) ∙ may;
               sooner = omega (arith, ap (λ xs. at xs j .deadline .0) is);
             } in
-            absurd (true-not-false (sym (taker-mayTake t (at js g) (at js j) taker) ∙ none j (omega (arith, joined-length p rs t ss, o .size))))
+            absurd (true-not-false
+            (sym (mayTake-exactly t (at js g) (at js j) .1 taker) ∙ none j (omega (arith, joined-length p rs t ss, o .size))))
       ]
   fair-by ks payer (bankTaken g q k sized pays) h a on j b w today may =
       absurd

@@ -17,7 +17,7 @@ use Rattle.lists.proofs.Lists.{by-bool}
 use Rattle.laws.proofs.Lawful.{LawfulPlan}
 use Rattle.laws.proofs.ReleaseList.{str}
 use Rattle.sound.specs.Served.{released, dueOf, ForRelease, Named}
-use Rattle.sound.proofs.Chosen.{at}
+use Rattle.laws.proofs.Slots.{at}
 use Rattle.sound.proofs.Using.{Using, idleDay, keptDay, givenDay, Used, spent-using}
 use Rattle.sound.proofs.Orderly.{Live, Orderly, live-if-on, live-if-waits}
 use Rattle.sound.proofs.Arriving.{morning-orderly}
@@ -53,7 +53,8 @@ module _ (p : Plan) (rs : List Release) (t : ℕ) where
       let known = live-known h (at ks h) (live-if-on p rs (suc t) h (at ks h) (o .sits h (omega (arith, o .size, used .within))) on) in
       subst (Named p rs t) (sym (used .use-is)) (used-named p rs t (suc h) (at ks h .serves) (seated (at ks h .job)) known)
   named-using ks es u o (givenDay h none waiting first used) =
-      let known = live-known h (at ks h) (live-if-waits p rs (suc t) h (at ks h) (o .sits h (omega (arith, o .size, used .within))) waiting) in
+      let known = live-known h (at ks h)
+      (live-if-waits p rs (suc t) h (at ks h) (o .sits h (omega (arith, o .size, used .within))) waiting) in
       subst (Named p rs t) (sym (used .use-is)) (used-named p rs t (suc h) (at ks h .serves) (seated (at ks h .job)) known)
 
   -- in any run that has not missed by then
@@ -63,4 +64,5 @@ module _ (p : Plan) (rs : List Release) (t : ℕ) where
       let ss = stateAt p rs t in
       let o = orderly-at p rs lawful listed t (λ i a. so-far i (omega arith)) in
       let ks = taken p t (joined p rs t ss) in
-      named-using ks (spent (given ks)) (useOf (given ks)) (morning-orderly p rs lawful listed t ss o (so-far t (omega arith))) (spent-using ks)
+      named-using ks (spent (given ks)) (useOf (given ks)) (morning-orderly p rs lawful listed t ss o (so-far t (omega arith)))
+      (spent-using ks)

@@ -18,10 +18,9 @@ use Rattle.rules.specs.declared.Job.the-variants.{Empty, Waiting, OnBank}
 use Rattle.rules.specs.declared.Use.{Use}
 use Rattle.rules.specs.Plan.{stringsOf}
 use Rattle.rules.specs.Demand.{movingCost, holdOf}
-use Rattle.rules.specs.Run.{onBank, waits, left, stopped, charged, seated, spentJob}
+use Rattle.rules.specs.Run.{onBank, waits, left, stopped, charged, seated, spentJob, putJob}
 use Rattle.lists.proofs.Lists.{by-bool, true-not-false}
-use Rattle.sound.proofs.Chosen.{at}
-use Rattle.sound.proofs.Places.{putJob}
+use Rattle.laws.proofs.Slots.{at}
 use Rattle.laws.proofs.ReleaseList.{str, Released}
 use Rattle.sound.proofs.Taking.{Taking, bankFree, bankKept, bankTaken, Took, Taker}
 use Rattle.sound.proofs.Using.{Using, idleDay, keptDay, givenDay, Used, spent-left, spent-cases, GoneOrOn}
@@ -101,7 +100,15 @@ module _ (p : Plan) (rs : List Release) (t j : ℕ) (s : Slot) (job : Job) where
   -- the same release, with something left and within E
   pub live-put : Live p rs t j s → 1 ≤ left job → left job + held job ≤ holdOf p (str p j) → Live p rs t j (putJob s job)
   live-put l some cap =
-      record { some = some; released = l .released; named = l .named; before = l .before; due = l .due; cap = cap; open-still = l .open-still }
+      record {
+        some = some;
+        released = l .released;
+        named = l .named;
+        before = l .before;
+        due = l .due;
+        cap = cap;
+        open-still = l .open-still;
+      }
 
 -- ---- Step 3
 
@@ -129,7 +136,8 @@ module _ (p : Plan) (rs : List Release) (t day : ℕ) (ss ks : List Slot) (o : O
     pub took-off : (i : ℕ) → i < length (stringsOf p) → onBank (at ks i .job) ≡ false
     took-off i a =
         elim (ℕ-discrete i h) [
-          | yes same ↦ subst (λ m. onBank (at ks m .job) ≡ false) (sym same) (ap (λ s. onBank (s .job)) (k .stops) ∙ stopped-off (at ss h .job))
+          | yes same ↦ subst (λ m. onBank (at ks m .job) ≡ false) (sym same)
+              (ap (λ s. onBank (s .job)) (k .stops) ∙ stopped-off (at ss h .job))
           | no other ↦
               elim (ℕ-discrete i q) [
                 | yes same ↦
@@ -162,13 +170,15 @@ module _ (p : Plan) (rs : List Release) (t day : ℕ) (ss ks : List Slot) (o : O
           | yes same ↦ subst (λ m. at ks m .string ≡ str p m) (sym same) (ap (λ s. s .string) (k .stops) ∙ o .string-kept h (omega arith))
           | no other ↦
               elim (ℕ-discrete i q) [
-                | yes same ↦ subst (λ m. at ks m .string ≡ str p m) (sym same) (ap (λ s. s .string) (k .pays) ∙ o .string-kept q (omega arith))
+                | yes same ↦ subst (λ m. at ks m .string ≡ str p m) (sym same)
+                    (ap (λ s. s .string) (k .pays) ∙ o .string-kept q (omega arith))
                 | no apart ↦ ap (λ s. s .string) (k .rest i other apart) ∙ o .string-kept i a
               ]
         ]
 
   pub taken-orderly : (payer : ℕ) → Taking p day ss ks payer
-      → ((h q : ℕ) → q < length (stringsOf p) → Taker day (at ss h) (at ss q) → left (at ss q .job) + movingCost p (str p q) ≤ holdOf p (str p q))
+      → ((h q : ℕ) → q < length (stringsOf p) → Taker day (at ss h) (at ss q) → left (at ss q .job) + movingCost p (str p q) ≤ holdOf p
+      (str p q))
       → Orderly p rs t ks
   taken-orderly payer (bankFree none same zero-pays) afford = subst (Orderly p rs t) (sym same) o
   taken-orderly payer (bankKept h within on none same zero-pays) afford = subst (Orderly p rs t) (sym same) o

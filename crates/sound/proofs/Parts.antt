@@ -1,48 +1,20 @@
--- The days of work and of moving that are left in a job, apart: a day on the bank takes one of either off, and stopping and giving none.
---     workOf job, movingOf job    the days of work and of moving that are left
+-- A day on the bank takes one day of work or one of moving off the job.
 --     counted b                   1 for a day that is so used, else 0
 use Prim.Native.Nat.{ℕ, _+_, _-_, _≤_, _<_}
 use mathlib.Core.Path.{_≡_, refl}
 use mathlib.Core.Logic.{_≢_}
 use mathlib.Core.Bool.{Bool, cond}
 use native.Mathlib.Omega.{arith}
-use borrow.Author.Tests.{eq-eqb, ne-eqb, eqb-true, ltb-true, ltb-false}
-use lib.Dec.{eqb, ltb}
+use borrow.Author.Tests.{eq-eqb, ne-eqb, ltb-true, ltb-false}
+use lib.Dec.{ltb}
 use Rattle.days.specs.declared.Length.{Length}
 use Rattle.days.specs.Days.{days}
 use Rattle.rules.specs.declared.Job.{Job}
 use Rattle.rules.specs.declared.Job.the-variants.{Empty, Waiting, OnBank}
-use Rattle.rules.specs.Run.{left, stopped, seated, spentJob, onOrGone, usedFor}
+use Rattle.rules.specs.Run.{left, seated, spentJob, usedFor}
 use Rattle.lists.proofs.Lists.{by-bool}
+use Rattle.laws.proofs.JobParts.{workOf, movingOf, onOrGone-parts}
 use Rattle.sound.specs.Served.{worksFor, movesFor}
-
-abbrev pub workOf : Job → ℕ
-workOf Empty = 0
-workOf (Waiting w m) = w .0
-workOf (OnBank w m) = w .0
-
-abbrev pub movingOf : Job → ℕ
-movingOf Empty = 0
-movingOf (Waiting w m) = m .0
-movingOf (OnBank w m) = m .0
-
-pub parts-left : (job : Job) → workOf job + movingOf job ≡ left job
-parts-left Empty = refl
-parts-left (Waiting w m) = refl
-parts-left (OnBank w m) = refl
-
-pub stopped-parts : (job : Job) → (workOf (stopped job) ≡ workOf job) × (movingOf (stopped job) ≡ movingOf job)
-stopped-parts Empty = (refl, refl)
-stopped-parts (Waiting w m) = (refl, refl)
-stopped-parts (OnBank w m) = (refl, refl)
-
-onOrGone-parts : (w m : Length) → (workOf (onOrGone w m) ≡ w .0) × (movingOf (onOrGone w m) ≡ m .0)
-onOrGone-parts w m =
-    by-bool (eqb (w .0 + m .0) 0)
-    (λ t.
-    let none : w .0 + m .0 ≡ 0 = eqb-true _ _ t in
-    (rw t (omega arith), rw t (omega arith)))
-    (λ f. (rw f, rw f))
 
 -- 1 for a day that is so used
 abbrev pub counted : Bool → ℕ
@@ -65,11 +37,6 @@ spent-parts-on i k w m some =
     let still : m .0 ≤ 0 = ltb-false _ _ f in
     let parts = onOrGone-parts (days (w .0 - 1)) m in
     (rw (f, eq-eqb k k refl) (omega (arith, parts .0)), rw f (omega (arith, parts .1))))
-
-pub seated-parts : (job : Job) → (workOf (seated job) ≡ workOf job) × (movingOf (seated job) ≡ movingOf job)
-seated-parts Empty = (refl, refl)
-seated-parts (Waiting w m) = (refl, refl)
-seated-parts (OnBank w m) = (refl, refl)
 
 pub spent-parts : (i k : ℕ) (job : Job) → 1 ≤ left job → Parts i k (seated job) (spentJob (seated job))
 spent-parts i k Empty some = absurd (omega arith)

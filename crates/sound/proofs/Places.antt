@@ -1,20 +1,18 @@
--- Who is late, who holds the bank, who pays and who is next, by place; and what `withJob` does to each place.
---     putJob s j            the slot s with the job j
-use Prim.Native.Nat.{ℕ, suc, _-_, _≤_, _<_}
-use mathlib.Core.Path.{_≡_, refl, sym, ap, _∙_}
+-- Who is late, who holds the bank, who pays and who is next, by place.
+use Prim.Native.Nat.{ℕ, _-_, _≤_, _<_}
+use mathlib.Core.Path.{_≡_, refl, sym, _∙_}
 use mathlib.Core.Logic.{_⊎_, inl, inr, _≢_}
 use mathlib.Core.Bool.{true, false, _&&_}
 use mathlib.Core.List.{List}
 use native.Mathlib.Omega.{arith}
 use borrow.Author.Tests.{lt-ltb, le-ltb, ltb-true, ltb-false, eqb-true, eq-eqb}
 use lib.Dec.{ltb, eqb}
-use lib.ListN.{length, getD, set, length-set}
-use lib.Seq.{getD-set-same, getD-set-other}
+use lib.ListN.{length}
 use Rattle.rules.specs.declared.Slot.{Slot}
-use Rattle.rules.specs.declared.Job.{Job}
-use Rattle.rules.specs.Run.{slotAt, noSlot, noneAhead, onBank, waits, left, lateSlot, lateAt, holder, mayTake, dueBefore, payer, goesFirst, nextUp, withJob}
+use Rattle.rules.specs.Run.{slotAt, noneAhead, onBank, waits, left, lateSlot, lateAt, holder, mayTake, dueBefore, payer, goesFirst, nextUp}
 use Rattle.lists.proofs.Lists.{by-bool, true-not-false, and-left, and-right, and-both}
-use Rattle.sound.proofs.Chosen.{at, Choice, Order, chosen-choice}
+use Rattle.laws.proofs.Slots.{at}
+use Rattle.laws.proofs.Choice.{Choice, Order, chosen-choice}
 
 -- ---- The three orders
 
@@ -85,9 +83,9 @@ pub holder-choice : (ss : List Slot) → Choice (λ s. onBank (s .job)) noneAhea
 unfolding holder
 holder-choice ss = chosen-choice (λ s. onBank (s .job)) noneAhead noneAhead-order ss (length ss)
 
-pub payer-choice : (t : ℕ) (ss : List Slot) → Choice (mayTake t (slotAt ss (holder ss))) dueBefore ss (length ss) (payer t ss)
+pub payer-choice : (t : ℕ) (ss : List Slot) → Choice (mayTake t (slotAt ss (holder ss) .deadline .0)) dueBefore ss (length ss) (payer t ss)
 unfolding payer
-payer-choice t ss = chosen-choice (mayTake t (slotAt ss (holder ss))) dueBefore dueBefore-order ss (length ss)
+payer-choice t ss = chosen-choice (mayTake t (slotAt ss (holder ss) .deadline .0)) dueBefore dueBefore-order ss (length ss)
 
 pub nextUp-choice : (ss : List Slot) → Choice (λ s. waits (s .job)) goesFirst ss (length ss) (nextUp ss)
 unfolding nextUp
@@ -116,22 +114,3 @@ late-nobody t ss none = go (late-choice t ss)
         let due : s .deadline .0 ≡ t = eqb-true _ _ (and-left today unfinished (o .passes)) in
         let some : 0 < left (s .job) = ltb-true _ _ (and-right today unfinished (o .passes)) in
         absurd (omega (arith, none (c .0) (o .within) due))
-
--- ---- A job in a slot
-
-abbrev pub putJob : Slot → Job → Slot
-putJob s j = record { string = s .string; job = j; release = s .release; deadline = s .deadline; serves = s .serves }
-
-pub withJob-set : (ss : List Slot) (j : ℕ) (x : Job) → withJob ss (suc j) x ≡ set ss j (putJob (at ss j) x)
-withJob-set ss j x =
-    let e : suc j - 1 ≡ j = omega arith in
-    ap (λ i. set ss i (putJob (getD ss i noSlot) x)) e
-
-pub withJob-length : (ss : List Slot) (j : ℕ) (x : Job) → length (withJob ss (suc j) x) ≡ length ss
-withJob-length ss j x = rw withJob-set (length-set ss j (putJob (at ss j) x))
-
-pub withJob-same : (ss : List Slot) (j : ℕ) (x : Job) → j < length ss → at (withJob ss (suc j) x) j ≡ putJob (at ss j) x
-withJob-same ss j x h = rw withJob-set (getD-set-same ss j (putJob (at ss j) x) noSlot h)
-
-pub withJob-other : (ss : List Slot) (j : ℕ) (x : Job) (i : ℕ) → i ≢ j → at (withJob ss (suc j) x) i ≡ at ss i
-withJob-other ss j x i h = rw withJob-set (getD-set-other ss j i (putJob (at ss j) x) noSlot h)

@@ -15,15 +15,15 @@ use Rattle.rules.specs.declared.Slot.{Slot}
 use Rattle.rules.specs.declared.Job.the-variants.{Empty, Waiting}
 use Rattle.rules.specs.declared.Use.{Use}
 use Rattle.rules.specs.Release.{noRelease, firstUnlawful}
-use Rattle.rules.specs.Run.{seated, spentJob, usedFor, newSlot}
+use Rattle.rules.specs.Run.{seated, spentJob, usedFor, newSlot, putJob}
 use Rattle.sound.specs.Served.{worksFor, movesFor}
-use Rattle.sound.proofs.Chosen.{at}
-use Rattle.sound.proofs.Places.{putJob}
+use Rattle.laws.proofs.JobParts.{workOf, movingOf, stopped-parts, seated-parts}
+use Rattle.laws.proofs.Slots.{at, newSlot-serves}
 use Rattle.laws.proofs.ReleaseList.{str, released-once}
 use Rattle.sound.proofs.Using.{Using, idleDay, keptDay, givenDay, Used}
 use Rattle.sound.proofs.Orderly.{Live, Orderly, live-if-on, live-if-waits, used-within}
 use Rattle.sound.proofs.Morning.{Morning, new, same, fee}
-use Rattle.sound.proofs.Parts.{workOf, movingOf, counted, stopped-parts, seated-parts, spent-parts, other-use}
+use Rattle.sound.proofs.Parts.{counted, spent-parts, other-use}
 
 -- the m-th release of rs, from 0, is of the place with index j; works and moves are the days for it so far, and owed is what it pays
 pub data Progress (rs : List Release) (m j owed t works moves : ℕ) (s : Slot) : Type 0 where
@@ -33,7 +33,8 @@ pub data Progress (rs : List Release) (m j owed t works moves : ℕ) (s : Slot) 
   past : getD rs m noRelease .day .0 < t → s .serves ≢ suc m → works ≡ getD rs m noRelease .need .0 → moves ≡ owed
       → Progress rs m j owed t works moves s
 
-module _ (p : Plan) (rs : List Release) (listed : firstUnlawful p rs ≡ 0) (m j : ℕ) (h : m < length rs) (place : getD rs m noRelease .place ≡ suc j)
+module _ (p : Plan) (rs : List Release) (listed : firstUnlawful p rs ≡ 0) (m j : ℕ) (h : m < length rs)
+    (place : getD rs m noRelease .place ≡ suc j)
     (pos : 1 ≤ str p j .t .0) (owed t works moves payer : ℕ) where
   -- ---- The morning: the progress is as of the next day, but for the day's use
 
@@ -45,9 +46,8 @@ module _ (p : Plan) (rs : List Release) (listed : firstUnlawful p rs ≡ 0) (m j
   this-new : (s k : Slot) → getD rs m noRelease .day .0 ≡ t → (getD rs m noRelease .day .0 ≡ t → fee p payer j ≡ owed)
       → k ≡ putJob (newSlot p (getD rs m noRelease) (suc m)) (Waiting (getD rs m noRelease .need) (days (fee p payer j)))
       → Progress rs m j owed t works moves s → Progress rs m j owed (suc t) works moves k
-  unfolding newSlot
   this-new s k day owes is (toCome before w v) =
-      serving (omega arith) (ap (λ x. x .serves) is)
+      serving (omega arith) (ap (λ x. x .serves) is ∙ newSlot-serves p (getD rs m noRelease) (suc m))
       (omega (arith, ap (λ x. workOf (x .job)) is))
       (omega (arith, ap (λ x. movingOf (x .job)) is, owes day))
   this-new s k day owes is (serving before named w v) = absurd (omega arith)
@@ -65,19 +65,21 @@ module _ (p : Plan) (rs : List Release) (listed : firstUnlawful p rs ≡ 0) (m j
       → movingOf (k .job) ≡ movingOf (s .job)
       → Progress rs m j owed t works moves s → Progress rs m j owed (suc t) works moves k
   kept-slot s k other serves-same work-same moving-same (toCome before w v) = toCome (omega arith) w v
-  kept-slot s k other serves-same work-same moving-same (serving before named w v) = serving (omega arith) (serves-same ∙ named) (omega arith) (omega arith)
+  kept-slot s k other serves-same work-same moving-same (serving before named w v) =
+      serving (omega arith) (serves-same ∙ named) (omega arith) (omega arith)
   kept-slot s k other serves-same work-same moving-same (past before named w v) = past (omega arith) (λ e. named (sym serves-same ∙ e)) w v
 
   pub morning-progress : (s k : Slot) → (getD rs m noRelease .day .0 ≡ t → fee p payer j ≡ owed) → Morning p rs t payer j s k
       → Progress rs m j owed t works moves s → Progress rs m j owed (suc t) works moves k
-  unfolding newSlot
   morning-progress s k owes (new i a there day empty is) so-far =
       elim (ℕ-discrete i m) [
         | yes this ↦
             this-new s k (sym (ap (λ n. getD rs n noRelease .day .0) this) ∙ day) owes
-            (is ∙ ap (λ n. putJob (newSlot p (getD rs n noRelease) (suc n)) (Waiting (getD rs n noRelease .need) (days (fee p payer j)))) this)
+            (is ∙ ap (λ n. putJob (newSlot p (getD rs n noRelease) (suc n))
+            (Waiting (getD rs n noRelease .need) (days (fee p payer j)))) this)
             so-far
-        | no other ↦ other-new i s k a there day other empty (ap (λ x. x .serves) is) so-far
+        | no other ↦
+            other-new i s k a there day other empty (ap (λ x. x .serves) is ∙ newSlot-serves p (getD rs i noRelease) (suc i)) so-far
       ]
   morning-progress s k owes (same none (inl is)) so-far =
       kept-slot s k (none m h place) (ap (λ x. x .serves) is) (ap (λ x. workOf (x .job)) is) (ap (λ x. movingOf (x .job)) is) so-far

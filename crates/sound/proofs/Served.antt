@@ -15,15 +15,15 @@ use Rattle.rules.specs.Demand.{Passes}
 use Rattle.rules.specs.Run.{left, given, spent, useOf, joined, taken, morning, stateAt, useOn, lateOn, history}
 use Rattle.laws.proofs.Lawful.{LawfulPlan}
 use Rattle.sound.specs.Served.{released, dueOf, worksFor, movesFor, payerIn, payerOn, paid, movingCaused, Served, Untouched}
-use Rattle.sound.proofs.Chosen.{at}
+use Rattle.laws.proofs.JobParts.{parts-left}
+use Rattle.laws.proofs.Slots.{at}
+use Rattle.laws.proofs.History.{history-next}
 use Rattle.laws.proofs.ReleaseList.{str, release-lawful}
 use Rattle.sound.proofs.Using.{spent-using}
 use Rattle.sound.proofs.Orderly.{live-if-left}
 use Rattle.sound.proofs.Arriving.{lawful-str, morning-orderly}
 use Rattle.sound.proofs.Morning.{fee, morning-place}
-use Rattle.sound.proofs.History.{history-next}
 use Rattle.sound.proofs.Clean.{Punctual, orderly-at, due-done, punctual}
-use Rattle.sound.proofs.Parts.{parts-left}
 use Rattle.sound.proofs.Progress.{Progress, toCome, serving, past, morning-progress, using-progress}
 
 module _ (p : Plan) (rs : List Release) (lawful : LawfulPlan p) (listed : firstUnlawful p rs ≡ 0)
@@ -55,7 +55,8 @@ module _ (p : Plan) (rs : List Release) (lawful : LawfulPlan p) (listed : firstU
       let ks = taken p t js in
       let owes : getD rs m noRelease .day .0 ≡ t → fee p (payerIn t js) j ≡ owed = λ e. ap (λ d. fee p (payerOn p rs d) j) (sym e) in
       let mid =
-      morning-progress p rs listed m j h place (lawful-str p lawful j there .tPos) owed t (works t) (moves t) (payerIn t js) (at ss j) (at ks j)
+      morning-progress p rs listed m j h place (lawful-str p lawful j there .tPos) owed t (works t) (moves t) (payerIn t js) (at ss j)
+      (at ks j)
       owes (morning-place p rs lawful listed t ss o today j there) before in
       let done =
       using-progress p rs m j place owed (suc t) (works t) (moves t) ks (spent (given ks)) (useOf (given ks))
@@ -78,7 +79,8 @@ module _ (p : Plan) (rs : List Release) (lawful : LawfulPlan p) (listed : firstU
           | yes some ↦
               let l = live-if-left p rs e j s (orderly-at p rs lawful listed e so-far .sits j there) some in
               let this : l .released .0 ≡ m = omega (arith, l .named) in
-              let day : getD rs (l .released .0) noRelease .day .0 ≡ getD rs m noRelease .day .0 = ap (λ i. getD rs i noRelease .day .0) this in
+              let day : getD rs (l .released .0) noRelease .day .0 ≡ getD rs m noRelease .day .0 = ap (λ i. getD rs i noRelease .day .0)
+              this in
               due-done p rs lawful listed passes e so-far j there (omega (arith, l .released .3, l .due))
           | no none ↦ omega arith
         ]

@@ -1,8 +1,8 @@
 -- Step 3 by place: the bank is free, or its holder keeps it since nobody may take it, or the holder is stopped and the payer charged.
 use Prim.Native.Nat.{ℕ, suc, _<_}
 use mathlib.Core.Path.{_≡_, sym, ap, _∙_, subst}
-use mathlib.Core.Logic.{inl, inr, _≢_}
-use mathlib.Core.Bool.{true, false, _&&_}
+use mathlib.Core.Logic.{inl, inr, _≢_, _↔_}
+use mathlib.Core.Bool.{true, _&&_}
 use mathlib.Core.List.{List}
 use native.Mathlib.Omega.{arith}
 use borrow.Author.Tests.{eqb-true, eq-eqb, ne-eqb, lt-ltb, ltb-true}
@@ -13,11 +13,13 @@ use Rattle.rules.specs.declared.Slot.{Slot}
 use Rattle.rules.specs.declared.Job.{Job}
 use Rattle.rules.specs.declared.Job.the-variants.{Empty, Waiting, OnBank}
 use Rattle.rules.specs.Demand.{movingCost}
-use Rattle.rules.specs.Run.{slotAt, noneAhead, onBank, waits, holder, mayTake, dueBefore, payer, stopped, charged, stop, charge, taken}
+use Rattle.rules.specs.Run.{slotAt, noneAhead, onBank, waits, holder, mayTake, dueBefore, payer, stopped, charged, stop, charge, taken, putJob}
 use Rattle.lists.proofs.Lists.{true-not-false, and-left, and-right}
 use Rattle.sound.specs.Served.{payerIn}
-use Rattle.sound.proofs.Chosen.{at, slotAt-suc, Nobody, One, Choice}
-use Rattle.sound.proofs.Places.{holder-choice, payer-choice, putJob, withJob-length, withJob-same, withJob-other}
+use Rattle.laws.proofs.Slots.{at, slotAt-suc, change-length, change-same, change-other}
+use Rattle.laws.proofs.Steps.{taken-free, taken-kept, taken-over}
+use Rattle.laws.proofs.Choice.{Nobody, One, Choice}
+use Rattle.sound.proofs.Places.{holder-choice, payer-choice}
 
 pub waits-not-on : (job : Job) → waits job ≡ true → onBank job ≡ true → ⊥
 waits-not-on Empty w o = true-not-false (sym o)
@@ -31,24 +33,23 @@ pub record Taker (t : ℕ) (h s : Slot) : Type 0 where
   pub allowed : s .string .x ≡ 1
   pub sooner : s .deadline .0 < h .deadline .0
 
-pub mayTake-taker : (t : ℕ) (h s : Slot) → mayTake t h s ≡ true → Taker t h s
-mayTake-taker t h s e =
-    let W = waits (s .job) in
-    let T = eqb (s .release .0) t in
-    let X = eqb (s .string .x) 1 in
-    let D = ltb (s .deadline .0) (h .deadline .0) in
-    let wtx = and-left (W && T && X) D e in
-    let wt = and-left (W && T) X wtx in
-    record {
-      waiting = and-left W T wt;
-      today = eqb-true _ _ (and-right W T wt);
-      allowed = eqb-true _ _ (and-right (W && T) X wtx);
-      sooner = ltb-true _ _ (and-right (W && T && X) D e);
-    }
-
-pub taker-mayTake : (t : ℕ) (h s : Slot) → Taker t h s → mayTake t h s ≡ true
-taker-mayTake t h s k =
-    rw (k .waiting, eq-eqb (s .release .0) t (k .today), eq-eqb (s .string .x) 1 (k .allowed)) (lt-ltb _ _ (k .sooner))
+pub mayTake-exactly : (t : ℕ) (h s : Slot) → (mayTake t (h .deadline .0) s ≡ true) ↔ Taker t h s
+mayTake-exactly t h s = (
+  (λ e.
+      let W = waits (s .job) in
+      let T = eqb (s .release .0) t in
+      let X = eqb (s .string .x) 1 in
+      let D = ltb (s .deadline .0) (h .deadline .0) in
+      let wtx = and-left (W && T && X) D e in
+      let wt = and-left (W && T) X wtx in
+      record {
+        waiting = and-left W T wt;
+        today = eqb-true _ _ (and-right W T wt);
+        allowed = eqb-true _ _ (and-right (W && T) X wtx);
+        sooner = ltb-true _ _ (and-right (W && T && X) D e);
+      }),
+  λ k. rw (k .waiting, eq-eqb (s .release .0) t (k .today), eq-eqb (s .string .x) 1 (k .allowed)) (lt-ltb _ _ (k .sooner)),
+)
 
 -- the holder h is stopped and the payer q is charged
 pub record Took (p : Plan) (t : ℕ) (ss ks : List Slot) (h q : ℕ) : Type 0 where
@@ -63,61 +64,43 @@ pub record Took (p : Plan) (t : ℕ) (ss ks : List Slot) (h q : ℕ) : Type 0 wh
 -- ss are the slots before, ks those after; payer is the place of the payer
 pub data Taking (p : Plan) (t : ℕ) (ss ks : List Slot) (payer : ℕ) : Type 0 where
   bankFree : Nobody (λ s. onBank (s .job)) ss (length ss) → ks ≡ ss → payer ≡ 0 → Taking p t ss ks payer
-  bankKept : (h : ℕ) → h < length ss → onBank (at ss h .job) ≡ true → Nobody (mayTake t (at ss h)) ss (length ss) → ks ≡ ss → payer ≡ 0
+  bankKept : (h : ℕ) → h < length ss → onBank (at ss h .job) ≡ true → Nobody (mayTake t (at ss h .deadline .0)) ss (length ss) → ks ≡ ss
+      → payer ≡ 0
       → Taking p t ss ks payer
   bankTaken : (h q : ℕ) → Took p t ss ks h q → length ks ≡ length ss → payer ≡ suc q → Taking p t ss ks payer
 
--- ---- Stopping and charging by place
-
-stop-same : (ss : List Slot) (h : ℕ) → h < length ss → at (stop ss (suc h)) h ≡ putJob (at ss h) (stopped (at ss h .job))
-stop-same ss h k =
-    withJob-same ss h (stopped (slotAt ss (suc h) .job)) k ∙ ap (λ s. putJob (at ss h) (stopped (s .job))) (slotAt-suc ss h)
-
-stop-other : (ss : List Slot) (h i : ℕ) → i ≢ h → at (stop ss (suc h)) i ≡ at ss i
-stop-other ss h i k = withJob-other ss h (stopped (slotAt ss (suc h) .job)) i k
-
-stop-length : (ss : List Slot) (h : ℕ) → length (stop ss (suc h)) ≡ length ss
-stop-length ss h = withJob-length ss h (stopped (slotAt ss (suc h) .job))
-
--- a slot whose job is charged
-abbrev pub chargedSlot : Plan → Slot → Slot
-chargedSlot p s = putJob s (charged (movingCost p (s .string)) (s .job))
-
-charge-same : (p : Plan) (ss : List Slot) (q : ℕ) → q < length ss → at (charge p ss (suc q)) q ≡ chargedSlot p (at ss q)
-charge-same p ss q k =
-    withJob-same ss q (charged (movingCost p (slotAt ss (suc q) .string)) (slotAt ss (suc q) .job)) k
-    ∙ ap (λ s. putJob (at ss q) (charged (movingCost p (s .string)) (s .job))) (slotAt-suc ss q)
-
-charge-other : (p : Plan) (ss : List Slot) (q i : ℕ) → i ≢ q → at (charge p ss (suc q)) i ≡ at ss i
-charge-other p ss q i k = withJob-other ss q (charged (movingCost p (slotAt ss (suc q) .string)) (slotAt ss (suc q) .job)) i k
-
-charge-length : (p : Plan) (ss : List Slot) (q : ℕ) → length (charge p ss (suc q)) ≡ length ss
-charge-length p ss q = withJob-length ss q (charged (movingCost p (slotAt ss (suc q) .string)) (slotAt ss (suc q) .job))
-
 -- ---- The step
+
+-- what paying makes of the job in a slot
+abbrev pay : Plan → Slot → Job
+pay p s = charged (movingCost p (s .string)) (s .job)
+
+abbrev pub chargedSlot : Plan → Slot → Slot
+chargedSlot p s = putJob s (pay p s)
 
 module _ (p : Plan) (t : ℕ) (ss : List Slot) where
   free-taking : holder ss ≡ 0 → Nobody (λ s. onBank (s .job)) ss (length ss) → Taking p t ss (taken p t ss) (payerIn t ss)
-  unfolding taken payerIn
-  free-taking e none = bankFree none (rw (eq-eqb (holder ss) 0 e)) (rw (eq-eqb (holder ss) 0 e))
+  unfolding payerIn
+  free-taking e none = bankFree none (taken-free p t ss e) (rw (eq-eqb (holder ss) 0 e))
 
   module _ (h : ℕ) (e : holder ss ≡ suc h) (one : One (λ s. onBank (s .job)) noneAhead ss (length ss) h) where
-    held-some : eqb (holder ss) 0 ≡ false
-    held-some = ne-eqb (holder ss) 0 (λ z. omega arith)
+    held : holder ss ≢ 0
+    held z = omega arith
 
     held-slot : slotAt ss (holder ss) ≡ at ss h
     held-slot = ap (slotAt ss) e ∙ slotAt-suc ss h
 
-    kept-taking : payer t ss ≡ 0 → Nobody (mayTake t (slotAt ss (holder ss))) ss (length ss) → Taking p t ss (taken p t ss) (payerIn t ss)
-    unfolding taken payerIn
+    payerIn-is : payerIn t ss ≡ payer t ss
+    unfolding payerIn
+    payerIn-is = rw (ne-eqb (holder ss) 0 held)
+
+    kept-taking : payer t ss ≡ 0 → Nobody (mayTake t (slotAt ss (holder ss) .deadline .0)) ss (length ss)
+        → Taking p t ss (taken p t ss) (payerIn t ss)
     kept-taking z none =
-        bankKept h (one .within) (one .passes) (rw held-slot at none) (rw (held-some, eq-eqb (payer t ss) 0 z)) (rw held-some z)
+        bankKept h (one .within) (one .passes) (rw held-slot at none) (taken-kept p t ss held z) (payerIn-is ∙ z)
 
     took-is : (q : ℕ) → payer t ss ≡ suc q → taken p t ss ≡ charge p (stop ss (suc h)) (suc q)
-    unfolding taken
-    took-is q z =
-        let some : eqb (payer t ss) 0 ≡ false = ne-eqb (payer t ss) 0 (λ w. omega arith) in
-        rw (held-some, some, z, e)
+    took-is q z = taken-over p t ss held (λ w. omega arith) ∙ rw (e, z)
 
     took-apart : (q : ℕ) → Taker t (at ss h) (at ss q) → q ≢ h
     took-apart q k same =
@@ -133,28 +116,30 @@ module _ (p : Plan) (t : ℕ) (ss : List Slot) where
           holds = one .passes;
           takes = taker;
           stops =
-              ap (λ ks. at ks h) shape ∙ charge-other p (stop ss (suc h)) q h (λ same. apart (sym same)) ∙ stop-same ss h (one .within);
+              ap (λ ks. at ks h) shape ∙ change-other (pay p) (stop ss (suc h)) q h (λ same. apart (sym same))
+              ∙ change-same (λ s. stopped (s .job)) ss h (one .within);
           pays =
               ap (λ ks. at ks q) shape
-              ∙ charge-same p (stop ss (suc h)) q (omega (arith, stop-length ss h))
-              ∙ ap (chargedSlot p) (stop-other ss h q apart);
-          rest = λ i a b. ap (λ ks. at ks i) shape ∙ charge-other p (stop ss (suc h)) q i b ∙ stop-other ss h i a;
+              ∙ change-same (pay p) (stop ss (suc h)) q (omega (arith, change-length (λ s. stopped (s .job)) ss h))
+              ∙ ap (chargedSlot p) (change-other (λ s. stopped (s .job)) ss h q apart);
+          rest =
+              λ i a b. ap (λ ks. at ks i) shape ∙ change-other (pay p) (stop ss (suc h)) q i b ∙ change-other
+              (λ s. stopped (s .job)) ss h i a;
         }
 
-    took-taking : (q : ℕ) → payer t ss ≡ suc q → One (mayTake t (slotAt ss (holder ss))) dueBefore ss (length ss) q
+    took-taking : (q : ℕ) → payer t ss ≡ suc q → One (mayTake t (slotAt ss (holder ss) .deadline .0)) dueBefore ss (length ss) q
         → Taking p t ss (taken p t ss) (payerIn t ss)
-    unfolding payerIn
     took-taking q z o =
-        let taker : Taker t (at ss h) (at ss q) = mayTake-taker t (at ss h) (at ss q) (rw held-slot at (o .passes)) in
+        let taker : Taker t (at ss h) (at ss q) = mayTake-exactly t (at ss h) (at ss q) .0 (rw held-slot at (o .passes)) in
         bankTaken h q (took-record q z (o .within) taker)
-        (ap length (took-is q z) ∙ charge-length p (stop ss (suc h)) q ∙ stop-length ss h)
-        (rw held-some z)
+        (ap length (took-is q z) ∙ change-length (pay p) (stop ss (suc h)) q ∙ change-length (λ s. stopped (s .job)) ss h)
+        (payerIn-is ∙ z)
 
   pub taken-taking : Taking p t ss (taken p t ss) (payerIn t ss)
   taken-taking = by-holder (holder-choice ss)
     where
       by-payer : (h : ℕ) → holder ss ≡ suc h → One (λ s. onBank (s .job)) noneAhead ss (length ss) h
-          → Choice (mayTake t (slotAt ss (holder ss))) dueBefore ss (length ss) (payer t ss)
+          → Choice (mayTake t (slotAt ss (holder ss) .deadline .0)) dueBefore ss (length ss) (payer t ss)
           → Taking p t ss (taken p t ss) (payerIn t ss)
       by-payer h e one (inl c) = kept-taking h e one (c .0) (c .1)
       by-payer h e one (inr c) = took-taking h e one (c .0) (c .1) (c .2)

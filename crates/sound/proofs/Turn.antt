@@ -12,7 +12,7 @@ use Rattle.rules.specs.declared.Slot.{Slot}
 use Rattle.rules.specs.declared.Use.{Use}
 use Rattle.rules.specs.Plan.{stringsOf}
 use Rattle.rules.specs.Run.{onBank, left}
-use Rattle.sound.proofs.Chosen.{at}
+use Rattle.laws.proofs.Slots.{at}
 use Rattle.lists.proofs.Sums.{sumTo-le, sumTo-less}
 use Rattle.sound.proofs.Using.{Used, spent-left}
 use Rattle.sound.proofs.Orderly.{Live, Orderly}
@@ -48,7 +48,8 @@ module _ (p : Plan) (rs : List Release) (t d : ℕ) (ks es : List Slot) (u : Use
   pub used-near : at ks h .deadline .0 ≤ d → backlog p d es < backlog p d ks
   unfolding backlog
   used-near near =
-      sumTo-less (length (stringsOf p)) (λ j. nearLeft d (at es j)) (λ j. nearLeft d (at ks j)) h (omega (arith, k .within, o .size)) places-less
+      sumTo-less (length (stringsOf p)) (λ j. nearLeft d (at es j)) (λ j. nearLeft d (at ks j)) h
+      (omega (arith, k .within, o .size)) places-less
       (omega (arith, turn-left, nearLeft-near d (at ks h) near, nearLeft-near d (at es h) (omega (arith, turn-due))))
 
   -- who is on the bank at the end of the day used it

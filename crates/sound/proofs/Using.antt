@@ -7,7 +7,7 @@ use mathlib.Core.Bool.{true, false}
 use mathlib.Core.List.{List}
 use native.Mathlib.Omega.{arith}
 use native.Mathlib.Decide.{ℕ-discrete}
-use borrow.Author.Tests.{eqb-true, eqb-false, eq-eqb, ne-eqb, ltb-true, ltb-false}
+use borrow.Author.Tests.{eqb-true, eqb-false, ltb-true, ltb-false}
 use lib.Dec.{eqb, ltb}
 use lib.ListN.{length}
 use Rattle.days.specs.declared.Length.{Length}
@@ -17,10 +17,12 @@ use Rattle.rules.specs.declared.Job.{Job}
 use Rattle.rules.specs.declared.Job.the-variants.{Empty, Waiting, OnBank}
 use Rattle.rules.specs.declared.Use.{Use}
 use Rattle.rules.specs.declared.Use.the-variants.{Idle}
-use Rattle.rules.specs.Run.{slotAt, noneAhead, onBank, waits, left, holder, nextUp, goesFirst, seated, given, spentJob, onOrGone, spent, usedFor, useOf, withJob}
+use Rattle.rules.specs.Run.{slotAt, noneAhead, onBank, waits, left, holder, nextUp, goesFirst, seated, given, spentJob, onOrGone, spent, usedFor, useOf, withJob, putJob}
 use Rattle.lists.proofs.Lists.{by-bool, true-not-false}
-use Rattle.sound.proofs.Chosen.{at, slotAt-suc, Nobody, One, Choice}
-use Rattle.sound.proofs.Places.{holder-choice, nextUp-choice, goesFirst-not, putJob, withJob-length, withJob-same, withJob-other}
+use Rattle.laws.proofs.Slots.{at, slotAt-suc, change-length, change-same, change-other}
+use Rattle.laws.proofs.Steps.{given-held, given-nobody, given-next, useOf-free, useOf-held, spent-free, spent-held}
+use Rattle.laws.proofs.Choice.{Nobody, One, Choice}
+use Rattle.sound.proofs.Places.{holder-choice, nextUp-choice, goesFirst-not}
 
 -- ---- Jobs
 
@@ -101,37 +103,23 @@ pub data Using (ks es : List Slot) (u : Use) : Type 0 where
 
 -- the holder uses the day
 module _ (gs : List Slot) (h : ℕ) (e : holder gs ≡ suc h) where
-  held-some : eqb (holder gs) 0 ≡ false
-  held-some = ne-eqb (holder gs) 0 (λ z. omega arith)
-
-  held-slot : slotAt gs (holder gs) ≡ at gs h
-  held-slot = ap (slotAt gs) e ∙ slotAt-suc gs h
-
   spent-is : spent gs ≡ withJob gs (suc h) (spentJob (slotAt gs (suc h) .job))
-  unfolding spent
-  spent-is = rw (held-some, e)
+  spent-is = spent-held gs (λ z. omega arith) ∙ rw e
 
   spent-same : h < length gs → at (spent gs) h ≡ putJob (at gs h) (spentJob (at gs h .job))
-  spent-same k =
-      ap (λ es. at es h) spent-is ∙ withJob-same gs h (spentJob (slotAt gs (suc h) .job)) k
-      ∙ ap (λ s. putJob (at gs h) (spentJob (s .job))) (slotAt-suc gs h)
+  spent-same k = ap (λ es. at es h) spent-is ∙ change-same (λ s. spentJob (s .job)) gs h k
 
   spent-other : (i : ℕ) → i ≢ h → at (spent gs) i ≡ at gs i
-  spent-other i k = ap (λ es. at es i) spent-is ∙ withJob-other gs h (spentJob (slotAt gs (suc h) .job)) i k
+  spent-other i k = ap (λ es. at es i) spent-is ∙ change-other (λ s. spentJob (s .job)) gs h i k
 
   spent-length : length (spent gs) ≡ length gs
-  spent-length = ap length spent-is ∙ withJob-length gs h (spentJob (slotAt gs (suc h) .job))
+  spent-length = ap length spent-is ∙ change-length (λ s. spentJob (s .job)) gs h
 
   useOf-is : useOf gs ≡ usedFor (suc h) (at gs h .serves) (at gs h .job)
-  unfolding useOf
-  useOf-is = rw held-some (rw (e, slotAt-suc gs h))
+  useOf-is = useOf-held gs (λ z. omega arith) ∙ rw (e, slotAt-suc gs h)
 
 module _ (ks : List Slot) where
   -- ---- The bank is held
-
-  held-given : (h : ℕ) → holder ks ≡ suc h → given ks ≡ ks
-  unfolding given
-  held-given h e = rw (ne-eqb (holder ks) 0 (λ z. omega arith))
 
   held-used : (h : ℕ) → holder ks ≡ suc h → One (λ s. onBank (s .job)) noneAhead ks (length ks) h → Used ks (spent ks) (useOf ks) h
   held-used h e one =
@@ -146,42 +134,28 @@ module _ (ks : List Slot) where
 
   held-using : (h : ℕ) → holder ks ≡ suc h → One (λ s. onBank (s .job)) noneAhead ks (length ks) h
       → Using ks (spent (given ks)) (useOf (given ks))
-  held-using h e one = rw (held-given h e) (keptDay h (one .passes) (held-used h e one))
+  held-using h e one = rw (given-held ks (λ z. omega arith)) (keptDay h (one .passes) (held-used h e one))
 
   -- ---- The bank is free
 
   module _ (free : holder ks ≡ 0) (none : Nobody (λ s. onBank (s .job)) ks (length ks)) where
-    idle-given : nextUp ks ≡ 0 → given ks ≡ ks
-    unfolding given
-    idle-given z = rw (eq-eqb (holder ks) 0 free, eq-eqb (nextUp ks) 0 z)
-
-    idle-spent : spent ks ≡ ks
-    unfolding spent
-    idle-spent = rw (eq-eqb (holder ks) 0 free)
-
-    idle-use : useOf ks ≡ Idle
-    unfolding useOf
-    idle-use = rw (eq-eqb (holder ks) 0 free)
-
     idle-using : nextUp ks ≡ 0 → Nobody (λ s. waits (s .job)) ks (length ks) → Using ks (spent (given ks)) (useOf (given ks))
     idle-using z noneWaits =
-        rw (idle-given z) (idleDay (λ i h. neither-empty (at ks i .job) (noneWaits i h) (none i h)) idle-spent idle-use)
+        rw (given-nobody ks free z)
+        (idleDay (λ i h. neither-empty (at ks i .job) (noneWaits i h) (none i h)) (spent-free ks free) (useOf-free ks free))
 
     module _ (g : ℕ) (z : nextUp ks ≡ suc g) (one : One (λ s. waits (s .job)) goesFirst ks (length ks) g) where
       given-is : given ks ≡ withJob ks (suc g) (seated (slotAt ks (suc g) .job))
-      unfolding given
-      given-is = rw (eq-eqb (holder ks) 0 free, ne-eqb (nextUp ks) 0 (λ w. omega arith), z)
+      given-is = given-next ks free (λ w. omega arith) ∙ rw z
 
       given-same : at (given ks) g ≡ putJob (at ks g) (seated (at ks g .job))
-      given-same =
-          ap (λ gs. at gs g) given-is ∙ withJob-same ks g (seated (slotAt ks (suc g) .job)) (one .within)
-          ∙ ap (λ s. putJob (at ks g) (seated (s .job))) (slotAt-suc ks g)
+      given-same = ap (λ gs. at gs g) given-is ∙ change-same (λ s. seated (s .job)) ks g (one .within)
 
       given-other : (i : ℕ) → i ≢ g → at (given ks) i ≡ at ks i
-      given-other i k = ap (λ gs. at gs i) given-is ∙ withJob-other ks g (seated (slotAt ks (suc g) .job)) i k
+      given-other i k = ap (λ gs. at gs i) given-is ∙ change-other (λ s. seated (s .job)) ks g i k
 
       given-length : length (given ks) ≡ length ks
-      given-length = ap length given-is ∙ withJob-length ks g (seated (slotAt ks (suc g) .job))
+      given-length = ap length given-is ∙ change-length (λ s. seated (s .job)) ks g
 
       given-on : onBank (at (given ks) g .job) ≡ true
       given-on = ap (λ s. onBank (s .job)) given-same ∙ waits-seated (at ks g .job) (one .passes)

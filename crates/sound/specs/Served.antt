@@ -8,9 +8,11 @@
 --     payerOn p rs t        the place of the payer of day t in the run
 --     paid p rs k           the k-th release was the payer of its release day
 --     movingCaused p rs k   the moving that the k-th release caused: its string's moving cost if it paid, none otherwise
---     Served p rs k e       before day e the k-th release has had all its work, and any moving it caused: exactly its need, exactly that moving
+--     Served p rs k e       before day e the k-th release has had all its work, and any moving it caused: exactly its need, exactly that
+--                           moving
 --     Untouched p rs k e    before day e the bank has done nothing for the k-th release
---     ForRelease p rs t i k a day t used for place i and for the k-th release: the place is that release's, which has joined and is not yet due
+--     ForRelease p rs t i k a day t used for place i and for the k-th release: the place is that release's, which has joined and is not
+-- yet due
 --     Named p rs t u        the day t, used as u, is idle or used for such a release
 use Prim.Native.Nat.{ℕ, _+_, _-_, _≤_, _<_}
 use mathlib.Core.Path.{_≡_}

@@ -14,25 +14,16 @@ use Rattle.rules.specs.Plan.{stringsOf}
 use Rattle.rules.specs.Demand.{movingCost, holdOf, jobs, need, demand}
 use Rattle.lists.proofs.Lists.{All, all-map, sumOf-eq, sumOf-add}
 use Rattle.laws.proofs.Jobs.{jobs-short, jobs-from, jobs-zero}
-use Rattle.laws.proofs.Lawful.{LawfulString, LawfulPlan}
+use Rattle.laws.proofs.Lawful.{LawfulString, LawfulPlan, PlanString, plan-strings}
 use Rattle.lists.proofs.Order.{sumOf-zero}
-use Rattle.laws.proofs.Demand.{holdOf-other, need-taker, need-keeper}
+use Rattle.laws.proofs.Demand.{holdOf-le, holdOf-other, need-taker, need-keeper}
 use Rattle.verdict.specs.Asked.{askedOf, askedBy}
 
 -- ---- Bounds
 
--- the moving that X brings is at most A
-pub moving-le : (p : Plan) (s : BatteryString) → p .a .0 ≤ 1000 → s .x ≤ 1 → movingCost p s * s .x ≤ 1000
-unfolding movingCost
-moving-le p s h k = omega (arith, mul-le-mul h k)
-
-pub holdOf-le : (p : Plan) (s : BatteryString) → p .a .0 ≤ 1000 → LawfulString s → holdOf p s ≤ 2000
-unfolding holdOf
-holdOf-le p s h ok =
-    let c = ok .cMax in
-    let d = ok .dMax in
-    let t = ok .tMax in
-    omega (arith, moving-le p s h (ok .xMax))
+-- the moving that X brings is at most the moving cost
+pub moving-le : (p : Plan) (s : BatteryString) → PlanString p s → movingCost p s * s .x ≤ 1000
+moving-le p s ok = omega (arith, mul-le-mul (ok .costMax) (ok .lawful .xMax))
 
 pub jobs-le : (s : BatteryString) (w : ℕ) → LawfulString s → jobs s w ≤ w
 jobs-le s w ok =
@@ -53,15 +44,15 @@ pub askedOf-no : (p : Plan) (x w : ℕ) (s : BatteryString) → (s .x ≡ x → 
 unfolding askedOf
 askedOf-no p x w s e = rw (ne-eqb (s .x) x e)
 
-pub work-le : (p : Plan) (w : ℕ) (s : BatteryString) → p .a .0 ≤ 1000 → LawfulString s → w ≤ 101000 → jobs s w * holdOf p s ≤ 202000000
-work-le p w s h ok k =
-    let few : jobs s w ≤ 101000 = omega (arith, jobs-le s w ok) in
-    omega (arith, mul-le-mul few (holdOf-le p s h ok))
+pub work-le : (p : Plan) (w : ℕ) (s : BatteryString) → PlanString p s → w ≤ 101000 → jobs s w * holdOf p s ≤ 202000000
+work-le p w s ok k =
+    let few : jobs s w ≤ 101000 = omega (arith, jobs-le s w (ok .lawful)) in
+    omega (arith, mul-le-mul few (holdOf-le p s ok))
 
-pub askedOf-le : (p : Plan) (x w : ℕ) (s : BatteryString) → p .a .0 ≤ 1000 → LawfulString s → w ≤ 101000 → askedOf p x w s ≤ 202000000
-askedOf-le p x w s h ok k =
+pub askedOf-le : (p : Plan) (x w : ℕ) (s : BatteryString) → PlanString p s → w ≤ 101000 → askedOf p x w s ≤ 202000000
+askedOf-le p x w s ok k =
     elim (ℕ-discrete (s .x) x) [
-      | yes e ↦ omega (arith, askedOf-yes p x w s e, work-le p w s h ok k)
+      | yes e ↦ omega (arith, askedOf-yes p x w s e, work-le p w s ok k)
       | no e ↦ omega (arith, askedOf-no p x w s e)
     ]
 
@@ -104,7 +95,7 @@ pub askedBy-le : (p : Plan) (x w : ℕ) → LawfulPlan p → w ≤ 101000 → as
 unfolding askedBy
 askedBy-le p x w ok k =
     let most = sumOf-most (askedOf p x w) 202000000 (stringsOf p)
-    (all-map LawfulString (λ s. askedOf p x w s ≤ 202000000) (λ s lawful. askedOf-le p x w s (ok .aMax) lawful k) (stringsOf p) (ok .each)) in
+    (all-map (PlanString p) (λ s. askedOf p x w s ≤ 202000000) (λ s one. askedOf-le p x w s one k) (stringsOf p) (plan-strings p ok)) in
     let few = ok .nMax in
     omega (arith, most, length-take (p .n) (p .strings))
 

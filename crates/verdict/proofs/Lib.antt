@@ -1,6 +1,6 @@
 -- Laws for the loops, in the order in which they build on each other.
 pub mod Asked
-pub mod ByPlace
+pub mod StringSums
 pub mod Blocking
 pub mod Rows
 pub mod Permit

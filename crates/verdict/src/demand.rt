@@ -4,7 +4,7 @@ use rules::Plan;
 ghost use mathlib.Core.Path.{_≡_};
 ghost use Prim.Native.Nat.{_≤_};
 ghost use Rattle.rules.specs.Demand.{holdOf, jobs};
-ghost use Rattle.laws.proofs.Lawful.{LawfulString};
+ghost use Rattle.laws.proofs.Lawful.{LawfulString, PlanString};
 ghost use Rattle.verdict.specs.Asked.{Ready, askedOf, askedBy};
 
 // What jobs ask, by whether they may take the bank.
@@ -28,17 +28,15 @@ pub(crate) fn jobs_in(s: BatteryString, w: u32) -> u32
 
 // The longest that a job of the string holds the bank.
 pub(crate) fn hold(p: Plan, s: BatteryString) -> u32
-    requires { ⌜ Ready p ⌝ }
-    requires { ⌜ LawfulString s ⌝ }
+    requires { ⌜ PlanString p s ⌝ }
     ensures { λ r. ⌜ r ≡ holdOf p s ⌝ }
 {
-    s.c.0 + p.a.0 * s.x
+    s.c.0 + p.moving_cost(s).0 * s.x
 }
 
 // What the string asks within w days, if its permission is x.
 fn share(p: Plan, x: u32, w: u32, s: BatteryString) -> u32
-    requires { ⌜ Ready p ⌝ }
-    requires { ⌜ LawfulString s ⌝ }
+    requires { ⌜ PlanString p s ⌝ }
     requires { ⌜ w ≤ 101000 ⌝ }
     ensures { λ r. ⌜ r ≡ askedOf p x w s ⌝ }
 {

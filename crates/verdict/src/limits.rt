@@ -3,11 +3,11 @@ use super::demand::hold;
 use rules::BatteryString;
 use rules::Plan;
 ghost use mathlib.Core.Path.{_≡_};
-ghost use Prim.Native.Nat.{_≤_, _<_, _*_, _/_, min, max};
+ghost use Prim.Native.Nat.{_≤_, _*_, _/_, min, max};
 ghost use Rattle.lists.specs.Count.{largest};
 ghost use Rattle.rules.specs.Plan.{stringsOf, multipleOf, dMin, dMax};
 ghost use Rattle.rules.specs.Demand.{holdOf, blockerHold, blockLimit, load};
-ghost use Rattle.laws.proofs.Lawful.{LawfulString};
+ghost use Rattle.laws.proofs.Lawful.{PlanString};
 ghost use Rattle.verdict.specs.Asked.{Ready};
 
 fn smaller(a: u32, b: u32) -> u32
@@ -57,10 +57,8 @@ pub(crate) fn largest_d(p: Plan) -> u32
 
 // How long a job of the string may hold the bank against an interval that ends before it is due.
 fn blocker(p: Plan, l: u32, s: BatteryString) -> u32
-    requires { ⌜ Ready p ⌝ }
-    requires { ⌜ LawfulString s ⌝ }
-    ensures early { λ r. ⌜ (l < s .d .0 → r ≡ holdOf p s) ⌝ }
-    ensures late { λ r. ⌜ (s .d .0 ≤ l → r ≡ 0) ⌝ }
+    requires { ⌜ PlanString p s ⌝ }
+    ensures { λ r. ⌜ r ≡ blockerHold p l s ⌝ }
 {
     if l < s.d.0 {
         return hold(p, s);
@@ -102,8 +100,7 @@ pub(crate) fn limit(p: Plan, first: u32, last: u32, l: u32) -> u32
 
 // What the string's jobs ask of a period of h days.
 fn period_share(p: Plan, h: u32, s: BatteryString) -> u32
-    requires { ⌜ Ready p ⌝ }
-    requires { ⌜ LawfulString s ⌝ }
+    requires { ⌜ PlanString p s ⌝ }
     requires { ⌜ h ≤ 100000 ⌝ }
     ensures { λ r. ⌜ r ≡ holdOf p s * (h / s .t .0) ⌝ }
 {

@@ -4,10 +4,12 @@ use super::answer::Calendar;
 use super::questions::question;
 use crate::chance::Chance;
 use std::io;
-use std::path::Path;
+use std::path::{Path, PathBuf};
 use std::process::{Command, Stdio};
 
 pub struct Asked {
+    /// The clerk; nobody is asked without one.
+    pub clerk: Option<PathBuf>,
     pub questions: u64,
     pub seed: u64,
 }

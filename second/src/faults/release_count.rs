@@ -26,7 +26,7 @@ fn dense_plan(chance: &mut Chance, count: usize) -> Plan {
         .map(|_| {
             let t = chance.between(1, 8);
             let d = chance.between(1, t);
-            let c = chance.pick(&[1, 1, d.div_ceil(2)]);
+            let c = chance.pick(&[1, 1, (d + 1) / 2]);
             BatteryString { x: 0, t, c, d }
         })
         .collect();

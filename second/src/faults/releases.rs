@@ -72,7 +72,7 @@ fn release_again(plan: &mut Plan, at: usize, shift: i64) {
     let earlier = plan.releases[at].clone();
     let t = plan.strings[earlier.place as usize - 1].t;
     let again = Release {
-        day: (earlier.day + t).saturating_add_signed(shift),
+        day: ((earlier.day + t) as i64 + shift) as u64,
         ..earlier
     };
     plan.days = plan.days.max(again.day + 1);

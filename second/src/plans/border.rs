@@ -48,7 +48,7 @@ pub fn passing(chance: &mut Chance) -> Plan {
 }
 
 fn does_pass(plan: &Plan) -> bool {
-    plan.cycle().is_some_and(|cycle| passes(plan, cycle))
+    plan.cycle().map_or(false, |cycle| passes(plan, cycle))
 }
 
 /// Gives the plan other permissions, or less work and moving, until it passes.
@@ -63,7 +63,7 @@ fn eased(mut plan: Plan) -> Option<Plan> {
         }
         plan.moving /= 2;
         for string in &mut plan.strings {
-            string.c = string.c.div_ceil(2);
+            string.c = (string.c + 1) / 2;
         }
     }
     None

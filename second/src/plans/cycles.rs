@@ -19,7 +19,7 @@ pub fn near_bound(chance: &mut Chance) -> Plan {
         .map(|t| BatteryString {
             x: 0,
             t,
-            c: chance.between(1, t.div_ceil(8)),
+            c: chance.between(1, (t + 7) / 8),
             d: t,
         })
         .collect();
@@ -45,7 +45,7 @@ fn prime_powers(mut number: u64) -> Vec<u64> {
     let mut prime = 2;
     while number > 1 {
         let mut part = 1;
-        while number.is_multiple_of(prime) {
+        while number % prime == 0 {
             number /= prime;
             part *= prime;
         }

@@ -21,7 +21,7 @@ pub fn upper_bounds(chance: &mut Chance) -> Plan {
         .map(|_| {
             let t = chance.pick(&[1, 2, 500, 1_000, 1_000]);
             let d: Length = chance.pick(&[1, t, t, t]);
-            let c = chance.pick(&[1, 1, d, d.div_ceil(count)]);
+            let c = chance.pick(&[1, 1, d, (d + count - 1) / count]);
             BatteryString { x: 0, t, c, d }
         })
         .collect();

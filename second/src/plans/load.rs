@@ -25,14 +25,14 @@ pub fn full(chance: &mut Chance, turn: u64) -> Plan {
 
 /// Some strings that leave at least one day of the cycle to ask for.
 fn partly_full(chance: &mut Chance, cycle: Length, moving: Length) -> Vec<BatteryString> {
-    let divisors: Vec<u64> = (2..=cycle).filter(|t| cycle.is_multiple_of(*t)).collect();
+    let divisors: Vec<u64> = (2..=cycle).filter(|t| cycle % *t == 0).collect();
     let mut strings = Vec::new();
     for _ in 0..chance.between(0, 4) {
         let t = chance.pick(&divisors);
         let rest = cycle - asked(&strings, cycle, moving);
         let most = (rest - 1) * t / cycle;
         if most > 0 {
-            let hold = chance.between(1, most.div_ceil(2));
+            let hold = chance.between(1, (most + 1) / 2);
             strings.push(string_holding(chance, t, hold, moving));
         }
     }

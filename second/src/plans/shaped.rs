@@ -78,7 +78,7 @@ pub fn equal_deadlines(chance: &mut Chance) -> Plan {
         .map(|_| BatteryString {
             x: 0,
             t: long * chance.pick(&[1, 2, 3, 4]),
-            c: chance.between(1, short.div_ceil(2)),
+            c: chance.between(1, (short + 1) / 2),
             d: chance.pick(&[short, long]),
         })
         .collect();

@@ -11,8 +11,9 @@ const CYCLES: [u64; 20] = [
 
 /// What a plan can cost the programs: all sets, times all pairs, times the strings in a demand.
 pub fn cost(plan: &Plan) -> u64 {
-    let Some(cycle) = plan.cycle() else {
-        return u64::MAX;
+    let cycle = match plan.cycle() {
+        Some(cycle) => cycle,
+        None => return u64::MAX,
     };
     let count = plan.strings.len() as u64;
     let longest = plan.largest_d();
@@ -78,9 +79,7 @@ fn moving(chance: &mut Chance) -> Length {
 
 fn periods(chance: &mut Chance, count: u64) -> Vec<Length> {
     let cycle = chance.pick(&CYCLES);
-    let divisors: Vec<u64> = (count..=1_000)
-        .filter(|t| cycle.is_multiple_of(*t))
-        .collect();
+    let divisors: Vec<u64> = (count..=1_000).filter(|t| cycle % *t == 0).collect();
     let base = chance.between(1, 80);
     let style = chance.below(4);
     (0..count)

@@ -98,8 +98,8 @@ fn is_lawful(plan: &Plan, release: &Release) -> bool {
         .find(|earlier| earlier.place == release.place);
     (1..=string.c).contains(&release.need)
         && release.day < plan.days
-        && ahead.is_none_or(|ahead| ahead.day <= release.day)
-        && same.is_none_or(|same| same.day + string.t <= release.day)
+        && ahead.map_or(true, |ahead| ahead.day <= release.day)
+        && same.map_or(true, |same| same.day + string.t <= release.day)
 }
 
 /// The bytes of one line's frame. A missing line is 3, a bad line 2, an unexpected frame 3.

@@ -96,7 +96,10 @@ impl Hall {
 
     /// Step 3: a taker released today with a strictly earlier deadline stops the job on the bank.
     fn take_bank(&mut self, today: Day, cost: Length) {
-        let Some(stopped) = &self.bank else { return };
+        let stopped = match &self.bank {
+            Some(job) => job,
+            None => return,
+        };
         let payer = self
             .waiting
             .iter_mut()
@@ -122,8 +125,9 @@ impl Hall {
 
     /// Step 5: the job on the bank uses the day, moving first, and is gone once nothing is left.
     fn use_day(&mut self) -> Use {
-        let Some(job) = &mut self.bank else {
-            return Use::Idle;
+        let job = match &mut self.bank {
+            Some(job) => job,
+            None => return Use::Idle,
         };
         let used = if job.moving > 0 {
             job.moving -= 1;

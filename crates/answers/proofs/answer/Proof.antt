@@ -26,7 +26,8 @@ lawful : (text : List ℕ) (r : Reading) (v : Verdict) (a : Assign) (o : Outcome
 unfolding answered
 lawful text r v a o e told ev ea eo = rw (ev, ea, eo) (ap (λ k. answered k r) (sym told) ∙ whole text r e)
 
-refused : (text : List ℕ) (r : Reading) (f : Fault) (at : ℕ) → r ≡ readingOf text → r .checked ≡ checked.Refused f at → Refused f at ≡ answerOf text
+refused : (text : List ℕ) (r : Reading) (f : Fault) (at : ℕ) → r ≡ readingOf text → r .checked ≡ checked.Refused f at
+    → Refused f at ≡ answerOf text
 unfolding answered
 refused text r f at e told = ap (λ k. answered k r) (sym told) ∙ whole text r e
 
@@ -51,8 +52,11 @@ enum-known-checked c = search needs
 returns : tie.Need-returns
 returns c =
     let told = c .before .before .before in
-    let found = told .before .before .before .before in
-    (lawful (found .before .before .args .text .now) (found .read .result) _ _ _ (found .read .ensures .0) (told .enum-told .given .1) (c .before .before .verdict .ensures) (c .before .search .ensures) (c .run .ensures), refl)
+    let found = told .before .before .before .before in (
+      lawful (found .before .before .args .text .now) (found .read .result) _ _ _ (found .read .ensures .0) (told .enum-told .given .1)
+          (c .before .before .verdict .ensures) (c .before .search .ensures) (c .run .ensures),
+      refl,
+    )
 
 returns-2 : tie.Need-returns-2
 returns-2 c =

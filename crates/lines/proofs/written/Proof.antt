@@ -39,7 +39,8 @@ refused c =
     let empty = c .before in
     rw (empty .before .before .a .given .1) (grown _ _ [] _ (empty .blank .ensures) (c .refused-line .ensures .0))
 
-answered : (c : tie.After-outcome-line) → c .outcome-line .result ≡ pageOf (linesFor (c .before .before .before .before .before .before .before .args .a))
+answered : (c : tie.After-outcome-line)
+    → c .outcome-line .result ≡ pageOf (linesFor (c .before .before .before .before .before .before .before .args .a))
 unfolding linesFor
 answered c =
     let second = c .before in

@@ -1,63 +1,69 @@
 -- `reading::read_body` meets its contract: the strings decide first, then what follows them.
-use mathlib.Core.Path.{_≡_, sym, ap, _∙_}
+use Prim.Native.Nat.{ℕ}
+use mathlib.Core.Path.{_≡_, refl, sym, ap, _∙_}
+use mathlib.Core.List.{List}
 use native.Mathlib.Omega.{arith}
 use borrow.Author.Needs.{needs}
-use lib.ListN.{drop}
 use Rattle.faults.specs.declared.Checked.the-variants.{Lawful}
-use Rattle.rules.specs.Text.{linesOf, nIn, stringLinesCheck}
-use Rattle.reading.specs.Place.{lineAt, planBy, restReading}
-use Rattle.reading.proofs.Numbers.{n-is}
-use Rattle.reading.proofs.Whole.{header-few, header-inside, strings-read, body-rest, body-refused}
+use Rattle.rules.specs.Layout.{version01}
+use Rattle.rules.specs.Text.{nIn, stringLinesCheck}
+use Rattle.reading.specs.Positions.{linesFrom, lineAt, stringsAt, StringsRead}
+use Rattle.reading.proofs.Said.{n-is}
+use Rattle.reading.proofs.StringLines.{strings-stand}
+use Rattle.reading.proofs.Whole.{header-few, header-inside, planned, body-rest, body-refused}
 use Rattle.reading.proofs.read_body.Statement.{statement}
 use Rattle.reading.proofs.read_body.Tie as tie
 
+abbrev begin : tie.After-field-at → tie.Start
+begin c = c .before .before
+
+abbrev textOf : tie.After-field-at → List ℕ
+textOf c = begin c .args .text .now
+
+abbrev reading : tie.After-enum-told → tie.After-field-at
+reading c = c .before .before .before
+
 -- n is the header's
-n-read : (c : tie.After-byte-at) → c .byte-at .result ≡ nIn (lineAt (c .before .before .args .text .now) 0)
-n-read c =
-    let start = c .before .before in
-    c .byte-at .ensures ∙ sym (n-is (start .args .text .now) (start .pre .frame))
+n-read : (c : tie.After-field-at) → c .field-at .result ≡ nIn version01 (lineAt (textOf c) 0)
+n-read c = c .field-at .ensures ∙ sym (n-is version01 _ (begin c .pre .frame))
 
 -- what the check of the strings said
-lawful : (c : tie.After-enum-told) → stringLinesCheck 2 (nIn (lineAt (c .before .before .before .before .before .args .text .now) 0)) (linesOf (drop 19 (c .before .before .before .before .before .args .text .now))) ≡ Lawful
-lawful c =
-    let read = c .before .before .before in
-    let text = read .before .before .args .text .now in
-    ap (λ k. stringLinesCheck 2 k (linesOf (drop 19 text))) (sym (n-read read)) ∙ sym (c .before .before .string-lines-check .ensures) ∙ c .enum-told .given .1
+lawful : (c : tie.After-enum-told)
+    → stringLinesCheck version01 2 (reading c .field-at .result) (linesFrom (textOf (reading c)) (stringsAt version01)) ≡ Lawful
+lawful c = sym (c .before .before .string-lines-check .ensures) ∙ c .enum-told .given .1
 
-byte-at-requires : tie.Need-byte-at-requires
-byte-at-requires c κs = search needs
+strings : (c : tie.After-plan-in) → StringsRead version01 (textOf (reading (c .before))) (c .plan-in .result)
+strings c =
+    let told = c .before in
+    planned version01 _ _ (begin (reading told) .pre) (c .plan-in .ensures) _ (n-read (reading told)) (lawful told)
+
+field-at-requires : tie.Need-field-at-requires
+field-at-requires c κs = omega (arith, c .before .pre .frame .digits)
 
 cast-n : tie.Need-cast-n
 cast-n c = search needs
 
 string-lines-check-requires : tie.Need-string-lines-check-requires
 string-lines-check-requires c κs =
-    let start = c .before .before in
-    (header-inside (start .args .text .now) (start .pre), omega (arith, n-read c, header-few (start .args .text .now) (start .pre)))
+    let b = begin c in
+    (header-inside version01 _ (b .pre), omega arith, omega (arith, n-read c, header-few version01 _ (b .pre)))
 
 enum-told : tie.Need-enum-told
 enum-told c = search needs
 
 plan-in-requires : tie.Need-plan-in-requires
 plan-in-requires c κs =
-    let read = c .before .before .before in
-    let start = read .before .before in
-    let text = start .args .text .now in
-    let few = header-few text (start .pre) in (
-      start .pre .frame,
+    let b = begin (reading c) in
+    let few = header-few version01 _ (b .pre) in (
+      b .pre .frame,
       (
-        omega (arith, n-read read),
-        λ i h. strings-read text (start .pre) (lawful c) .each i (omega (arith, n-read read)),
+        (refl, n-read (reading c), omega (arith, n-read (reading c))),
+        strings-stand version01 _ (stringsAt version01) 2 _ (header-inside version01 _ (b .pre)) (lawful c),
       ),
     )
 
-read-releases-requires : tie.Need-read-releases-requires
-read-releases-requires c κs =
-    let told = c .before in
-    let read = told .before .before .before in
-    let start = read .before .before in
-    let text = start .args .text .now in
-    record { header = start .pre; plan = c .plan-in .ensures ∙ ap (planBy text) (n-read read); strings = lawful told }
+read-rest-requires : tie.Need-read-rest-requires
+read-rest-requires c κs = strings c
 
 enum-known-strings : tie.Need-enum-known-strings
 enum-known-strings c = search needs
@@ -66,36 +72,28 @@ refusal-requires : tie.Need-refusal-requires
 refusal-requires c κs = search needs
 
 returns : tie.Need-returns
-returns c =
-    let told = c .before .before in
-    let read = told .before .before .before in
-    let start = read .before .before in
-    let text = start .args .text .now in
-    c .read-releases .ensures
-    ∙ ap (restReading text) (c .before .plan-in .ensures ∙ ap (planBy text) (n-read read))
-    ∙ sym (body-rest text (start .pre) (lawful told))
+returns c = c .read-rest .ensures ∙ sym (body-rest version01 _ _ (strings (c .before)))
 
 returns-2 : tie.Need-returns-2
 returns-2 c =
     let known = c .before .before in
     let checked = known .before .before in
+    let b = begin (checked .before) in
     let read = checked .before in
-    let start = read .before .before in
-    let text = start .args .text .now in
-    let same = ap (λ k. stringLinesCheck 2 k (linesOf (drop 19 text))) (n-read read) in
+    let same = ap (λ n. stringLinesCheck version01 2 n (linesFrom (textOf read) (stringsAt version01))) (n-read read) in
     c .refusal .ensures
-    ∙ sym (body-refused text (start .pre) _ _ (sym same ∙ sym (checked .string-lines-check .ensures) ∙ known .strings .given .1))
+    ∙ sym (body-refused version01 _ (b .pre) _ _ (sym same ∙ sym (checked .string-lines-check .ensures) ∙ known .strings .given .1))
 
 pub read-body-spec : {M : Type 1} → statement M
 read-body-spec =
     tie.close
     (tie.spec
-    byte-at-requires
+    field-at-requires
     cast-n
     string-lines-check-requires
     enum-told
     plan-in-requires
-    read-releases-requires
+    read-rest-requires
     enum-known-strings
     refusal-requires
     returns

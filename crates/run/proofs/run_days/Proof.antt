@@ -5,47 +5,58 @@ use mathlib.Core.List.{List}
 use mathlib.Core.Logic.{⊎-elim}
 use native.Mathlib.Omega.{arith}
 use native.Mathlib.Decide.{ℕ-discrete}
-use borrow.Author.Tests.{ltb-false}
+use borrow.Author.Tests.{ltb-true, ltb-false}
 use lib.ListN.{length, take, getD, length-map}
 use lib.Seq.{length-take-le, getD-take}
+use Rattle.days.specs.declared.Day.{Day}
 use Rattle.days.specs.Days.{day}
 use Rattle.rules.specs.declared.Plan.{Plan}
 use Rattle.rules.specs.declared.Release.{Release}
 use Rattle.rules.specs.declared.Outcome.the-variants.{Miss}
 use Rattle.rules.specs.Release.{noRelease, releasesOf}
-use Rattle.rules.specs.Run.{emptySlot, lateAt, lateOn}
-use Rattle.run.proofs.Places.{take-map}
+use Rattle.rules.specs.Run.{emptySlot, lateAt, lateOn, runOf}
+use Rattle.run.specs.Tally.{tallyOf}
+use Rattle.lists.proofs.Order.{take-map}
+use Rattle.laws.proofs.History.{runOf-late}
+use Rattle.slots.proofs.Questions.{late-asked}
 use Rattle.laws.proofs.ReleaseList.{LawfulRelease, release-lawful, listed-sorted}
-use Rattle.run.proofs.Releases.{listed-joins}
-use Rattle.run.proofs.State.{joined-room}
-use Rattle.run.proofs.Counting.{tallyOf-under}
-use Rattle.run.proofs.Ending.{runOf-miss, runOf-clean}
+use Rattle.run.proofs.MayJoin.{listed-joins}
+use Rattle.run.proofs.State.{joined-affords}
+use Rattle.run.proofs.Counting.{tallyOf-under, runOf-tally}
 use Rattle.run.proofs.Daily.{Standing, Joining, Joined, standing-start, standing-late, joining-start, joining-more, joined-last, joined-before, joined-quiet, standing-next}
 use Rattle.run.proofs.run_days.Statement.{statement}
 use Rattle.run.proofs.run_days.Tie as tie
 
 abbrev Inv-loop2 : tie.InvT-loop2
-Inv-loop2 p n end count list slots₀ tally next₀ t today late first slots next = Joining p (take count list) t first slots next
+Inv-loop2 p n end count list slots₀ tally next₀ today late first slots next = Joining p (take count list) (today .0) first slots next
 
 abbrev μ-loop2 : tie.MeasureT-loop2
-μ-loop2 p n end count list slots₀ tally next₀ t today late first slots next = count - next
+μ-loop2 p n end count list slots₀ tally next₀ today late first slots next = count - next
 
 abbrev Inv-loop : tie.InvT-loop
-Inv-loop p n end count list slots₀ tally₀ next₀ t₀ slots tally next t = (t ≤ p .run .0) × Standing p (take count list) t slots next tally
+Inv-loop p n end count list slots₀ tally₀ next₀ today₀ slots tally next today =
+    (today .0 ≤ p .run .0) × Standing p (take count list) (today .0) slots next tally
 
 abbrev μ-loop : tie.MeasureT-loop
-μ-loop p n end count list slots₀ tally₀ next₀ t₀ slots tally next t = p .run .0 - t
+μ-loop p n end count list slots₀ tally₀ next₀ today₀ slots tally next today = p .run .0 - today .0
 
 -- ---- The start
 
 abbrev start : tie.At-loop Inv-loop2 μ-loop2 Inv-loop μ-loop → tie.Start Inv-loop2 μ-loop2 Inv-loop μ-loop
-start o = o .before .before .before .before
+start o = o .before .before .before .before .before
 
 abbrev planOf : tie.At-loop Inv-loop2 μ-loop2 Inv-loop μ-loop → Plan
 planOf o = start o .args .p
 
 abbrev listOf : tie.At-loop Inv-loop2 μ-loop2 Inv-loop μ-loop → List Release
 listOf o = releasesOf (start o .args .rs)
+
+-- the run ends on day N
+abbrev endOf : tie.At-loop Inv-loop2 μ-loop2 Inv-loop μ-loop → ℕ
+endOf o = o .before .before .before .before .day-after .result .0
+
+end-is : (o : tie.At-loop Inv-loop2 μ-loop2 Inv-loop μ-loop) → endOf o ≡ planOf o .run .0
+end-is o = omega (arith, ap (λ (d : Day). d .0) (o .before .before .before .before .day-after .ensures))
 
 ten : (c : tie.Start Inv-loop2 μ-loop2 Inv-loop μ-loop) → length (c .args .p .strings) ≡ 10
 ten c = simp length-map at (c .good .0 .1 .1 .1 .1 .1 .0 .1 .0 .1)
@@ -63,37 +74,54 @@ listed : (c : tie.Start Inv-loop2 μ-loop2 Inv-loop μ-loop) (i : ℕ) → i < c
     → LawfulRelease (c .args .p) (getD (c .args .rs .list) i noRelease)
 listed c i h = rw (read-is c i h) at (release-lawful (c .args .p) (releasesOf (c .args .rs)) (c .pre .none-bad) i (omega (arith, whole c)))
 
+day-after-requires : tie.Need-day-after-requires Inv-loop2 μ-loop2 Inv-loop μ-loop
+day-after-requires c κs = omega (arith, c .pre .plan .runMax)
+
 empty-slots-requires : tie.Need-empty-slots-requires Inv-loop2 μ-loop2 Inv-loop μ-loop
 empty-slots-requires c κs = tt
 
 loop-holds : tie.Need-loop-holds Inv-loop2 μ-loop2 Inv-loop μ-loop
 loop-holds c =
-    let g = c .before .before .before .args in
+    let g = c .before .before .before .before .args in
     let first = ap (take (g .p .n)) (c .empty-slots .ensures) ∙ take-map emptySlot (g .p .n) (g .p .strings) in
-    (omega arith, standing-start (g .p) (releasesOf (g .rs)) (c .empty-slots .result) _ first refl)
+    (omega arith, standing-start first refl)
 
-late-place-requires : tie.Need-late-place-requires Inv-loop2 μ-loop2 Inv-loop μ-loop
-late-place-requires c κs = c .before .before .before .before .before .pre .plan .nMax
+before-requires : tie.Need-before-requires Inv-loop2 μ-loop2 Inv-loop μ-loop
+before-requires c κs = tt
+
+chosen-place-requires : tie.Need-chosen-place-requires Inv-loop2 μ-loop2 Inv-loop μ-loop
+chosen-place-requires c κs = tt
 
 -- ---- Step 1
 
-late-is : (c : tie.After-late-place Inv-loop2 μ-loop2 Inv-loop μ-loop)
-    → c .late-place .result ≡ lateOn (planOf (c .before .before)) (listOf (c .before .before)) (c .before .before .loop .t)
-late-is c =
-    let o = c .before .before in
-    c .late-place .ensures ∙ standing-late (planOf o) (listOf o) (o .loop .t) (o .loop .slots) (o .loop .next) (o .loop .tally) (o .loop .inv .1)
+-- the day whose first step has been taken
+abbrev today : tie.After-chosen-place Inv-loop2 μ-loop2 Inv-loop μ-loop → tie.At-loop Inv-loop2 μ-loop2 Inv-loop μ-loop
+today c = c .before .before .before
+
+running : (c : tie.After-chosen-place Inv-loop2 μ-loop2 Inv-loop μ-loop) → today c .loop .today .0 < planOf (today c) .run .0
+running c =
+    let o = today c in
+    let early = ltb-true (o .loop .today .0) (endOf o) (sym (c .before .before .before2 .ensures) ∙ c .before .if1 .taken) in
+    omega (arith, end-is o)
+
+late-is : (c : tie.After-chosen-place Inv-loop2 μ-loop2 Inv-loop μ-loop)
+    → c .chosen-place .result ≡ lateOn (planOf (today c)) (listOf (today c)) (today c .loop .today .0)
+late-is c = c .chosen-place .ensures ∙ late-asked _ _ ∙ standing-late (today c .loop .inv .1)
+
+-- the run ends today
+missed-on : (o : tie.At-loop Inv-loop2 μ-loop2 Inv-loop μ-loop) → (lateOn (planOf o) (listOf o) (o .loop .today .0) ≡ 0 → ⊥)
+    → runOf (planOf o) (listOf o) ≡ Miss (day (o .loop .today .0)) (lateOn (planOf o) (listOf o) (o .loop .today .0))
+missed-on o late = runOf-late (planOf o) (listOf o) (o .loop .today .0) (o .loop .inv .0) (omega arith) (o .loop .inv .1 .clean)
 
 returns : tie.Need-returns Inv-loop2 μ-loop2 Inv-loop μ-loop
 returns c =
-    let o = c .before .before .before in
+    let o = today (c .before) in
     let late = late-is (c .before) in
-    let miss = runOf-miss (planOf o) (listOf o) (o .loop .t) (o .loop .inv .0) (o .loop .inv .1 .clean) (λ z. c .if1 .taken (late ∙ z)) in
+    let miss = missed-on o (λ z. c .if2 .taken (late ∙ z)) in
     rw late (sym miss)
 
 loop2-holds : tie.Need-loop2-holds Inv-loop2 μ-loop2 Inv-loop μ-loop
-loop2-holds c =
-    let o = c .before .before .before in
-    joining-start (planOf o) (listOf o) (o .loop .t) (o .loop .slots) (o .loop .next) (o .loop .tally) (o .loop .inv .1)
+loop2-holds c = joining-start (today (c .before) .loop .inv .1)
 
 mul-r : tie.Need-mul-r Inv-loop2 μ-loop2 Inv-loop μ-loop
 mul-r c = omega arith
@@ -106,8 +134,8 @@ add-join c = omega arith
 
 join-requires : tie.Need-join-requires Inv-loop2 μ-loop2 Inv-loop μ-loop
 join-requires c κs =
-    let i = c .before .before .before .before in
-    let s = i .before .before .before .before .before .before .before .before in
+    let i = c .before .before .before .before .before in
+    let s = start (today (i .before .before)) in
     listed-joins (s .args .p) _ (s .pre .plan) (ten s) (listed s (i .loop2 .next) (omega arith))
 
 add-next : tie.Need-add-next Inv-loop2 μ-loop2 Inv-loop μ-loop
@@ -118,108 +146,114 @@ loop2-less c = omega arith
 
 loop2-again : tie.Need-loop2-again Inv-loop2 μ-loop2 Inv-loop μ-loop
 loop2-again c =
-    let i = c .before .before .before .before .before in
-    let o = i .before .before .before .before in
+    let i = c .before .before .before .before .before .before in
+    let o = today (i .before .before) in
     let s = start o in
-    let g = s .args in
     let place = listed s (i .loop2 .next) (omega arith) in
     rw (c .join .ensures)
-    (joining-more (planOf o) (listOf o) (o .loop .t) (o .loop .next) (i .loop2 .slots) (i .loop2 .next) (getD (g .rs .list) (i .loop2 .next) noRelease)
-    (sym (read-is s (i .loop2 .next) (omega arith))) (place .placePos) (place .placeMax) (omega (arith, whole s)) (c .before .if2 .left) (i .loop2 .inv))
+    (joining-more (getD (s .args .rs .list) (i .loop2 .next) noRelease) (sym (read-is s (i .loop2 .next) (omega arith)))
+    (place .placePos) (place .placeMax) (omega (arith, whole s)) (c .before .if3 .left) (i .loop2 .inv))
 
 -- the day in whose step 2 the code is
 abbrev morning : tie.Left-loop2 Inv-loop2 μ-loop2 Inv-loop μ-loop → tie.At-loop Inv-loop2 μ-loop2 Inv-loop μ-loop
-morning c = c .before .before .before .before .before
+morning c = today (c .before .before .before)
 
 joined-at : (c : tie.Left-loop2 Inv-loop2 μ-loop2 Inv-loop μ-loop)
-    → Joined (planOf (morning c)) (listOf (morning c)) (morning c .loop .t) (morning c .loop .next) (c .before .loop2 .slots) (c .before .loop2 .next)
+    → Joined (planOf (morning c)) (listOf (morning c)) (morning c .loop .today .0) (morning c .loop .next) (c .before .loop2 .slots)
+    (c .before .loop2 .next)
 joined-at c =
     let i = c .before in
-    let o = i .before .before .before .before in
+    let o = morning c in
     let s = start o in
     ⊎-elim
-    (λ w. joined-last (planOf o) (listOf o) (o .loop .t) (o .loop .next) (i .loop2 .slots) (i .loop2 .next) (omega (arith, whole s, w .left)) (i .loop2 .inv))
+    (λ w. joined-last (omega (arith, whole s, w .left)) (i .loop2 .inv))
     (λ w.
-    joined-before (planOf o) (listOf o) (o .loop .t) (o .loop .next) (i .loop2 .slots) (i .loop2 .next) (listed-sorted (planOf o) (listOf o) (s .pre .none-bad))
-    (omega (arith, whole s, w .0 .taken)) (λ e. w .3 .taken (ap (λ q. q .day .0) (sym (read-is s (i .loop2 .next) (w .0 .taken))) ∙ e)) (i .loop2 .inv))
+    joined-before (listed-sorted (planOf o) (listOf o) (s .pre .none-bad))
+    (omega (arith, whole s, w .0 .taken)) (λ e. w .4 .taken (ap (λ q. q .day .0) (sym (read-is s (i .loop2 .next) (w .0 .taken))) ∙ e))
+    (i .loop2 .inv))
     (c .loop2-test .came)
 
 -- ---- Steps 3 to 5
 
 rest-of-day-requires : tie.Need-rest-of-day-requires Inv-loop2 μ-loop2 Inv-loop μ-loop
 rest-of-day-requires c κs =
-    let i = c .before in
-    let o = i .before .before .before .before in
+    let o = morning c in
     let s = start o in
-    let j = joined-at c in (
-      s .pre .plan .nMax,
-      (
-        s .pre .plan .aMax,
-        (
-          rw (j .state) (joined-room (planOf o) (listOf o) (o .loop .t) (s .pre .plan .aMax) (omega (arith, s .pre .plan .runMax, o .loop .inv .0))),
-          λ e. joined-quiet (planOf o) (listOf o) (o .loop .t) (o .loop .next) (i .loop2 .slots) (i .loop2 .next) j (ltb-false _ _ e),
-        ),
-      ),
-    )
+    let j = joined-at c in
+    let short : o .loop .today .0 ≤ 1000000 = omega (arith, s .pre .plan .runMax, o .loop .inv .0) in
+    (rw (j .state) (joined-affords (planOf o) (listOf o) (s .pre .plan) (o .loop .today .0) short), λ e. joined-quiet j (ltb-false _ _ e))
 
 counted-requires : tie.Need-counted-requires Inv-loop2 μ-loop2 Inv-loop μ-loop
 counted-requires c κs =
-    let o = c .before .before .before .before .before .before .before in
+    let o = morning (c .before .before) in
     let s = start o in
-    rw (o .loop .inv .1 .count) (tallyOf-under (planOf o) (listOf o) (o .loop .t) 1000000 (omega (arith, s .pre .plan .runMax, o .loop .inv .0)))
+    rw (o .loop .inv .1 .count)
+    (tallyOf-under (planOf o) (listOf o) (o .loop .today .0) 1000000 (omega (arith, s .pre .plan .runMax, o .loop .inv .0)))
 
-add-t : tie.Need-add-t Inv-loop2 μ-loop2 Inv-loop μ-loop
-add-t c = omega arith
+day-after-requires-2 : tie.Need-day-after-requires-2 Inv-loop2 μ-loop2 Inv-loop μ-loop
+day-after-requires-2 c κs =
+    let l = c .before .before .before .before .before .before in
+    omega (arith, running l, start (today l) .pre .plan .runMax)
 
 loop-less : tie.Need-loop-less Inv-loop2 μ-loop2 Inv-loop μ-loop
-loop-less c = omega arith
+loop-less c =
+    let l = c .before .before .before .before .before .before .before in
+    omega (arith, running l, ap (λ (d : Day). d .0) (c .day-after2 .ensures))
 
 loop-again : tie.Need-loop-again Inv-loop2 μ-loop2 Inv-loop μ-loop
 loop-again c =
-    let l = c .before .before .before in
+    let l = c .before .before .before .before in
     let i = l .before in
     let e = i .before in
-    let o = e .before .before .before in
-    let s = start o in
-    let none = sym (late-is (e .before)) ∙ e .if1 .left in
-    let next = standing-next (planOf o) (listOf o) (o .loop .t) (o .loop .next) (i .loop2 .slots) (i .loop2 .next) (o .loop .tally)
-    (c .before .before .rest-of-day .result) (o .loop .inv .1 .clean) none (o .loop .inv .1 .count) (joined-at l) (c .before .before .rest-of-day .ensures) in
-    (omega arith, rw (c .counted .ensures) next)
+    let o = morning l in
+    let none = sym (late-is (e .before)) ∙ e .if2 .left in
+    let next = standing-next (o .loop .inv .1 .clean) none (o .loop .inv .1 .count) (joined-at l)
+    (c .before .before .before .rest-of-day .ensures) in
+    let moved = c .day-after2 .ensures in
+    (omega (arith, running (e .before), ap (λ (d : Day). d .0) moved), rw (c .before .counted .ensures, moved) next)
 
 -- ---- Day N
 
-late-is-last : (c : tie.After-late-place2 Inv-loop2 μ-loop2 Inv-loop μ-loop)
-    → c .late-place2 .result ≡ lateOn (planOf (c .before .before)) (listOf (c .before .before)) (c .before .before .loop .t)
-late-is-last c =
-    let o = c .before .before in
-    let last : planOf o .run .0 ≡ o .loop .t = omega (arith, o .loop .inv .0) in
-    c .late-place2 .ensures ∙ ap (λ t. lateAt t (take (planOf o .n) (o .loop .slots))) last
-    ∙ standing-late (planOf o) (listOf o) (o .loop .t) (o .loop .slots) (o .loop .next) (o .loop .tally) (o .loop .inv .1)
+abbrev evening : tie.After-chosen-place2 Inv-loop2 μ-loop2 Inv-loop μ-loop → tie.At-loop Inv-loop2 μ-loop2 Inv-loop μ-loop
+evening c = c .before .before .before
 
-late-place-requires-2 : tie.Need-late-place-requires-2 Inv-loop2 μ-loop2 Inv-loop μ-loop
-late-place-requires-2 c κs = c .before .before .before .before .before .pre .plan .nMax
+over : (c : tie.After-chosen-place2 Inv-loop2 μ-loop2 Inv-loop μ-loop) → endOf (evening c) ≡ evening c .loop .today .0
+over c =
+    let o = evening c in
+    let late = ltb-false (o .loop .today .0) (endOf o) (sym (c .before .before .before2 .ensures) ∙ c .before .if1 .left) in
+    omega (arith, o .loop .inv .0, end-is o)
+
+late-is-last : (c : tie.After-chosen-place2 Inv-loop2 μ-loop2 Inv-loop μ-loop)
+    → c .chosen-place2 .result ≡ lateOn (planOf (evening c)) (listOf (evening c)) (evening c .loop .today .0)
+late-is-last c =
+    let o = evening c in
+    let last = over c in
+    c .chosen-place2 .ensures ∙ late-asked _ _ ∙ ap (λ t. lateAt t (take (planOf o .n) (o .loop .slots))) last
+    ∙ standing-late (o .loop .inv .1)
+
+chosen-place-requires-2 : tie.Need-chosen-place-requires-2 Inv-loop2 μ-loop2 Inv-loop μ-loop
+chosen-place-requires-2 c κs = tt
 
 returns-2 : tie.Need-returns-2 Inv-loop2 μ-loop2 Inv-loop μ-loop
 returns-2 c =
-    let o = c .before .before .before in
+    let o = evening (c .before) in
     let late = late-is-last (c .before) in
-    let last : planOf o .run .0 ≡ o .loop .t = omega (arith, o .loop .inv .0) in
-    let miss = runOf-miss (planOf o) (listOf o) (o .loop .t) (o .loop .inv .0) (o .loop .inv .1 .clean) (λ z. c .if3 .taken (late ∙ z)) in
-    ap (λ k. Miss (day k) (c .before .late-place2 .result)) last ∙ ap (Miss (day (o .loop .t))) late ∙ sym miss
+    let miss = missed-on o (λ z. c .if4 .taken (late ∙ z)) in
+    ap (λ k. Miss (day k) (c .before .chosen-place2 .result)) (over (c .before)) ∙ ap (Miss (day (o .loop .today .0))) late ∙ sym miss
 
 clean-requires : tie.Need-clean-requires Inv-loop2 μ-loop2 Inv-loop μ-loop
 clean-requires c κs = tt
 
 returns-3 : tie.Need-returns-3 Inv-loop2 μ-loop2 Inv-loop μ-loop
 returns-3 c =
-    let o = c .before .before .before .before in
+    let o = evening (c .before .before) in
     let s = o .loop .inv .1 in
-    let last : o .loop .t ≡ planOf o .run .0 = omega (arith, o .loop .inv .0) in
-    let none = sym (late-is-last (c .before .before)) ∙ c .before .if3 .left in
+    let last : o .loop .today .0 ≡ planOf o .run .0 = sym (over (c .before .before)) ∙ end-is o in
+    let none = sym (late-is-last (c .before .before)) ∙ c .before .if4 .left in
     let clean : (i : ℕ) → i ≤ planOf o .run .0 → lateOn (planOf o) (listOf o) i ≡ 0 =
-    λ i h. elim (ℕ-discrete i (o .loop .t)) [ yes same ↦ rw same none | no before ↦ s .clean i (omega arith) ] in
-    let count = rw last at (s .count) in
-    rw count at (c .clean .ensures) ∙ sym (runOf-clean (planOf o) (listOf o) clean)
+    λ i h. elim (ℕ-discrete i (o .loop .today .0)) [ yes same ↦ rw same none | no before ↦ s .clean i (omega arith) ] in
+    let count = s .count ∙ ap (tallyOf (planOf o) (listOf o)) last in
+    rw count at (c .clean .ensures) ∙ sym (runOf-tally (planOf o) (listOf o) clean)
 
 pub run-days-spec : {M : Type 1} → statement M
 run-days-spec =
@@ -229,9 +263,11 @@ run-days-spec =
     μ-loop2
     Inv-loop
     μ-loop
+    day-after-requires
     empty-slots-requires
     loop-holds
-    late-place-requires
+    before-requires
+    chosen-place-requires
     returns
     loop2-holds
     mul-r
@@ -243,10 +279,10 @@ run-days-spec =
     loop2-again
     rest-of-day-requires
     counted-requires
-    add-t
+    day-after-requires-2
     loop-less
     loop-again
-    late-place-requires-2
+    chosen-place-requires-2
     returns-2
     clean-requires
     returns-3)

@@ -33,7 +33,9 @@ whole-requires : tie.Need-whole-requires Inv-loop μ-loop
 whole-requires c κs = search needs
 
 -- the strings that count are those of the plan
-counted : (c : tie.At-loop Inv-loop μ-loop) → take (c .before .before .counted .result) (c .before .before .before .args .p .strings) ≡ stringsOf (c .before .before .before .args .p)
+counted : (c : tie.At-loop Inv-loop μ-loop)
+    → take (c .before .before .counted .result) (c .before .before .before .args .p .strings) ≡ stringsOf
+    (c .before .before .before .args .p)
 counted c =
     let p = c .before .before .before .args .p in
     ap (λ k. take k (p .strings)) (c .before .before .counted .ensures) ∙ take-min (p .n) 10 (p .strings) (c .loop .inv .2)
@@ -69,7 +71,8 @@ loop-again c =
       omega arith,
       omega arith,
       at .loop .inv .2,
-      sym (commonMultiple-good h n i (p .strings) inside fits (sym (c .before .whole .ensures) ∙ not-false _ (c .if1 .left))) ∙ at .loop .inv .3,
+      sym (commonMultiple-good h n i (p .strings) inside fits (sym (c .before .whole .ensures) ∙ not-false _ (c .if1 .left))) ∙ at .loop
+          .inv .3,
     )
 
 returns-2 : tie.Need-returns-2 Inv-loop μ-loop

@@ -1,11 +1,9 @@
 -- `bounds::releases::admitted` meets its contract: each test that ends it denies one of the facts that `admits` tests.
-use Prim.Native.Nat.{ℕ, _-_, _≤_}
-use mathlib.Core.Bool.{false}
+use Prim.Native.Nat.{ℕ, _-_, _≤_, _<_}
 use mathlib.Core.Path.{_≡_, sym, ap, _∙_}
 use native.Mathlib.Omega.{arith}
 use borrow.Author.Needs.{needs}
-use borrow.Author.Tests.{eq-eqb, ne-eqb}
-use lib.Dec.{eqb}
+use borrow.Author.Tests.{ltb-true, ltb-false}
 use lib.ListN.{length, length-map, getD}
 use Rattle.rules.specs.declared.BatteryString.{BatteryString}
 use Rattle.rules.specs.declared.Plan.{Plan}
@@ -19,8 +17,8 @@ use Rattle.bounds.proofs.releases.admitted.Tie as tie
 work-at : (p : Plan) (i : ℕ) → 1 ≤ i → i ≤ p .n → stringAt p i .c .0 ≡ getD (p .strings) (i - 1) noString .c .0
 work-at p i h k = ap (λ (s : BatteryString). s .c .0) (stringAt-is p i h k)
 
-period-at : (p : Plan) (i : ℕ) → 1 ≤ i → i ≤ p .n → stringAt p i .t .0 ≡ getD (p .strings) (i - 1) noString .t .0
-period-at p i h k = ap (λ (s : BatteryString). s .t .0) (stringAt-is p i h k)
+period-at : (p : Plan) (i : ℕ) → 1 ≤ i → i ≤ p .n → stringAt p i .t ≡ getD (p .strings) (i - 1) noString .t
+period-at p i h k = ap (λ (s : BatteryString). s .t) (stringAt-is p i h k)
 
 returns : tie.Need-returns
 returns c = sym (admits-not _ _ _ _ (λ h. omega arith))
@@ -56,37 +54,28 @@ returns-5 c =
 returns-6 : tie.Need-returns-6
 returns-6 c = sym (admits-not _ _ _ _ (λ h. omega arith))
 
+before-requires : tie.Need-before-requires
+before-requires c κs = search needs
+
 returns-7 : tie.Need-returns-7
-returns-7 c = sym (admits-not _ _ _ _ (λ h. omega arith))
+returns-7 c =
+    let g = c .before .before .before .before .before .before .before .before .before .before .before .before .before .before .args in
+    let late : g .r .day .0 < g .latest .0 = ltb-true _ _ (sym (c .before .before2 .ensures) ∙ c .if7 .taken) in
+    sym (admits-not _ _ _ _ (λ h. omega arith))
+
+too-soon-requires : tie.Need-too-soon-requires
+too-soon-requires c κs = search needs
 
 returns-8 : tie.Need-returns-8
 returns-8 c =
-    let g = c .before .before .before .before .before .before .before .before .before .before .before .before .before .args in
+    let o = c .before .before in
+    let g = o .before .before .before .before .before .before .before .before .before .before .before .before .before .args in
     let i = g .r .place in
     let work = work-at (g .p) i (omega arith) (omega arith) in
-    sym (admits-apart (g .p) (g .latest) (g .last) (g .r) (omega arith) (omega arith) (omega arith) (omega arith) (omega arith) (omega arith) ∙ rw (eq-eqb (g .last) 0 (c .if8 .taken)))
-
-sub-result : tie.Need-sub-result
-sub-result c = search needs
-
-cast-result : tie.Need-cast-result
-cast-result c = search needs
-
-add-result : tie.Need-add-result
-add-result c = search needs
-
-cast-result-2 : tie.Need-cast-result-2
-cast-result-2 c = search needs
-
-returns-9 : tie.Need-returns-9
-returns-9 c =
-    let g = c .before .before .before .before .before .before .before .before .before .before .before .before .before .before .args in
-    let i = g .r .place in
-    let work = work-at (g .p) i (omega arith) (omega arith) in
-    let some : eqb (g .last) 0 ≡ false = ne-eqb (g .last) 0 (omega arith) in
-    sym
-    (admits-apart (g .p) (g .latest) (g .last) (g .r) (omega arith) (omega arith) (omega arith) (omega arith) (omega arith) (omega arith)
-    ∙ rw (some, period-at (g .p) i (omega arith) (omega arith)))
+    let order : g .latest .0 ≤ g .r .day .0 = ltb-false _ _ (sym (o .before2 .ensures) ∙ c .before .if7 .left) in
+    let facts =
+    admits-apart (g .p) (g .latest) (g .last) (g .r) (omega arith) (omega arith) (omega arith) (omega arith) (omega arith) (omega arith) in
+    rw (c .too-soon .ensures, ← period-at (g .p) i (omega arith) (omega arith)) (sym facts)
 
 pub admitted-spec : {M : Type 1} → statement M
 admitted-spec =
@@ -100,10 +89,7 @@ admitted-spec =
     returns-4
     returns-5
     returns-6
+    before-requires
     returns-7
-    returns-8
-    sub-result
-    cast-result
-    add-result
-    cast-result-2
-    returns-9)
+    too-soon-requires
+    returns-8)

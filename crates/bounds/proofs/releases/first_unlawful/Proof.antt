@@ -8,10 +8,10 @@ use borrow.Author.Tests.{not-true, not-false}
 use lib.ListN.{take, getD, length-map, replicate}
 use Rattle.rules.specs.declared.Release.{Release}
 use Rattle.rules.specs.Release.{firstUnlawful, releasesOf, noRelease}
+use Rattle.bounds.specs.declared.releases.Last.the-variants.{Never}
 use Rattle.bounds.specs.Seen.{rememberedOf, admits}
 use Rattle.bounds.proofs.ByPlace.{take-min}
-use Rattle.bounds.proofs.Seen.{remembered-small}
-use Rattle.bounds.proofs.Walk.{Walk, walk-start, walk-bad, walk-end, walk-low, walk-high, walk-next}
+use Rattle.bounds.proofs.ReleaseWalk.{Walk, walk-start, walk-bad, walk-end, walk-low, walk-high, walk-next}
 use Rattle.bounds.proofs.releases.first_unlawful.Statement.{statement}
 use Rattle.bounds.proofs.releases.first_unlawful.Tie as tie
 
@@ -21,10 +21,10 @@ Inv-loop p list count end last₀ latest₀ i₀ last latest i = Walk p list end
 abbrev μ-loop : tie.MeasureT-loop
 μ-loop p list count end last₀ latest₀ i₀ last latest i = end - i
 
-zeros : (n k : ℕ) → _≡_ {A = ℕ} (getD (replicate n 0) k 0) 0
-zeros zero k = refl
-zeros (suc n) zero = refl
-zeros (suc n) (suc k) = zeros n k
+nevers : (n k : ℕ) → getD (replicate n Never) k Never ≡ Never
+nevers zero k = refl
+nevers (suc n) zero = refl
+nevers (suc n) (suc k) = nevers n k
 
 smaller-requires : tie.Need-smaller-requires Inv-loop μ-loop
 smaller-requires c κs = search needs
@@ -32,12 +32,11 @@ smaller-requires c κs = search needs
 loop-holds : tie.Need-loop-holds Inv-loop μ-loop
 loop-holds c =
     let start = c .before .before in
-    let g = start .args in
-    walk-start (g .p) (g .rs .list) (c .smaller .result) (replicate 10 0) (omega arith)
+    walk-start (omega arith)
     (simp length-map at (start .good .1 .0 .1 .1 .1 .0 .1 .0 .1))
     (simp length-map at (start .good .0 .1 .1 .1 .1 .1 .0 .1 .0 .1))
     refl
-    (zeros 10)
+    (nevers 10)
 
 mul-r : tie.Need-mul-r Inv-loop μ-loop
 mul-r c = omega arith
@@ -49,16 +48,14 @@ remembered-requires : tie.Need-remembered-requires Inv-loop μ-loop
 remembered-requires c κs = search needs
 
 admitted-requires : tie.Need-admitted-requires Inv-loop μ-loop
-admitted-requires c κs =
-    let at = c .before .before .before in
-    let place = getD (at .before .before .before .args .rs .list) (at .loop .i) noRelease .place in
-    omega (arith, c .remembered .ensures, remembered-small (at .loop .last) place 4294967296 (at .loop .inv .small))
+admitted-requires c κs = search needs
 
 add-result : tie.Need-add-result Inv-loop μ-loop
 add-result c = omega arith
 
 -- the releases that count are those of the list
-counted : (c : tie.At-loop Inv-loop μ-loop) → take (c .before .smaller .result) (c .before .before .before .args .rs .list) ≡ releasesOf (c .before .before .before .args .rs)
+counted : (c : tie.At-loop Inv-loop μ-loop)
+    → take (c .before .smaller .result) (c .before .before .before .args .rs .list) ≡ releasesOf (c .before .before .before .args .rs)
 counted c =
     let rs = c .before .before .before .args .rs in
     ap (λ k. take k (rs .list)) (c .before .smaller .ensures) ∙ take-min (rs .count) 1000 (rs .list) (c .loop .inv .thousand)
@@ -70,47 +67,39 @@ reached c = getD (c .before .before .before .args .rs .list) (c .loop .i) noRele
 abbrev admitsHere : tie.At-loop Inv-loop μ-loop → Bool
 admitsHere c = admits (c .before .before .before .args .p) (c .loop .latest) (rememberedOf (c .loop .last) (reached c .place)) (reached c)
 
-said : (c : tie.After-admitted Inv-loop μ-loop) → c .admitted .result ≡ admitsHere (c .before .before .before .before)
+-- where the loop stands at the answer on a release
+abbrev turn : tie.After-admitted Inv-loop μ-loop → tie.At-loop Inv-loop μ-loop
+turn c = c .before .before .before .before .before
+
+said : (c : tie.After-admitted Inv-loop μ-loop) → c .admitted .result ≡ admitsHere (turn c)
 said c =
-    let at = c .before .before .before .before in
-    c .admitted .ensures ∙ ap (λ v. admits (at .before .before .before .args .p) (at .loop .latest) v (reached at)) (c .before .remembered .ensures)
+    let at = turn c in
+    c .admitted .ensures ∙ ap (λ v. admits (at .before .before .before .args .p) (at .loop .latest) v (reached at))
+    (c .before .remembered .ensures)
 
 returns : tie.Need-returns Inv-loop μ-loop
 returns c =
-    let at = c .before .before .before .before .before in
-    let g = at .before .before .before .args in
-    walk-bad (g .p) (g .rs .list) (at .before .smaller .result) (at .loop .last) (at .loop .latest) (at .loop .i) (at .loop .inv) (omega arith) (sym (said (c .before)) ∙ not-true _ (c .if1 .taken))
-    ∙ ap (firstUnlawful (g .p)) (counted at)
+    let at = turn (c .before) in
+    walk-bad (at .loop .inv) (omega arith) (sym (said (c .before)) ∙ not-true _ (c .if1 .taken))
+    ∙ ap (firstUnlawful (at .before .before .before .args .p)) (counted at)
 
-passed : (c : tie.Else1 Inv-loop μ-loop) → admitsHere (c .before .before .before .before .before) ≡ true
+passed : (c : tie.Else1 Inv-loop μ-loop) → admitsHere (turn (c .before)) ≡ true
 passed c = sym (said (c .before)) ∙ not-false _ (c .if1 .left)
 
-low : (c : tie.Else1 Inv-loop μ-loop) → 1 ≤ reached (c .before .before .before .before .before) .place
-low c =
-    let at = c .before .before .before .before .before in
-    let g = at .before .before .before .args in
-    walk-low (g .p) (g .rs .list) (at .before .smaller .result) (at .loop .last) (at .loop .latest) (at .loop .i) (at .loop .inv) (passed c)
+low : (c : tie.Else1 Inv-loop μ-loop) → 1 ≤ reached (turn (c .before)) .place
+low c = walk-low (turn (c .before) .loop .inv) (passed c)
 
-high : (c : tie.Else1 Inv-loop μ-loop) → reached (c .before .before .before .before .before) .place ≤ 10
-high c =
-    let at = c .before .before .before .before .before in
-    let g = at .before .before .before .args in
-    walk-high (g .p) (g .rs .list) (at .before .smaller .result) (at .loop .last) (at .loop .latest) (at .loop .i) (at .loop .inv) (passed c)
-
-cast-last : tie.Need-cast-last Inv-loop μ-loop
-cast-last c = search needs
-
-add-last : tie.Need-add-last Inv-loop μ-loop
-add-last c = search needs
+high : (c : tie.Else1 Inv-loop μ-loop) → reached (turn (c .before)) .place ≤ 10
+high c = walk-high (turn (c .before) .loop .inv) (passed c)
 
 sub-last : tie.Need-sub-last Inv-loop μ-loop
-sub-last c = low (c .before)
+sub-last c = low c
 
 mul-last : tie.Need-mul-last Inv-loop μ-loop
-mul-last c = omega (arith, high (c .before))
+mul-last c = omega (arith, high c)
 
-array-write-last : tie.Need-array-write-last Inv-loop μ-loop
-array-write-last c = omega (arith, low (c .before), high (c .before))
+array-set-from-last : tie.Need-array-set-from-last Inv-loop μ-loop
+array-set-from-last c = omega (arith, low c, high c)
 
 add-i : tie.Need-add-i Inv-loop μ-loop
 add-i c = omega arith
@@ -119,17 +108,12 @@ loop-less : tie.Need-loop-less Inv-loop μ-loop
 loop-less c = omega arith
 
 loop-again : tie.Need-loop-again Inv-loop μ-loop
-loop-again c =
-    let at = c .before .before .before .before .before .before in
-    let g = at .before .before .before .args in
-    walk-next (g .p) (g .rs .list) (at .before .smaller .result) (at .loop .last) (at .loop .latest) (at .loop .i) (at .loop .inv) (omega arith) (passed (c .before)) (omega arith)
+loop-again c = walk-next (turn (c .before) .loop .inv) (omega arith) (passed c)
 
 returns-2 : tie.Need-returns-2 Inv-loop μ-loop
 returns-2 c =
     let at = c .before in
-    let g = at .before .before .before .args in
-    walk-end (g .p) (g .rs .list) (at .before .smaller .result) (at .loop .last) (at .loop .latest) (at .loop .i) (at .loop .inv) (c .loop-test .left)
-    ∙ ap (firstUnlawful (g .p)) (counted at)
+    walk-end (at .loop .inv) (c .loop-test .left) ∙ ap (firstUnlawful (at .before .before .before .args .p)) (counted at)
 
 pub first-unlawful-spec : {M : Type 1} → statement M
 first-unlawful-spec =
@@ -145,11 +129,9 @@ first-unlawful-spec =
     admitted-requires
     add-result
     returns
-    cast-last
-    add-last
     sub-last
     mul-last
-    array-write-last
+    array-set-from-last
     add-i
     loop-less
     loop-again

@@ -37,7 +37,9 @@ add-t13 : tie.Need-add-t13 Inv-loop μ-loop
 add-t13 c = omega arith
 
 -- the strings that count are those of the plan
-counted : (c : tie.At-loop Inv-loop μ-loop) → take (c .before .before .counted .result) (c .before .before .before .args .p .strings) ≡ stringsOf (c .before .before .before .args .p)
+counted : (c : tie.At-loop Inv-loop μ-loop)
+    → take (c .before .before .counted .result) (c .before .before .before .args .p .strings)
+    ≡ stringsOf (c .before .before .before .args .p)
 counted c =
     let p = c .before .before .before .args .p in
     ap (λ k. take k (p .strings)) (c .before .before .counted .ensures) ∙ take-min (p .n) 10 (p .strings) (c .loop .inv .2)
@@ -50,7 +52,8 @@ returns c =
     let i = at .loop .i in
     let fits : n ≤ length (p .strings) = omega arith in
     let inside : i < n = omega arith in
-    sym (stringsCheck-bad (i + 1) n i (p .strings) inside fits (sym (c .before .string-lawful .ensures) ∙ not-true _ (c .if1 .taken))) ∙ at .loop .inv .3 ∙ ap (stringsCheck 1) (counted at)
+    sym (stringsCheck-bad (i + 1) n i (p .strings) inside fits (sym (c .before .string-lawful .ensures) ∙ not-true _ (c .if1 .taken)))
+    ∙ at .loop .inv .3 ∙ ap (stringsCheck 1) (counted at)
 
 add-i : tie.Need-add-i Inv-loop μ-loop
 add-i c = omega arith
@@ -66,14 +69,17 @@ loop-again c =
     let i = at .loop .i in
     let fits : n ≤ length (p .strings) = omega arith in
     let inside : i < n = omega arith in
-    (omega arith, omega arith, at .loop .inv .2, sym (stringsCheck-good (i + 1) n i (p .strings) inside fits (sym (c .before .string-lawful .ensures) ∙ not-false _ (c .if1 .left))) ∙ at .loop .inv .3)
+    let next = stringsCheck-good (i + 1) n i (p .strings) inside fits
+    (sym (c .before .string-lawful .ensures) ∙ not-false _ (c .if1 .left)) in
+    (omega arith, omega arith, at .loop .inv .2, sym next ∙ at .loop .inv .3)
 
 returns-2 : tie.Need-returns-2 Inv-loop μ-loop
 returns-2 c =
     let at = c .before in
     let p = at .before .before .before .args .p in
     let n = at .before .before .counted .result in
-    sym (stringsCheck-end (at .loop .i + 1) n (at .loop .i) (p .strings) (c .loop-test .left)) ∙ at .loop .inv .3 ∙ ap (stringsCheck 1) (counted at)
+    sym (stringsCheck-end (at .loop .i + 1) n (at .loop .i) (p .strings) (c .loop-test .left)) ∙ at .loop .inv .3
+    ∙ ap (stringsCheck 1) (counted at)
 
 pub strings-check-spec : {M : Type 1} → statement M
 strings-check-spec =

@@ -72,8 +72,11 @@ loop-again : tie.Need-loop-again Inv-loop μ-loop
 loop-again c =
     let at = c .before .before in
     let start = at .before .before in
-    let g = start .args in
-    (omega arith, copied (g .page) (g .text .now) (at .loop .bytes) (at .loop .i) (start .pre .0) (start .pre .1) (omega arith) (at .loop .inv .1))
+    let g = start .args in (
+      omega arith,
+      copied (g .page) (g .text .now) (at .loop .bytes) (at .loop .i) (start .pre .0) (start .pre .1) (omega arith)
+          (at .loop .inv .1),
+    )
 
 add-t13 : tie.Need-add-t13 Inv-loop μ-loop
 add-t13 c = omega arith

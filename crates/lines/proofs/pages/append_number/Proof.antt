@@ -22,7 +22,8 @@ part-length digits at d h =
     omega (arith, ap length (part (set digits at d) at (omega arith)), length-drop at (set digits at d))
 
 abbrev Inv-loop : tie.InvT-loop
-Inv-loop page n digits₀ at₀ rest₀ digits at rest = (1 ≤ at) × (at ≤ 20) × (rest < tens at) × (length digits ≡ 20) × (decimal n ≡ decimal rest ++ drop at digits)
+Inv-loop page n digits₀ at₀ rest₀ digits at rest = (1 ≤ at) × (at ≤ 20) × (rest < tens at) × (length digits ≡ 20) ×
+    (decimal n ≡ decimal rest ++ drop at digits)
 
 abbrev μ-loop : tie.MeasureT-loop
 μ-loop page n digits₀ at₀ rest₀ digits at rest = rest
@@ -94,7 +95,8 @@ part-append-start c = search needs
 part-append-end : tie.Need-part-append-end Inv-loop μ-loop
 part-append-end c =
     let at = c .before .before in
-    let whole : 20 ≤ length (set (at .loop .digits) (at .loop .at - 1) (48 + at .loop .rest)) = omega (arith, length-set (at .loop .digits) (at .loop .at - 1) (48 + at .loop .rest)) in
+    let whole : 20 ≤ length (set (at .loop .digits) (at .loop .at - 1) (48 + at .loop .rest)) = omega
+    (arith, length-set (at .loop .digits) (at .loop .at - 1) (48 + at .loop .rest)) in
     whole
 
 -- src/pages.rt:55:5

@@ -29,7 +29,8 @@ returns c =
     let n = start .args .n in
     let mid = at .append .result in
     let first = len-more page mid (textOf page) word (own page (start .pre .0)) (at .append .ensures) in
-    let second = len-more mid (c .append-number .result) (textOf page ++ word) (decimal n) (at .append .ensures) (c .append-number .ensures) in (
+    let second = len-more mid (c .append-number .result) (textOf page ++ word) (decimal n) (at .append .ensures)
+    (c .append-number .ensures) in (
       behind mid (c .append-number .result) (textOf page) word (decimal n) (at .append .ensures) (c .append-number .ensures),
       omega (arith, decimal-64 n (omega arith)),
     )

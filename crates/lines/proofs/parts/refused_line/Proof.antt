@@ -36,7 +36,8 @@ returns c =
     let second = c .before .before in
     let first = second .before .before in
     let text = textOf (first .before .before .before .args .page) in
-    let one = first .append-count .ensures .0 ∙ ap (λ n. pageOf (text ++ (bytesOf "refused " ++ decimal n))) (first .before .fault-number .ensures) in
+    let one = first .append-count .ensures .0 ∙ ap (λ n. pageOf (text ++ (bytesOf "refused " ++ decimal n)))
+    (first .before .fault-number .ensures) in
     let two = behind-both _ _ text _ _ _ one (second .append-place .ensures .0) in
     (behind _ _ text _ _ two (c .append .ensures), omega (arith, len-more _ _ _ _ two (c .append .ensures)))
 

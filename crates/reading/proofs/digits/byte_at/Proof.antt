@@ -1,8 +1,8 @@
 -- `reading::digits::byte_at` meets its contract: no digit is worth more than 16.
+use Prim.Native.Nat.{_+_}
 use native.Mathlib.Omega.{arith}
 use borrow.Author.Needs.{needs}
 use lib.ListN.{getD}
-use Prim.Native.Nat.{_+_}
 use Rattle.reading.proofs.Hex.{digitOf-le}
 use Rattle.reading.proofs.digits.byte_at.Statement.{statement}
 use Rattle.reading.proofs.digits.byte_at.Tie as tie
@@ -30,7 +30,8 @@ digit-requires-2 c κs = search needs
 add-result : tie.Need-add-result
 add-result c =
     let g = c .before .before .before .before .before .args in
-    omega (arith, c .before .digit .ensures, c .digit2 .ensures, digitOf-le (getD (g .text .now) (g .at) 0), digitOf-le (getD (g .text .now) (g .at + 1) 0))
+    let high = digitOf-le (getD (g .text .now) (g .at) 0) in
+    omega (arith, high, c .before .digit .ensures, c .digit2 .ensures, digitOf-le (getD (g .text .now) (g .at + 1) 0))
 
 returns : tie.Need-returns
 returns c = search needs

@@ -1,116 +1,76 @@
--- `reading::frames::frame_check` meets its contract: each test that ends it is a law of the line at a place of the text.
-use Prim.Native.Nat.{_+_, _%_, _<_}
-use mathlib.Core.Path.{_≡_, sym, _∙_}
+-- `reading::frames::frame_check` meets its contract: its form decides first, then its size, then its kind.
+use Prim.Native.Nat.{_/_}
+use mathlib.Core.Path.{_≡_, sym, ap, _∙_}
 use native.Mathlib.Omega.{arith}
+use borrow.Author.Tests.{not-true, not-false}
 use borrow.Author.Needs.{needs}
-use lib.ListN.{length, getD, drop, length-drop}
-use Rattle.reading.proofs.Lines.{digitRun-fits}
-use Rattle.reading.proofs.Framing.{check-cut, check-other, check-empty, check-odd, check-size, check-kind, check-good}
+use lib.ListN.{drop}
+use Rattle.reading.specs.Positions.{digitsAhead}
+use Rattle.reading.proofs.Lines.{Formed, formed-is}
+use Rattle.reading.proofs.Framing.{check-malformed, check-size, check-kind, check-good}
 use Rattle.reading.proofs.frames.frame_check.Statement.{statement}
 use Rattle.reading.proofs.frames.frame_check.Tie as tie
 
-digit-run-requires : tie.Need-digit-run-requires
-digit-run-requires c κs = search needs
+abbrev start : tie.After-digits-ahead → tie.Start
+start d = d .before .before
 
-add-end : tie.Need-add-end
-add-end c =
-    let g = c .before .before .args in
-    omega (arith, c .digit-run .ensures, digitRun-fits (drop (g .at) (g .text .now)), length-drop (g .at) (g .text .now))
+-- what was counted
+half : (d : tie.After-digits-ahead) → digitsAhead (drop (start d .args .at) (start d .args .text .now)) / 2 ≡ d .digits-ahead .result / 2
+half d = ap (λ n. n / 2) (sym (d .digits-ahead .ensures))
+
+formed : (c : tie.Else1) → Formed (start (c .before .before) .args .text .now) (start (c .before .before) .args .at)
+formed c = formed-is _ _ (sym (c .before .well-formed .ensures) ∙ not-false _ (c .if1 .left))
+
+digits-ahead-requires : tie.Need-digits-ahead-requires
+digits-ahead-requires c κs = search needs
+
+well-formed-requires : tie.Need-well-formed-requires
+well-formed-requires c κs = search needs
 
 returns : tie.Need-returns
 returns c =
-    let found = c .before in
-    let g = found .before .before .args in
-    let r = found .digit-run .result in
-    let e = found .digit-run .ensures in
-    sym (check-cut (g .text .now) (g .at) (g .k) (g .kind) (g .size) r e (omega arith) (omega arith))
-
-shared-slice-read-b : tie.Need-shared-slice-read-b
-shared-slice-read-b c = search needs
+    let formed = c .before in
+    sym
+    (check-malformed _ _ _ _ _
+    (sym (formed .well-formed .ensures) ∙ not-true _ (c .if1 .taken)))
 
 returns-2 : tie.Need-returns-2
 returns-2 c =
-    let found = c .before .before .before in
-    let g = found .before .before .args in
-    let r = found .digit-run .result in
-    let e = found .digit-run .ensures in
-    sym (check-other (g .text .now) (g .at) (g .k) (g .kind) (g .size) r e (c .if2 .taken))
+    let good = c .before .before in
+    sym
+    (check-size _ _ _ _ _ _ (formed good) (half (good .before .before)) (c .if2 .taken))
+
+field-at-requires : tie.Need-field-at-requires
+field-at-requires c κs =
+    let f = formed (c .before .before) in
+    (omega (arith, f .some, f .even), omega arith)
 
 returns-3 : tie.Need-returns-3
 returns-3 c =
-    let found = c .before .before .before .before in
-    let g = found .before .before .args in
-    let r = found .digit-run .result in
-    let e = found .digit-run .ensures in
-    let inside : g .at + r < length (g .text .now) = omega arith in
-    let newline : getD (g .text .now) (g .at + r) 0 ≡ 0x0a = omega arith in
-    sym (check-empty (g .text .now) (g .at) (g .k) (g .kind) (g .size) r e inside newline (omega arith))
+    let kind = c .before .before in
+    let sized = kind .before in
+    let good = sized .before .before in
+    sym
+    (check-kind _ _ _ _ _ _ (formed good) (half (good .before .before)) (sized .if2 .left)
+    (λ same. c .if3 .taken (kind .field-at .ensures ∙ same)))
 
 returns-4 : tie.Need-returns-4
 returns-4 c =
-    let found = c .before .before .before .before .before in
-    let g = found .before .before .args in
-    let r = found .digit-run .result in
-    let e = found .digit-run .ensures in
-    let inside : g .at + r < length (g .text .now) = omega arith in
-    let newline : getD (g .text .now) (g .at + r) 0 ≡ 0x0a = omega arith in
-    sym (check-odd (g .text .now) (g .at) (g .k) (g .kind) (g .size) r e inside newline (omega arith))
-
-mul-if5 : tie.Need-mul-if5
-mul-if5 c = search needs
-
-returns-5 : tie.Need-returns-5
-returns-5 c =
-    let found = c .before .before .before .before .before .before in
-    let g = found .before .before .args in
-    let r = found .digit-run .result in
-    let e = found .digit-run .ensures in
-    let inside : g .at + r < length (g .text .now) = omega arith in
-    let newline : getD (g .text .now) (g .at + r) 0 ≡ 0x0a = omega arith in
-    let some : 0 < r = omega arith in
-    let even : r % 2 ≡ 0 = omega arith in
-    sym (check-size (g .text .now) (g .at) (g .k) (g .kind) (g .size) r e inside newline some even (c .if5 .taken))
-
-byte-at-requires : tie.Need-byte-at-requires
-byte-at-requires c κs = search needs
-
-returns-6 : tie.Need-returns-6
-returns-6 c =
-    let found = c .before .before .before .before .before .before .before .before in
-    let g = found .before .before .args in
-    let r = found .digit-run .result in
-    let e = found .digit-run .ensures in
-    let inside : g .at + r < length (g .text .now) = omega arith in
-    let newline : getD (g .text .now) (g .at + r) 0 ≡ 0x0a = omega arith in
-    let some : 0 < r = omega arith in
-    let even : r % 2 ≡ 0 = omega arith in
-    sym (check-kind (g .text .now) (g .at) (g .k) (g .kind) (g .size) r e inside newline some even (omega arith) (λ h. c .if6 .taken (c .before .byte-at .ensures ∙ h)))
-
-returns-7 : tie.Need-returns-7
-returns-7 c =
-    let found = c .before .before .before .before .before .before .before .before in
-    let g = found .before .before .args in
-    let r = found .digit-run .result in
-    let e = found .digit-run .ensures in
-    let inside : g .at + r < length (g .text .now) = omega arith in
-    let newline : getD (g .text .now) (g .at + r) 0 ≡ 0x0a = omega arith in
-    let some : 0 < r = omega arith in
-    let even : r % 2 ≡ 0 = omega arith in
-    sym (check-good (g .text .now) (g .at) (g .k) (g .kind) (g .size) r e inside newline some even (omega arith) (sym (c .before .byte-at .ensures) ∙ c .if6 .left))
+    let kind = c .before .before in
+    let sized = kind .before in
+    let good = sized .before .before in
+    sym
+    (check-good _ _ _ _ _ _ (formed good) (half (good .before .before)) (sized .if2 .left)
+    (sym (kind .field-at .ensures) ∙ c .if3 .left))
 
 pub frame-check-spec : {M : Type 1} → statement M
 frame-check-spec =
     tie.close
     (tie.spec
-    digit-run-requires
-    add-end
+    digits-ahead-requires
+    well-formed-requires
     returns
-    shared-slice-read-b
     returns-2
+    field-at-requires
     returns-3
-    returns-4
-    mul-if5
-    returns-5
-    byte-at-requires
-    returns-6
-    returns-7)
+    returns-4)

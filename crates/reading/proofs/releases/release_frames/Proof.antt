@@ -1,48 +1,86 @@
 -- `reading::releases::release_frames` meets its contract: the lines that are left, from the one reached on, give what all of them give.
 use Prim.Native.Nat.{ℕ, suc, _+_, _-_, _*_, _≤_}
-use mathlib.Core.Path.{_≡_, sym, _∙_}
+use mathlib.Core.Path.{_≡_, sym, ap, _∙_}
 use mathlib.Core.List.{List}
 use native.Mathlib.Omega.{arith}
+use native.Mathlib.Nat.{zero-add}
 use borrow.Author.Needs.{needs}
-use lib.ListN.{length, drop}
+use lib.ListN.{length}
+use Rattle.faults.specs.declared.Checked.{Checked}
 use Rattle.faults.specs.declared.Checked.the-variants.{Lawful}
-use Rattle.rules.specs.Text.{linesOf, frameCheck}
+use Rattle.rules.specs.Layout.{Layout, version01, lineSize}
+use Rattle.rules.specs.Text.{layoutCheck}
 use Rattle.reading.specs.declared.Framed.{Framed}
-use Rattle.reading.specs.Place.{lineAt, framesFrom}
+use Rattle.reading.specs.Positions.{linesFrom, lineAt, framesIn}
 use Rattle.reading.proofs.Framing.{frameCheck-frame}
-use Rattle.reading.proofs.ReleasePlaces.{frames-none, frames-refused, frames-full, frames-next}
+use Rattle.reading.proofs.ReleaseLines.{frames-none-at, frames-refused-at, frames-full-at, frames-next-at}
 use Rattle.reading.proofs.releases.release_frames.Statement.{statement}
 use Rattle.reading.proofs.releases.release_frames.Tie as tie
 
+abbrev l : Layout
+l = version01 .release
+
+abbrev step : ℕ
+step = lineSize l
+
+-- n frames stand ahead
+abbrev after : ℕ → Framed → Framed
+after n later = record { count = n + later .count; checked = later .checked }
+
 -- what the lines from the j-th on give
 abbrev left : List ℕ → ℕ → ℕ → ℕ → Framed
-left text at k j = framesFrom (k + j) j (linesOf (drop (at + j * 17) text))
+left text start k j = framesIn l (k + j) (1000 - j) (linesFrom text (start + j * step))
 
-start : (text : List ℕ) (at k : ℕ) → left text at k 0 ≡ framesFrom k 0 (linesOf (drop at text))
-start text at k =
+at-first : (text : List ℕ) (start k : ℕ) → after 0 (left text start k 0) ≡ framesIn l k 1000 (linesFrom text start)
+at-first text start k =
     let line : k + 0 ≡ k = omega arith in
-    let there : at + 0 ≡ at = omega arith in
-    rw (line, there)
+    let here : start + 0 ≡ start = omega arith in
+    rw (line, here, zero-add)
 
-next : (text : List ℕ) (at k j : ℕ) → frameCheck (k + j) 3 8 (lineAt text (at + j * 17)) ≡ Lawful → j ≤ 999 → left text at k j ≡ left text at k (j + 1)
-next text at k j e few =
+next : (text : List ℕ) (start k j : ℕ) → j ≤ 999 → layoutCheck (k + j) l (lineAt text (start + j * step)) ≡ Lawful
+    → after (j + 1) (left text start k (j + 1)) ≡ after j (left text start k j)
+next text start k j few e =
+    let room : 1000 - j ≡ suc (1000 - (j + 1)) = omega arith in
     let line : suc (k + j) ≡ k + (j + 1) = omega arith in
-    let one : suc j ≡ j + 1 = omega arith in
-    let there : at + j * 17 + 17 ≡ at + (j + 1) * 17 = omega arith in
-    frames-next text (at + j * 17) (k + j) j e few ∙ rw (line, one, there)
+    let there : start + j * step + step ≡ start + (j + 1) * step = omega arith in
+    let later = left text start k (j + 1) in
+    let count : j + suc (later .count) ≡ j + 1 + later .count = omega arith in
+    rw (room, frames-next-at l text (start + j * step) (k + j) e (1000 - (j + 1)), line, there, count)
+
+-- the frames end here
+ended : (j : ℕ) (here : Framed) (end : Checked) → here ≡ record { count = 0; checked = end }
+    → record { count = j; checked = end } ≡ after j here
+ended j here end e =
+    let all : j + 0 ≡ j = omega arith in
+    rw (e, all)
 
 abbrev Inv-loop : tie.InvT-loop
-Inv-loop text at k j₀ j = (j ≤ 1000) × (at + j * 17 ≤ length text) × (left text at k j ≡ framesFrom k 0 (linesOf (drop at text)))
+Inv-loop text start k j₀ j =
+    (j ≤ 1000) × (start + j * step ≤ length text) × (after j (left text start k j) ≡ framesIn l k 1000 (linesFrom text start))
 
 abbrev μ-loop : tie.MeasureT-loop
-μ-loop text at k j₀ j = 1000 - j
+μ-loop text start k j₀ j = 1000 - j
 
-loop-holds : tie.Need-loop-holds Inv-loop μ-loop
-loop-holds c = (omega arith, omega arith, start (c .before .args .text .now) (c .before .args .at) (c .before .args .k))
+abbrev begin : tie.At-loop Inv-loop μ-loop → tie.Start Inv-loop μ-loop
+begin o = o .before .before
+
+abbrev found : tie.After-enum-told Inv-loop μ-loop → tie.After-frame-check Inv-loop μ-loop
+found c = c .before .before
+
+abbrev reached : tie.After-enum-told Inv-loop μ-loop → tie.At-loop Inv-loop μ-loop
+reached c = found c .before .before
 
 -- what the check of the line reached said
-lawful : (c : tie.After-enum-told Inv-loop μ-loop) → frameCheck (c .before .before .before .before .before .before .args .k + c .before .before .before .before .loop .j) 3 8 (lineAt (c .before .before .before .before .before .before .args .text .now) (c .before .before .before .before .before .before .args .at + c .before .before .before .before .loop .j * 17)) ≡ Lawful
-lawful c = sym (c .before .before .frame-check .ensures) ∙ c .enum-told .given .1
+lawful : (c : tie.After-enum-told Inv-loop μ-loop)
+    → layoutCheck (begin (reached c) .args .k + reached c .loop .j) l
+    (lineAt (begin (reached c) .args .text .now) (begin (reached c) .args .start + reached c .loop .j * step))
+    ≡ Lawful
+lawful c = sym (found c .frame-check .ensures) ∙ c .enum-told .given .1
+
+loop-holds : tie.Need-loop-holds Inv-loop μ-loop
+loop-holds c =
+    let g = c .before .args in
+    (omega arith, omega arith, at-first (g .text .now) (g .start) (g .k))
 
 mul-here : tie.Need-mul-here Inv-loop μ-loop
 mul-here c = omega arith
@@ -52,10 +90,8 @@ add-here c = omega arith
 
 returns : tie.Need-returns Inv-loop μ-loop
 returns c =
-    let at = c .before in
-    let g = at .before .before .args in
-    let j = at .loop .j in
-    sym (frames-none (g .text .now) (g .at + j * 17) (g .k + j) j (c .if1 .taken)) ∙ at .loop .inv .2
+    let o = c .before in
+    ended (o .loop .j) _ _ (frames-none-at l _ _ _ _ (c .if1 .taken)) ∙ o .loop .inv .2
 
 add-frame-check : tie.Need-add-frame-check Inv-loop μ-loop
 add-frame-check c = omega arith
@@ -66,16 +102,19 @@ frame-check-requires c κs = omega arith
 enum-told : tie.Need-enum-told Inv-loop μ-loop
 enum-told c = search needs
 
-add-t14 : tie.Need-add-t14 Inv-loop μ-loop
-add-t14 c = omega arith
+add-t15 : tie.Need-add-t15 Inv-loop μ-loop
+add-t15 c = omega arith
 
 returns-2 : tie.Need-returns-2 Inv-loop μ-loop
 returns-2 c =
-    let found = c .before .before .before in
-    let at = found .before .before in
-    let g = at .before .before .args in
-    let j = at .loop .j in
-    sym (frames-full (g .text .now) (g .at + j * 17) (g .k + j) j (found .before .if1 .left) (lawful (c .before)) (c .if2 .taken)) ∙ at .loop .inv .2
+    let o = found (c .before) .before .before in
+    let g = begin o .args in
+    let j = o .loop .j in
+    let room : 1000 - j ≡ 0 = omega arith in
+    let inside = found (c .before) .before .if1 .left in
+    ended j _ _ (ap (λ r. framesIn l (g .k + j) r (linesFrom (g .text .now) (g .start + j * step))) room
+    ∙ frames-full-at l (g .text .now) (g .start + j * step) (g .k + j) (lawful (c .before)) inside)
+    ∙ o .loop .inv .2
 
 add-j : tie.Need-add-j Inv-loop μ-loop
 add-j c = omega arith
@@ -85,16 +124,12 @@ loop-less c = omega arith
 
 loop-again : tie.Need-loop-again Inv-loop μ-loop
 loop-again c =
-    let found = c .before .before .before in
-    let at = found .before .before in
-    let g = at .before .before .args in
-    let j = at .loop .j in
-    let frame = frameCheck-frame (g .text .now) (g .at + j * 17) (g .k + j) 3 8 (lawful (c .before)) in
-    let inside = frame .inside in (
-      omega arith,
-      omega arith,
-      sym (next (g .text .now) (g .at) (g .k) j (lawful (c .before)) (omega arith)) ∙ at .loop .inv .2,
-    )
+    let o = found (c .before) .before .before in
+    let g = begin o .args in
+    let j = o .loop .j in
+    let good = lawful (c .before) in
+    let frame = frameCheck-frame _ _ _ _ _ good in
+    (omega arith, omega (arith, frame .inside), next (g .text .now) (g .start) (g .k) j (omega arith) good ∙ o .loop .inv .2)
 
 enum-known-line : tie.Need-enum-known-line Inv-loop μ-loop
 enum-known-line c = search needs
@@ -102,12 +137,10 @@ enum-known-line c = search needs
 returns-3 : tie.Need-returns-3 Inv-loop μ-loop
 returns-3 c =
     let known = c .before in
-    let found = known .before .before in
-    let at = found .before .before in
-    let g = at .before .before .args in
-    let j = at .loop .j in
-    sym (frames-refused (g .text .now) (g .at + j * 17) (g .k + j) j (found .before .if1 .left) _ _ (sym (found .frame-check .ensures) ∙ known .line .given .1))
-    ∙ at .loop .inv .2
+    let checked = known .before .before in
+    let o = checked .before .before in
+    let refused = sym (checked .frame-check .ensures) ∙ known .line .given .1 in
+    ended (o .loop .j) _ _ (frames-refused-at l _ _ _ _ (checked .before .if1 .left) _ _ refused) ∙ o .loop .inv .2
 
 pub release-frames-spec : {M : Type 1} → statement M
 release-frames-spec =
@@ -122,7 +155,7 @@ release-frames-spec =
     add-frame-check
     frame-check-requires
     enum-told
-    add-t14
+    add-t15
     returns-2
     add-j
     loop-less

@@ -1,88 +1,89 @@
 -- `reading::strings::plan_in` meets its contract: the array holds the strings read so far, and the filler behind them.
-use Prim.Native.Nat.{ℕ, _+_, _-_, _*_, _≤_, _<_}
-use mathlib.Core.Path.{_≡_, refl, sym, ap, _∙_}
-use mathlib.Core.List.{List, []}
+use Prim.Native.Nat.{ℕ, _-_, _≤_}
+use mathlib.Core.Path.{_≡_, sym, _∙_}
+use mathlib.Core.List.{List, map}
 use native.Mathlib.Omega.{arith}
-use lib.ListN.{set}
+use Rattle.lists.specs.Count.{filled}
 use Rattle.rules.specs.declared.BatteryString.{BatteryString}
 use Rattle.rules.specs.Plan.{noString}
-use Rattle.lists.specs.Count.{filled}
+use Rattle.rules.specs.Layout.{version01, lineSize}
 use Rattle.rules.specs.Text.{stringOf}
-use Rattle.reading.specs.Place.{lineAt, pairIn, quadIn, stringsBy, planBy}
-use Rattle.days.specs.Days.{days}
-use Rattle.reading.proofs.Numbers.{digit-from}
-use Rattle.lists.proofs.Filling.{filled-set}
-use Rattle.reading.proofs.Filling.{stringsBy-length, stringsBy-next}
+use Rattle.reading.specs.Positions.{linesAt}
+use Rattle.reading.proofs.Said.{a-is, run-is}
+use Rattle.reading.proofs.Standing.{stored-none, stored-more}
+use Rattle.reading.proofs.Whole.{plan-said}
 use Rattle.reading.proofs.strings.plan_in.Statement.{statement}
 use Rattle.reading.proofs.strings.plan_in.Tie as tie
 
-nothing : (text : List ℕ) → filled 10 noString [] ≡ filled 10 noString (stringsBy text 19 0)
-unfolding stringsBy
-nothing text = refl
+abbrev step : ℕ
+step = lineSize (version01 .string)
 
-more : (text : List ℕ) (i : ℕ) → i < 10 → (strings : List BatteryString) (s : BatteryString) → strings ≡ filled 10 noString (stringsBy text 19 i) → s ≡ stringOf (lineAt text (19 + i * 17)) → set strings i s ≡ filled 10 noString (stringsBy text 19 (i + 1))
-more text i h strings s e f =
-    let many = stringsBy-length text 19 i in
-    rw (e, f, stringsBy-next text 19 i)
-    (ap (λ k. set (filled 10 noString (stringsBy text 19 i)) k (stringOf (lineAt text (19 + i * 17)))) (sym many)
-    ∙ filled-set 10 noString (stringOf (lineAt text (19 + i * 17))) (stringsBy text 19 i) (omega arith))
+-- what is stored of i strings
+abbrev stored : List ℕ → ℕ → ℕ → List BatteryString
+stored text start i = filled 10 noString (map (stringOf version01) (linesAt text start step i))
 
 abbrev Inv-loop : tie.InvT-loop
-Inv-loop text n strings₀ i₀ strings i = (i ≤ n) × (strings ≡ filled 10 noString (stringsBy text 19 i))
+Inv-loop text start n strings₀ i₀ strings i = (i ≤ n) × (strings ≡ stored text start i)
 
 abbrev μ-loop : tie.MeasureT-loop
-μ-loop text n strings₀ i₀ strings i = n - i
+μ-loop text start n strings₀ i₀ strings i = n - i
 
-built : (text : List ℕ) (n a run : ℕ) (strings : List BatteryString) → a ≡ pairIn text 6 → run ≡ quadIn text 10 → strings ≡ filled 10 noString (stringsBy text 19 n) → record { n = n; a = days a; run = days run; strings = strings } ≡ planBy text n
-unfolding planBy
-built text n a run strings e f g = rw (e, f, g)
+abbrev begin : tie.At-loop Inv-loop μ-loop → tie.Start Inv-loop μ-loop
+begin o = o .before .before
+
+few : (o : tie.At-loop Inv-loop μ-loop) → begin o .args .n ≤ 10
+few o = begin o .pre .1 .0 .2
 
 loop-holds : tie.Need-loop-holds Inv-loop μ-loop
-loop-holds c = (omega arith, nothing (c .before .args .text .now))
+loop-holds c =
+    let g = c .before .args in
+    (omega arith, stored-none noString (stringOf version01) 10 (g .text .now) (g .start) step)
 
 mul-string-at : tie.Need-mul-string-at Inv-loop μ-loop
-mul-string-at c = omega arith
+mul-string-at c = omega (arith, few (c .before))
 
 add-string-at : tie.Need-add-string-at Inv-loop μ-loop
-add-string-at c = omega arith
+add-string-at c = omega (arith, few (c .before), begin (c .before) .pre .1 .0 .0)
 
 string-at-requires : tie.Need-string-at-requires Inv-loop μ-loop
-string-at-requires c κs = c .before .before .before .pre .1 .1 (c .before .loop .i) (omega arith)
+string-at-requires c κs = begin (c .before) .pre .1 .1 .each (c .before .loop .i) (omega arith)
 
 mul-strings : tie.Need-mul-strings Inv-loop μ-loop
-mul-strings c = omega arith
+mul-strings c = omega (arith, few (c .before .before))
 
 array-set-from-strings : tie.Need-array-set-from-strings Inv-loop μ-loop
-array-set-from-strings c = omega arith
+array-set-from-strings c = omega (arith, few (c .before .before))
 
 add-i : tie.Need-add-i Inv-loop μ-loop
-add-i c = omega arith
+add-i c = omega (arith, few (c .before .before))
 
 loop-less : tie.Need-loop-less Inv-loop μ-loop
 loop-less c = omega arith
 
 loop-again : tie.Need-loop-again Inv-loop μ-loop
 loop-again c =
-    let at = c .before .before in
-    let text = at .before .before .args .text .now in
-    (omega arith, more text (at .loop .i) (omega arith) (at .loop .strings) (c .string-at .result) (at .loop .inv .1) (c .string-at .ensures))
+    let o = c .before .before in
+    let g = begin o .args in
+    let few = few o in (
+      omega arith,
+      stored-more noString (stringOf version01) 10 _ _ step (o .loop .i) _ _ (omega arith) (o .loop .inv .1) (c .string-at .ensures),
+    )
 
-pair-at-requires : tie.Need-pair-at-requires Inv-loop μ-loop
-pair-at-requires c κs = omega arith
+field-at-requires : tie.Need-field-at-requires Inv-loop μ-loop
+field-at-requires c κs = omega (arith, begin (c .before) .pre .0 .digits)
 
-quad-at-requires : tie.Need-quad-at-requires Inv-loop μ-loop
-quad-at-requires c κs =
-    let start = c .before .before .before .before in
-    let f = start .pre .0 in
-    (omega arith, λ i h. digit-from (start .args .text .now) 0 9 f 10 i (omega arith))
+field-at-requires-2 : tie.Need-field-at-requires-2 Inv-loop μ-loop
+field-at-requires-2 c κs = omega (arith, begin (c .before .before) .pre .0 .digits)
 
 returns : tie.Need-returns Inv-loop μ-loop
 returns c =
-    let at = c .before .before .before in
-    let g = at .before .before .args in
-    let all : at .loop .i ≡ g .n = omega arith in
-    built (g .text .now) (g .n) _ _ _ (c .before .pair-at .ensures) (c .quad-at .ensures)
-    (at .loop .inv .1 ∙ ap (λ k. filled 10 noString (stringsBy (g .text .now) 19 k)) all)
+    let o = c .before .before .before in
+    let b = begin o in
+    let text = b .args .text .now in
+    let all : o .loop .i ≡ b .args .n = omega arith in
+    let said = plan-said version01 text (b .args .start) (b .args .n) (b .pre .0) (b .pre .1 .0 .0) (b .pre .1 .0 .1) (b .pre .1 .1) in
+    rw (c .before .field-at .ensures, c .field-at2 .ensures, o .loop .inv .1, all)
+    (sym (said ∙ rw (a-is version01 text (b .pre .0), run-is version01 text (b .pre .0))))
 
 pub plan-in-spec : {M : Type 1} → statement M
 plan-in-spec =
@@ -99,6 +100,6 @@ plan-in-spec =
     add-i
     loop-less
     loop-again
-    pair-at-requires
-    quad-at-requires
+    field-at-requires
+    field-at-requires-2
     returns)

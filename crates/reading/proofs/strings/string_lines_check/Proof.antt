@@ -1,77 +1,86 @@
 -- `reading::strings::string_lines_check` meets its contract: the lines that are left, from the one reached on, give what all of them give.
 use Prim.Native.Nat.{ℕ, suc, _+_, _-_, _*_, _≤_, _<_}
 use mathlib.Core.Path.{_≡_, sym, _∙_}
+use mathlib.Core.List.{List}
 use native.Mathlib.Omega.{arith}
 use borrow.Author.Needs.{needs}
-use lib.ListN.{length, drop}
+use lib.ListN.{length}
+use Rattle.faults.specs.declared.Fault.{Fault}
+use Rattle.faults.specs.declared.Fault.the-variants.{FrameWrong}
 use Rattle.faults.specs.declared.Checked.{Checked}
 use Rattle.faults.specs.declared.Checked.the-variants.{Lawful, Refused}
-use Rattle.faults.specs.declared.Fault.the-variants.{FrameWrong}
-use Rattle.faults.specs.declared.Fault.{Fault}
-use Rattle.rules.specs.Text.{linesOf, stringLineCheck, stringLinesCheck}
-use mathlib.Core.List.{List}
-use Rattle.reading.specs.Place.{lineAt}
-use Rattle.reading.proofs.StringLines.{stringLine-framed, stringLines-missing, stringLines-bad, stringLines-good, stringLines-end}
+use Rattle.rules.specs.Layout.{version01, lineSize}
+use Rattle.rules.specs.Text.{stringLineCheck, stringLinesCheck}
+use Rattle.reading.specs.Positions.{linesFrom, lineAt}
+use Rattle.reading.proofs.StringLines.{string-frame, strings-missing, strings-bad, strings-good, strings-end}
 use Rattle.reading.proofs.strings.string_lines_check.Statement.{statement}
 use Rattle.reading.proofs.strings.string_lines_check.Tie as tie
 
+abbrev step : ℕ
+step = lineSize (version01 .string)
+
 -- what the lines from the i-th on, of n, give
-abbrev left : List ℕ → ℕ → ℕ → Checked
-left text n i = stringLinesCheck (i + 2) (n - i) (linesOf (drop (19 + i * 17) text))
+abbrev left : List ℕ → ℕ → ℕ → ℕ → Checked
+left text start n i = stringLinesCheck version01 (i + 2) (n - i) (linesFrom text (start + i * step))
 
-start : (text : List ℕ) (n : ℕ) → left text n 0 ≡ stringLinesCheck 2 n (linesOf (drop 19 text))
-start text n =
+at-first : (text : List ℕ) (start n : ℕ) → left text start n 0 ≡ stringLinesCheck version01 2 n (linesFrom text start)
+at-first text start n =
     let all : n - 0 ≡ n = omega arith in
-    rw all
+    let here : start + 0 ≡ start = omega arith in
+    rw (all, here)
 
-missing : (text : List ℕ) (n i : ℕ) → i < n → length text ≤ 19 + i * 17 → left text n i ≡ Refused FrameWrong (i + 2)
-missing text n i h k =
-    let one : n - i ≡ suc (n - (i + 1)) = omega arith in
-    rw one (stringLines-missing text (19 + i * 17) (i + 2) (n - (i + 1)) k)
+module _ (text : List ℕ) (start n i : ℕ) where
+  module _ (h : i < n) where
+    one : n - i ≡ suc (n - (i + 1))
+    one = omega arith
 
-bad : (text : List ℕ) (n i : ℕ) → i < n → 19 + i * 17 < length text → (f : Fault) (a : ℕ) → stringLineCheck (i + 2) (lineAt text (19 + i * 17)) ≡ Refused f a → left text n i ≡ Refused f a
-bad text n i h k f a e =
-    let one : n - i ≡ suc (n - (i + 1)) = omega arith in
-    rw one (stringLines-bad text (19 + i * 17) (i + 2) (n - (i + 1)) k f a e)
+    missing : length text ≤ start + i * step → left text start n i ≡ Refused FrameWrong (i + 2)
+    missing ended = rw one (strings-missing version01 text (start + i * step) (i + 2) (n - (i + 1)) ended)
 
-next : (text : List ℕ) (n i : ℕ) → i < n → stringLineCheck (i + 2) (lineAt text (19 + i * 17)) ≡ Lawful → left text n i ≡ left text n (i + 1)
-next text n i h e =
-    let one : n - i ≡ suc (n - (i + 1)) = omega arith in
-    let line : suc (i + 2) ≡ i + 1 + 2 = omega arith in
-    let there : 19 + i * 17 + 17 ≡ 19 + (i + 1) * 17 = omega arith in
-    rw one (stringLines-good text (19 + i * 17) (i + 2) (n - (i + 1)) e ∙ rw (line, there))
+    bad : start + i * step < length text → (f : Fault) (a : ℕ)
+        → stringLineCheck version01 (i + 2) (lineAt text (start + i * step)) ≡ Refused f a → left text start n i ≡ Refused f a
+    bad inside f a e = rw one (strings-bad version01 text (start + i * step) (i + 2) (n - (i + 1)) inside f a e)
 
-inside : (text : List ℕ) (i : ℕ) → stringLineCheck (i + 2) (lineAt text (19 + i * 17)) ≡ Lawful → 19 + (i + 1) * 17 ≤ length text
-inside text i e = omega (arith, stringLine-framed text (19 + i * 17) (i + 2) e .inside)
+    next : stringLineCheck version01 (i + 2) (lineAt text (start + i * step)) ≡ Lawful → left text start n i ≡ left text start n (i + 1)
+    next e =
+        let line : suc (i + 2) ≡ i + 1 + 2 = omega arith in
+        let there : start + i * step + step ≡ start + (i + 1) * step = omega arith in
+        rw one (strings-good version01 text (start + i * step) (i + 2) (n - (i + 1)) e ∙ rw (line, there))
 
-end : (text : List ℕ) (n i : ℕ) → n ≤ i → left text n i ≡ Lawful
-end text n i h =
-    let none : n - i ≡ 0 = omega arith in
-    rw none (stringLines-end (i + 2) (linesOf (drop (19 + i * 17) text)))
+  end : n ≤ i → left text start n i ≡ Lawful
+  end h =
+      let none : n - i ≡ 0 = omega arith in
+      rw none (strings-end version01 text (i + 2) (linesFrom text (start + i * step)))
 
 abbrev Inv-loop : tie.InvT-loop
-Inv-loop text n i₀ i = (i ≤ n) × (n ≤ 10) × (19 + i * 17 ≤ length text) × (left text n i ≡ stringLinesCheck 2 n (linesOf (drop 19 text)))
+Inv-loop text start n i₀ i =
+    (i ≤ n) × (start + i * step ≤ length text) × (left text start n i ≡ stringLinesCheck version01 2 n (linesFrom text start))
 
 abbrev μ-loop : tie.MeasureT-loop
-μ-loop text n i₀ i = n - i
+μ-loop text start n i₀ i = n - i
+
+abbrev begin : tie.At-loop Inv-loop μ-loop → tie.Start Inv-loop μ-loop
+begin o = o .before .before
 
 loop-holds : tie.Need-loop-holds Inv-loop μ-loop
-loop-holds c = (omega arith, omega arith, omega arith, start (c .before .args .text .now) (c .before .args .n))
+loop-holds c =
+    let g = c .before .args in
+    (omega arith, omega arith, at-first (g .text .now) (g .start) (g .n))
 
-mul-at : tie.Need-mul-at Inv-loop μ-loop
-mul-at c = omega arith
+mul-here : tie.Need-mul-here Inv-loop μ-loop
+mul-here c = omega arith
 
-add-at : tie.Need-add-at Inv-loop μ-loop
-add-at c = omega arith
+add-here : tie.Need-add-here Inv-loop μ-loop
+add-here c = omega arith
 
-add-t11 : tie.Need-add-t11 Inv-loop μ-loop
-add-t11 c = omega arith
+add-t12 : tie.Need-add-t12 Inv-loop μ-loop
+add-t12 c = omega arith
 
 returns : tie.Need-returns Inv-loop μ-loop
 returns c =
-    let at = c .before .before in
-    let g = at .before .before .args in
-    sym (missing (g .text .now) (g .n) (at .loop .i) (omega arith) (omega arith)) ∙ at .loop .inv .3
+    let o = c .before .before in
+    let g = begin o .args in
+    sym (missing (g .text .now) (g .start) (g .n) (o .loop .i) (omega arith) (omega arith)) ∙ o .loop .inv .2
 
 add-string-line-check : tie.Need-add-string-line-check Inv-loop μ-loop
 add-string-line-check c = omega arith
@@ -91,15 +100,12 @@ loop-less c = omega arith
 loop-again : tie.Need-loop-again Inv-loop μ-loop
 loop-again c =
     let found = c .before .before in
-    let at = found .before .before .before in
-    let g = at .before .before .args in
-    let i = at .loop .i in
-    let good = sym (found .string-line-check .ensures) ∙ c .enum-told .given .1 in (
-      omega arith,
-      omega arith,
-      inside (g .text .now) i good,
-      sym (next (g .text .now) (g .n) i (omega arith) good) ∙ at .loop .inv .3,
-    )
+    let o = found .before .before .before in
+    let g = begin o .args in
+    let i = o .loop .i in
+    let good = sym (found .string-line-check .ensures) ∙ c .enum-told .given .1 in
+    let frame = string-frame version01 (g .text .now) (g .start + i * step) (i + 2) good in
+    (omega arith, omega (arith, frame .inside), sym (next (g .text .now) (g .start) (g .n) i (omega arith) good) ∙ o .loop .inv .2)
 
 enum-known-line : tie.Need-enum-known-line Inv-loop μ-loop
 enum-known-line c = search needs
@@ -108,15 +114,16 @@ returns-2 : tie.Need-returns-2 Inv-loop μ-loop
 returns-2 c =
     let known = c .before in
     let found = known .before .before in
-    let at = found .before .before .before in
-    let g = at .before .before .args in
-    sym (bad (g .text .now) (g .n) (at .loop .i) (omega arith) (omega arith) _ _ (sym (found .string-line-check .ensures) ∙ known .line .given .1)) ∙ at .loop .inv .3
+    let o = found .before .before .before in
+    let g = begin o .args in
+    let refused = sym (found .string-line-check .ensures) ∙ known .line .given .1 in
+    sym (bad (g .text .now) (g .start) (g .n) (o .loop .i) (omega arith) (omega arith) _ _ refused) ∙ o .loop .inv .2
 
 returns-3 : tie.Need-returns-3 Inv-loop μ-loop
 returns-3 c =
-    let at = c .before in
-    let g = at .before .before .args in
-    sym (end (g .text .now) (g .n) (at .loop .i) (omega arith)) ∙ at .loop .inv .3
+    let o = c .before in
+    let g = begin o .args in
+    sym (end (g .text .now) (g .start) (g .n) (o .loop .i) (omega arith)) ∙ o .loop .inv .2
 
 pub string-lines-check-spec : {M : Type 1} → statement M
 string-lines-check-spec =
@@ -125,9 +132,9 @@ string-lines-check-spec =
     Inv-loop
     μ-loop
     loop-holds
-    mul-at
-    add-at
-    add-t11
+    mul-here
+    add-here
+    add-t12
     returns
     add-string-line-check
     string-line-check-requires

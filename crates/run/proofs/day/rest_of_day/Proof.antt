@@ -28,7 +28,7 @@ use-day-requires-2 c κs = search needs
 returns-2 : tie.Need-returns-2
 returns-2 c =
     let o = c .before .before in
-    let given = c .before .give-bank2 .ensures ∙ sym (ap given (o .before .pre .1 .1 .1 (o .if1 .left))) in
+    let given = c .before .give-bank2 .ensures ∙ sym (ap given (o .before .pre .1 (o .if1 .left))) in
     record { used = c .use-day2 .ensures .used ∙ ap useOf given; after = c .use-day2 .ensures .after ∙ ap spent given }
 
 pub rest-of-day-spec : {M : Type 1} → statement M

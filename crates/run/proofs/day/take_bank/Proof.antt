@@ -1,103 +1,119 @@
--- `run::day::take_bank` meets its contract: the tests are those of step 3, in its order, and a moving cost more still fits.
+-- `run::day::take_bank` meets its contract: the tests are those of step 3, in its order, and what the payer has of moving still fits.
 use Prim.Native.Nat.{_≤_}
 use mathlib.Core.Path.{_≡_, sym, ap, _∙_}
 use native.Mathlib.Omega.{arith}
-use lib.ListN.{length, take}
-use Rattle.rules.specs.Run.{slotAt, holder, payer, stop}
-use Rattle.run.proofs.Places.{slotAt-take}
-use Rattle.run.proofs.Moving.{movingCost-max, stop-within-at}
-use Rattle.run.proofs.Steps.{taken-free, taken-kept, holder-le, payer-le, payer-take, taken-take}
+use lib.ListN.{take}
+use Rattle.rules.specs.Run.{slotAt, withJob, holder, payer, stop}
+use Rattle.slots.proofs.Questions.{holder-asked, payer-asked}
+use Rattle.laws.proofs.Slots.{slotAt-take}
+use Rattle.laws.proofs.Steps.{taken-free, taken-kept}
+use Rattle.run.proofs.FirstSlots.{holder-in, payer-in, taken-take}
+use Rattle.run.proofs.State.{payer-affords}
 use borrow.Author.Needs.{needs}
 use Rattle.run.proofs.day.take_bank.Statement.{statement}
 use Rattle.run.proofs.day.take_bank.Tie as tie
 
-fits : (c : tie.Start) → c .args .p .n ≤ length (c .args .t1)
-fits c = omega (arith, c .pre, c .good .0 .1 .0 .1)
+chosen-place-requires : tie.Need-chosen-place-requires
+chosen-place-requires c κs = search needs
 
-place : (c : tie.After-holder-place) → c .holder-place .result ≤ 10
-place c = omega (arith, c .before .pre, c .holder-place .ensures, holder-le (c .before .args .t1) (c .before .args .p .n) (fits (c .before)))
+holds : (c : tie.After-chosen-place) → c .chosen-place .result ≡ holder (take (c .before .args .p .n) (c .before .args .t1))
+holds c = c .chosen-place .ensures ∙ holder-asked _
 
-held : (c : tie.Else1) → holder (take (c .before .before .args .p .n) (c .before .before .args .t1)) ≡ 0 → ⊥
-held c z = c .if1 .left (c .before .holder-place .ensures ∙ z)
-
-abbrev entry : tie.After-chosen-place → tie.Start
-entry c = c .before .before .before .before .before
-
--- the deadline that the question names is that of the job on the bank
-pays : (c : tie.After-chosen-place)
-    → c .chosen-place .result ≡ payer (entry c .args .day .0) (take (entry c .args .p .n) (entry c .args .t1))
-pays c =
-    let o = c .before .before .before .before in
-    let g = o .before .args in
-    let high = holder-le (g .t1) (g .p .n) (fits (o .before)) in
-    let there : slotAt (g .t1) (o .holder-place .result) ≡ slotAt (take (g .p .n) (g .t1)) (o .holder-place .result) =
-    sym (slotAt-take (g .t1) (g .p .n) (o .holder-place .result) (omega arith) (omega (arith, o .holder-place .ensures))) in
-    let due = ap (λ s. s .deadline) there ∙ ap (λ h. slotAt (take (g .p .n) (g .t1)) h .deadline) (o .holder-place .ensures) in
-    c .chosen-place .ensures ∙ sym (payer-take (g .t1) (g .p .n) (fits (o .before)) (g .day) _ due)
-
-holder-place-requires : tie.Need-holder-place-requires
-holder-place-requires c κs = search needs
+-- it is one of the plan's, and of the ten
+place : (c : tie.After-chosen-place) → (c .chosen-place .result ≤ c .before .args .p .n) × (c .chosen-place .result ≤ 10)
+place c =
+    let high = holder-in (c .before .args .t1) (c .before .args .p .n) in
+    (omega (arith, holds c), omega (arith, holds c, c .before .good .0 .1 .0 .1))
 
 returns : tie.Need-returns
-returns c = sym (taken-free _ _ _ (sym (c .before .holder-place .ensures) ∙ c .if1 .taken))
+returns c = sym (taken-free _ _ _ (sym (holds (c .before)) ∙ c .if1 .taken))
+
+held : (c : tie.Else1) → holder (take (c .before .before .args .p .n) (c .before .before .args .t1)) ≡ 0 → ⊥
+held c z = c .if1 .left (holds (c .before) ∙ z)
 
 sub-held : tie.Need-sub-held
 sub-held c = search needs
 
 mul-held : tie.Need-mul-held
-mul-held c = omega (arith, place (c .before))
+mul-held c = omega (arith, place (c .before) .1)
 
 array-copy-out-held : tie.Need-array-copy-out-held
-array-copy-out-held c = omega (arith, place (c .before))
+array-copy-out-held c = omega (arith, place (c .before) .1)
 
-chosen-place-requires : tie.Need-chosen-place-requires
-chosen-place-requires c κs = search needs
+chosen-place-requires-2 : tie.Need-chosen-place-requires-2
+chosen-place-requires-2 c κs = search needs
+
+-- where the holder is known
+abbrev on : tie.After-chosen-place2 → tie.After-chosen-place
+on c = c .before .before .before .before
+
+-- the deadline that the question names is that of the job on the bank
+pays : (c : tie.After-chosen-place2)
+    → c .chosen-place2 .result ≡ payer (on c .before .args .day .0) (take (on c .before .args .p .n) (on c .before .args .t1))
+pays c =
+    let o = on c in
+    let g = o .before .args in
+    let there : slotAt (g .t1) (o .chosen-place .result) ≡ slotAt (take (g .p .n) (g .t1)) (o .chosen-place .result) =
+    sym (slotAt-take (g .t1) (g .p .n) (o .chosen-place .result) (omega arith) (place o .0)) in
+    let due = ap (λ s. s .deadline .0) there ∙ ap (λ h. slotAt (take (g .p .n) (g .t1)) h .deadline .0) (holds o) in
+    c .chosen-place2 .ensures ∙ payer-asked _ (g .day) _ due
 
 returns-2 : tie.Need-returns-2
 returns-2 c = sym (taken-kept _ _ _ (held (c .before .before .before .before)) (sym (pays (c .before)) ∙ c .if2 .taken))
 
-stop-at-requires : tie.Need-stop-at-requires
-stop-at-requires c κs =
-    let o = c .before .before .before .before .before in
-    let low : 1 ≤ o .holder-place .result = omega arith in
-    let high : o .holder-place .result ≤ 10 = place o in
-    (low, high)
+stopped-job-requires : tie.Need-stopped-job-requires
+stopped-job-requires c κs = search needs
+
+with-job-requires : tie.Need-with-job-requires
+with-job-requires c κs =
+    let o = c .before .before .before .before .before .before in
+    let low : 1 ≤ o .chosen-place .result = omega arith in
+    (low, place o .1)
+
+-- where the payer is known
+abbrev payerOf : tie.After-with-job → tie.After-chosen-place2
+payerOf c = c .before .before .before
+
+-- the job on the bank is stopped
+freed : (c : tie.After-with-job)
+    → c .with-job .result ≡ stop (on (payerOf c) .before .args .t1) (on (payerOf c) .chosen-place .result)
+freed c =
+    c .with-job .ensures ∙ ap (withJob (on (payerOf c) .before .args .t1) (on (payerOf c) .chosen-place .result))
+    (c .before .stopped-job .ensures)
 
 charge-at-requires : tie.Need-charge-at-requires
 charge-at-requires c κs =
-    let o = c .before .before .before .before .before .before in
+    let o = on (payerOf c) in
     let g = o .before .args in
-    let q = c .before .before .chosen-place .result in
+    let q = payerOf c .chosen-place2 .result in
     let low : 1 ≤ q = omega arith in
-    let high : q ≤ g .p .n = omega (arith, pays (c .before .before), payer-le (g .t1) (g .p .n) (fits (o .before)) (g .day)) in
-    let holds : o .holder-place .result ≤ g .p .n = omega (arith, o .holder-place .ensures, holder-le (g .t1) (g .p .n) (fits (o .before))) in
-    let left = stop-within-at 1000000000 (g .t1) (g .p .n) (o .holder-place .result) q (o .before .pre .1 .1) (omega arith) holds low high in
-    let cost = movingCost-max (g .p) (slotAt (stop (g .t1) (o .holder-place .result)) q .string) (o .before .pre .1 .0) in
-    let ten : q ≤ 10 = omega (arith, o .before .pre .0) in
-    ((low, ten), rw (c .stop-at .ensures) (omega arith))
+    let ten : q ≤ 10 = omega (arith, pays (payerOf c), payer-in (g .t1) (g .p .n) (g .day .0), o .before .good .0 .1 .0 .1) in
+    let affords =
+    payer-affords (g .p) (g .t1) (g .p .n) (g .day .0) (o .chosen-place .result) q (holds o) (payerOf c .before .before .before .if1 .left)
+    (pays (payerOf c)) (c .before .before .if2 .left) (o .before .pre) in
+    ((low, ten), rw (freed c) affords)
 
 returns-3 : tie.Need-returns-3
 returns-3 c =
-    let o = c .before .before .before .before .before .before .before in
+    let f = c .before in
+    let o = on (payerOf f) in
     let g = o .before .args in
-    let h = o .holder-place .result in
-    let q = c .before .before .before .chosen-place .result in
-    let held = c .before .before .before .before .before .before .if1 .left in
-    let paid = c .before .before .if2 .left in
-    rw (c .charge-at .ensures, c .before .stop-at .ensures)
-    (taken-take (g .t1) (g .p .n) (fits (o .before)) (g .p) (g .day) h q (o .holder-place .ensures) held (pays (c .before .before .before)) paid)
+    rw (c .charge-at .ensures, freed f)
+    (taken-take (g .t1) (g .p .n) (g .p) (g .day) (o .chosen-place .result) (payerOf f .chosen-place2 .result) (holds o)
+    (payerOf f .before .before .before .if1 .left) (pays (payerOf f)) (f .before .before .if2 .left))
 
 pub take-bank-spec : {M : Type 1} → statement M
 take-bank-spec =
     tie.close
     (tie.spec
-    holder-place-requires
+    chosen-place-requires
     returns
     sub-held
     mul-held
     array-copy-out-held
-    chosen-place-requires
+    chosen-place-requires-2
     returns-2
-    stop-at-requires
+    stopped-job-requires
+    with-job-requires
     charge-at-requires
     returns-3)

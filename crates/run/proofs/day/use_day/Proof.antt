@@ -1,25 +1,29 @@
 -- `run::day::use_day` meets its contract: the test is that of step 5.
 use Prim.Native.Nat.{_≤_}
-use mathlib.Core.Path.{sym, ap, _∙_}
+use mathlib.Core.Path.{_≡_, sym, ap, _∙_}
 use native.Mathlib.Omega.{arith}
-use lib.ListN.{length, take}
-use Rattle.run.proofs.Steps.{useOf-free, spent-free, holder-le, useOf-take, spent-take}
+use lib.ListN.{take}
+use Rattle.rules.specs.Run.{withJob, holder}
+use Rattle.slots.proofs.Questions.{holder-asked}
+use Rattle.laws.proofs.Steps.{useOf-free, spent-free}
+use Rattle.run.proofs.FirstSlots.{holder-in, useOf-take, spent-take}
 use borrow.Author.Needs.{needs}
 use Rattle.run.proofs.day.use_day.Statement.{statement}
 use Rattle.run.proofs.day.use_day.Tie as tie
 
-fits : (c : tie.Start) → c .args .n ≤ length (c .args .t1)
-fits c = omega (arith, c .pre, c .good .0 .1 .0 .1)
+chosen-place-requires : tie.Need-chosen-place-requires
+chosen-place-requires c κs = search needs
 
-place : (c : tie.After-holder-place) → c .holder-place .result ≤ 10
-place c = omega (arith, c .before .pre, c .holder-place .ensures, holder-le (c .before .args .t1) (c .before .args .n) (fits (c .before)))
+holds : (c : tie.After-chosen-place) → c .chosen-place .result ≡ holder (take (c .before .args .n) (c .before .args .t1))
+holds c = c .chosen-place .ensures ∙ holder-asked _
 
-holder-place-requires : tie.Need-holder-place-requires
-holder-place-requires c κs = search needs
+-- it is one of the ten
+place : (c : tie.After-chosen-place) → c .chosen-place .result ≤ 10
+place c = omega (arith, holds c, holder-in (c .before .args .t1) (c .before .args .n), c .before .good .0 .1 .0 .1)
 
 returns : tie.Need-returns
 returns c =
-    let free = sym (c .before .holder-place .ensures) ∙ c .if1 .taken in
+    let free = sym (holds (c .before)) ∙ c .if1 .taken in
     record { used = sym (useOf-free _ free); after = sym (spent-free _ free) }
 
 sub-held : tie.Need-sub-held
@@ -34,30 +38,36 @@ array-copy-out-held c = omega (arith, place (c .before))
 use-for-requires : tie.Need-use-for-requires
 use-for-requires c κs = search needs
 
-spend-at-requires : tie.Need-spend-at-requires
-spend-at-requires c κs =
-    let low : 1 ≤ c .before .before .before .holder-place .result = omega arith in
-    let high : c .before .before .before .holder-place .result ≤ 10 = place (c .before .before .before) in
-    (low, high)
+spent-job-requires : tie.Need-spent-job-requires
+spent-job-requires c κs = search needs
+
+with-job-requires : tie.Need-with-job-requires
+with-job-requires c κs =
+    let low : 1 ≤ c .before .before .before .before .chosen-place .result = omega arith in
+    (low, place (c .before .before .before .before))
 
 returns-2 : tie.Need-returns-2
 returns-2 c =
-    let o = c .before .before .before .before in
+    let o = c .before .before .before .before .before in
     let g = o .before .args in
-    let held = c .before .before .before .if1 .left in
-    let used = useOf-take (g .t1) (g .n) (fits (o .before)) (o .holder-place .result) (o .holder-place .ensures) held in
-    let after = spent-take (g .t1) (g .n) (fits (o .before)) (o .holder-place .result) (o .holder-place .ensures) held in
-    record { used = c .before .use-for .ensures ∙ sym used; after = ap (take (g .n)) (c .spend-at .ensures) ∙ after }
+    let h = o .chosen-place .result in
+    let held = c .before .before .before .before .if1 .left in
+    let spends = c .with-job .ensures ∙ ap (withJob (g .t1) h) (c .before .spent-job .ensures) in
+    record {
+      used = c .before .before .use-for .ensures ∙ sym (useOf-take (g .t1) (g .n) h (holds o) held);
+      after = ap (take (g .n)) spends ∙ spent-take (g .t1) (g .n) h (holds o) held;
+    }
 
 pub use-day-spec : {M : Type 1} → statement M
 use-day-spec =
     tie.close
     (tie.spec
-    holder-place-requires
+    chosen-place-requires
     returns
     sub-held
     mul-held
     array-copy-out-held
     use-for-requires
-    spend-at-requires
+    spent-job-requires
+    with-job-requires
     returns-2)

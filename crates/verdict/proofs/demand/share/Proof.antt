@@ -29,7 +29,7 @@ product c =
 mul-result : tie.Need-mul-result
 mul-result c =
     let start = c .before .before .before .before in
-    let small = work-le (start .args .p) (start .args .w) (start .args .s) (start .pre .0 .lawful .aMax) (start .pre .1 .0) (start .pre .1 .1) in
+    let small = work-le (start .args .p) (start .args .w) (start .args .s) (start .pre .0) (start .pre .1) in
     omega (arith, product c, small)
 
 returns : tie.Need-returns

@@ -6,10 +6,10 @@ use native.Mathlib.Omega.{arith}
 use lib.ListN.{drop, getD}
 use Rattle.lists.specs.Count.{sumOf}
 use Rattle.rules.specs.Plan.{stringsOf, noString}
-use Rattle.laws.proofs.Lawful.{LawfulString}
+use Rattle.laws.proofs.Lawful.{PlanString}
 use Rattle.verdict.specs.Asked.{askedOf, askedBy}
 use Rattle.verdict.proofs.Asked.{askedOf-le}
-use Rattle.verdict.proofs.ByPlace.{lawful-at, sum-at, sum-end}
+use Rattle.verdict.proofs.StringSums.{string-at, sum-at, sum-end}
 use Rattle.verdict.proofs.demand.work_within.Statement.{statement}
 use Rattle.verdict.proofs.demand.work_within.Tie as tie
 
@@ -34,24 +34,23 @@ mul-s c = omega (arith, c .before .before .before .pre .0 .lawful .nMax)
 array-copy-out-s : tie.Need-array-copy-out-s Inv-loop μ-loop
 array-copy-out-s c = omega (arith, c .before .before .before .pre .0 .lawful .nMax)
 
--- the string of this turn is lawful
-lawful :
+-- the string of this turn is one of the plan's
+string :
     (c : tie.After-s Inv-loop μ-loop)
-    → LawfulString (getD (c .before .before .before .before .args .p .strings) (c .before .before .loop .i) noString)
-lawful c =
+    → PlanString (c .before .before .before .before .args .p)
+    (getD (c .before .before .before .before .args .p .strings) (c .before .before .loop .i) noString)
+string c =
     let start = c .before .before .before .before in
-    lawful-at (start .args .p) (start .pre .0) (c .before .before .loop .i) (c .before .loop-test .taken)
+    string-at (start .args .p) (start .pre .0) (c .before .before .loop .i) (c .before .loop-test .taken)
 
 share-requires : tie.Need-share-requires Inv-loop μ-loop
-share-requires c κs =
-    let start = c .before .before .before .before in
-    (start .pre .0, (lawful c, start .pre .1))
+share-requires c κs = (string c, c .before .before .before .before .pre .1)
 
 -- what it asks is small
 kept-small : (c : tie.After-share Inv-loop μ-loop) → c .share .result ≤ 202000000
 kept-small c =
     let start = c .before .before .before .before .before in
-    let most = askedOf-le (start .args .p) 0 (start .args .w) _ (start .pre .0 .lawful .aMax) (lawful (c .before)) (start .pre .1) in
+    let most = askedOf-le (start .args .p) 0 (start .args .w) _ (string (c .before)) (start .pre .1) in
     omega (arith, c .share .ensures, most)
 
 add-keepers : tie.Need-add-keepers Inv-loop μ-loop
@@ -59,13 +58,12 @@ add-keepers c = omega (arith, kept-small c, c .before .before .before .before .b
 
 share-requires-2 : tie.Need-share-requires-2 Inv-loop μ-loop
 share-requires-2 c κs =
-    let start = c .before .before .before .before .before in
-    (start .pre .0, (lawful (c .before), start .pre .1))
+    (string (c .before), c .before .before .before .before .before .pre .1)
 
 took-small : (c : tie.After-share2 Inv-loop μ-loop) → c .share2 .result ≤ 202000000
 took-small c =
     let start = c .before .before .before .before .before .before in
-    let most = askedOf-le (start .args .p) 1 (start .args .w) _ (start .pre .0 .lawful .aMax) (lawful (c .before .before)) (start .pre .1) in
+    let most = askedOf-le (start .args .p) 1 (start .args .w) _ (string (c .before .before)) (start .pre .1) in
     omega (arith, c .share2 .ensures, most)
 
 add-takers : tie.Need-add-takers Inv-loop μ-loop
@@ -94,8 +92,10 @@ loop-again c =
 returns : tie.Need-returns Inv-loop μ-loop
 returns c =
     let start = c .before .before .before in
-    let kept = sum-end (start .args .p) (start .pre .0) (askedOf (start .args .p) 0 (start .args .w)) (c .before .loop .i) (c .loop-test .left) in
-    let took = sum-end (start .args .p) (start .pre .0) (askedOf (start .args .p) 1 (start .args .w)) (c .before .loop .i) (c .loop-test .left) in
+    let kept = sum-end (start .args .p) (start .pre .0) (askedOf (start .args .p) 0 (start .args .w)) (c .before .loop .i)
+    (c .loop-test .left) in
+    let took = sum-end (start .args .p) (start .pre .0) (askedOf (start .args .p) 1 (start .args .w)) (c .before .loop .i)
+    (c .loop-test .left) in
     (omega (arith, kept), omega (arith, took))
 
 pub work-within-spec : {M : Type 1} → statement M

@@ -6,7 +6,7 @@ use borrow.Author.Needs.{needs}
 use lib.ListN.{take, drop}
 use Rattle.lists.specs.Count.{largest}
 use Rattle.rules.specs.Plan.{dMax}
-use Rattle.verdict.proofs.ByPlace.{largest-at, largest-end}
+use Rattle.verdict.proofs.StringSums.{largest-at, largest-end}
 use Rattle.verdict.proofs.limits.largest_d.Statement.{statement}
 use Rattle.verdict.proofs.limits.largest_d.Tie as tie
 
@@ -38,7 +38,8 @@ loop-less c = omega arith
 loop-again : tie.Need-loop-again Inv-loop μ-loop
 loop-again c =
     let start = c .before .before .before .before .before in
-    let next = largest-at (start .args .p) (start .pre) (λ s. s .d .0) (c .before .before .before .loop .i) (c .before .before .loop-test .taken) in
+    let next = largest-at (start .args .p) (start .pre) (λ s. s .d .0) (c .before .before .before .loop .i)
+    (c .before .before .loop-test .taken) in
     (omega arith, omega (arith, c .larger .ensures, next))
 
 returns : tie.Need-returns Inv-loop μ-loop

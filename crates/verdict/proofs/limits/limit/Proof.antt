@@ -2,8 +2,8 @@
 use mathlib.Core.Path.{sym}
 use native.Mathlib.Omega.{arith}
 use borrow.Author.Needs.{needs}
-use Rattle.laws.proofs.Demand.{blockLimit-late}
-use Rattle.verdict.proofs.Blocking.{blockLimit-early, blockLimit-between}
+use Rattle.laws.proofs.Demand.{blockLimit-late, blockLimit-between}
+use Rattle.verdict.proofs.Blocking.{blockLimit-early}
 use Rattle.verdict.proofs.limits.limit.Statement.{statement}
 use Rattle.verdict.proofs.limits.limit.Tie as tie
 
@@ -26,7 +26,8 @@ smaller-requires c κs = search needs
 returns-3 : tie.Need-returns-3
 returns-3 c =
     let start = c .before .before .before .before in
-    let between = blockLimit-between (start .args .p) (start .args .l) (omega (arith, start .pre .1 .0)) (omega (arith, start .pre .1 .1)) in
+    let between =
+    blockLimit-between (start .args .p) (start .args .l) (omega (arith, start .pre .1 .0)) (omega (arith, start .pre .1 .1)) in
     omega (arith, c .smaller .ensures, c .before .longest-blocker .ensures, between)
 
 pub limit-spec : {M : Type 1} → statement M

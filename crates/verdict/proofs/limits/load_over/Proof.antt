@@ -9,7 +9,7 @@ use Rattle.lists.specs.Count.{sumOf}
 use Rattle.rules.specs.Plan.{stringsOf, noString, multipleOf}
 use Rattle.rules.specs.Demand.{holdOf, load}
 use Rattle.verdict.proofs.Blocking.{share-le}
-use Rattle.verdict.proofs.ByPlace.{lawful-at, sum-at, sum-end}
+use Rattle.verdict.proofs.StringSums.{string-at, sum-at, sum-end}
 use Rattle.verdict.proofs.limits.load_over.Statement.{statement}
 use Rattle.verdict.proofs.limits.load_over.Tie as tie
 
@@ -34,17 +34,17 @@ period-share-requires : tie.Need-period-share-requires Inv-loop μ-loop
 period-share-requires c κs =
     let start = c .before .before .before .before in
     let ready = start .pre .0 in
-    let lawful = lawful-at (start .args .p) ready (c .before .before .loop .i) (c .before .loop-test .taken) in
-    (ready, (lawful, omega (arith, start .pre .1, ready .lawful .hMax)))
+    let string = string-at (start .args .p) ready (c .before .before .loop .i) (c .before .loop-test .taken) in
+    (string, omega (arith, start .pre .1, ready .lawful .hMax))
 
 -- what this string asks is small
 small : (c : tie.After-period-share Inv-loop μ-loop) → c .period-share .result ≤ 200000000
 small c =
     let start = c .before .before .before .before .before in
     let ready = start .pre .0 in
-    let lawful = lawful-at (start .args .p) ready (c .before .before .before .loop .i) (c .before .before .loop-test .taken) in
+    let string = string-at (start .args .p) ready (c .before .before .before .loop .i) (c .before .before .loop-test .taken) in
     let within : start .args .h ≤ 100000 = omega (arith, start .pre .1, ready .lawful .hMax) in
-    omega (arith, c .period-share .ensures, share-le (start .args .p) (start .args .h) _ (ready .lawful .aMax) lawful within)
+    omega (arith, c .period-share .ensures, share-le (start .args .p) (start .args .h) _ string within)
 
 add-sum : tie.Need-add-sum Inv-loop μ-loop
 add-sum c = omega (arith, small c, c .before .before .before .before .before .pre .0 .lawful .nMax)
@@ -63,7 +63,8 @@ loop-again c =
     let f : BatteryString → ℕ = λ s. holdOf p s * (multipleOf p / s .t .0) in
     let next = sum-at p (start .pre .0) f (at .loop .i) (c .before .before .loop-test .taken) in
     let share = c .period-share .ensures
-    ∙ ap (λ h. holdOf p (getD (p .strings) (at .loop .i) noString) * (h / getD (p .strings) (at .loop .i) noString .t .0)) (start .pre .1) in
+    ∙ ap (λ h. holdOf p (getD (p .strings) (at .loop .i) noString) * (h / getD (p .strings) (at .loop .i) noString .t .0))
+    (start .pre .1) in
     (omega arith, omega (arith, small c), omega (arith, share, next))
 
 returns : tie.Need-returns Inv-loop μ-loop

@@ -8,8 +8,7 @@ use lib.ListN.{drop}
 use Rattle.lists.specs.Count.{largest}
 use Rattle.rules.specs.Plan.{stringsOf}
 use Rattle.rules.specs.Demand.{blockerHold}
-use Rattle.verdict.proofs.Blocking.{blockerHold-is}
-use Rattle.verdict.proofs.ByPlace.{lawful-at, largest-at, largest-end}
+use Rattle.verdict.proofs.StringSums.{string-at, largest-at, largest-end}
 use Rattle.verdict.proofs.limits.longest_blocker.Statement.{statement}
 use Rattle.verdict.proofs.limits.longest_blocker.Tie as tie
 
@@ -32,7 +31,7 @@ array-copy-out-s c = omega (arith, c .before .before .before .pre .lawful .nMax)
 blocker-requires : tie.Need-blocker-requires Inv-loop μ-loop
 blocker-requires c κs =
     let start = c .before .before .before .before in
-    (start .pre, lawful-at (start .args .p) (start .pre) (c .before .before .loop .i) (c .before .loop-test .taken))
+    string-at (start .args .p) (start .pre) (c .before .before .loop .i) (c .before .loop-test .taken)
 
 larger-requires : tie.Need-larger-requires Inv-loop μ-loop
 larger-requires c κs = search needs
@@ -49,9 +48,7 @@ loop-again c =
     let at = c .before .before .before .before in
     let f = blockerHold (start .args .p) (start .args .l) in
     let next = largest-at (start .args .p) (start .pre) f (at .loop .i) (c .before .before .before .loop-test .taken) in
-    let told = c .before .blocker .ensures in
-    let held = blockerHold-is (start .args .p) (start .args .l) _ (c .before .blocker .result) (told .0) (told .1) in
-    (omega arith, omega (arith, held, c .larger .ensures, next))
+    (omega arith, omega (arith, c .before .blocker .ensures, c .larger .ensures, next))
 
 returns : tie.Need-returns Inv-loop μ-loop
 returns c =

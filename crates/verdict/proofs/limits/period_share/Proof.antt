@@ -19,7 +19,7 @@ mul-result c =
     omega (
       arith,
       ap (λ e. e * (start .args .h / start .args .s .t .0)) (c .before .hold .ensures),
-      share-le (start .args .p) (start .args .h) (start .args .s) (start .pre .0 .lawful .aMax) (start .pre .1 .0) (start .pre .1 .1),
+      share-le (start .args .p) (start .args .h) (start .args .s) (start .pre .0) (start .pre .1),
     )
 
 returns : tie.Need-returns

@@ -10,7 +10,7 @@ use Prim.Native.Nat.{ℕ}
 use Rattle.lists.specs.Count.{smallest, smallestWith}
 use Rattle.rules.specs.Plan.{stringsOf, noString, dMin}
 use Rattle.lists.proofs.Lists.{smallestWith-le}
-use Rattle.verdict.proofs.ByPlace.{smallest-start, smallest-at, smallest-end}
+use Rattle.verdict.proofs.StringSums.{smallest-start, smallest-at, smallest-end}
 use Rattle.verdict.proofs.limits.smallest_d.Statement.{statement}
 use Rattle.verdict.proofs.limits.smallest_d.Tie as tie
 

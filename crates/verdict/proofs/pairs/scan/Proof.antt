@@ -54,7 +54,14 @@ largest-d-requires c κs = c .before .pre .0
 add-end : tie.Need-add-end Inv-loop μ-loop Inv-pairs μ-pairs
 add-end c =
     let ready = c .before .before .pre .0 in
-    omega (arith, c .largest-d .ensures, c .before .before .pre .1, ready .lawful .hMax, dMax-le (c .before .before .args .p) (ready .lawful))
+    omega (
+      arith,
+      c .largest-d .ensures,
+      c .before .before .pre .1,
+      ready .lawful .hMax,
+      dMax-le (c .before .before .args .p)
+          (ready .lawful),
+    )
 
 pairs-holds : tie.Need-pairs-holds Inv-loop μ-loop Inv-pairs μ-pairs
 pairs-holds c =

@@ -12,7 +12,7 @@ use Rattle.rules.specs.Search.{setPasses, firstPassing, searchOf}
 use Rattle.lists.proofs.Lists.{by-bool, and-left, and-right}
 use Rattle.laws.proofs.Powers.{sets-small, shift-is-sets}
 use Rattle.sets.proofs.Search.{none-search}
-use Rattle.sets.proofs.Walk.{setsFrom, setRows, searchOf-rows, walk-row, walk-other, walk-fails, walk-found, walk-row-end, walk-end}
+use Rattle.sets.proofs.SetWalk.{setsFrom, setRows, searchOf-rows, walk-row, walk-other, walk-fails, walk-found, walk-row-end, walk-end}
 use Rattle.verdict.proofs.permissions.first_set.Statement.{statement}
 use Rattle.verdict.proofs.permissions.first_set.Tie as tie
 

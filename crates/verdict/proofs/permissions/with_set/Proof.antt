@@ -57,7 +57,8 @@ loop-again c =
       omega arith,
       length-set now i (c .permitted .result) ∙ inv .1,
       left-next all now i (c .permitted .result) (inv .2),
-      done-next all now (at .loop .rest) i (c .permitted .result) (omega (arith, inv .1)) (omega (arith, ten)) (inv .2) (c .permitted .ensures)
+      done-next all now (at .loop .rest) i (c .permitted .result) (omega (arith, inv .1)) (omega (arith, ten)) (inv .2)
+          (c .permitted .ensures)
           ∙ inv .3,
     )
 

@@ -1,0 +1,39 @@
+// Files by name.
+use super::say::complain_of;
+
+// What was read into lent room, from its start on: how many bytes. Nothing where the file cannot be read to its end or to the room's.
+pub(crate) enum Got {
+    Bytes { count: usize },
+    Nothing,
+}
+
+// Whether there is nothing more to read. A read that fails, as of a folder, is no end.
+fn ended(fd: i32) -> bool {
+    let mut more = [0u8; 1];
+    libc::read(fd, &mut more) == 0
+}
+
+fn take(fd: i32, room: &mut [u8]) -> Got {
+    let count = io::read_full(fd, room);
+    if count < room.len() {
+        if !ended(fd) {
+            return Got::Nothing;
+        }
+    }
+    Got::Bytes { count }
+}
+
+// The bytes of a file, as many as there is room for. A file that cannot be read is named.
+pub(crate) fn read_file(name: &[u8], room: &mut [u8]) -> Got {
+    let fd = os::open_read(name);
+    if fd < 0 {
+        complain_of(b"cannot read ", name, b"");
+        return Got::Nothing;
+    }
+    let got = take(fd, room);
+    libc::close(fd);
+    if let Got::Nothing = got {
+        complain_of(b"cannot read ", name, b"");
+    }
+    got
+}

@@ -1,0 +1,92 @@
+-- The days of a history add up, and a run on which no day is late is clean.
+use Prim.Native.Nat.{ℕ, zero, suc, _+_, _≤_, _<_}
+use mathlib.Core.Path.{_≡_, refl, ap, _∙_}
+use mathlib.Core.Bool.{Bool, cond}
+use mathlib.Core.List.{List, [], _∷_}
+use native.Mathlib.Omega.{arith}
+use borrow.Author.Tests.{lt-ltb, le-ltb, lt-leb, le-leb}
+use lib.Dec.{ltb}
+use lib.ListN.{length, length-append}
+use Rattle.days.specs.Days.{day}
+use Rattle.rules.specs.declared.Plan.{Plan}
+use Rattle.rules.specs.declared.Release.{Release}
+use Rattle.rules.specs.declared.Use.{Use}
+use Rattle.rules.specs.declared.Use.the-variants.{Idle, Work, Move}
+use Rattle.rules.specs.declared.Outcome.the-variants.{Clean, Miss}
+use Rattle.lists.specs.Count.{countOf}
+use Rattle.rules.specs.Run.{useOn, history, isWork, isMove, isIdle, daysOf, lateOn, missDay, runOf}
+use Rattle.lists.proofs.Counts.{countOf-append, countOf-one}
+use Rattle.lists.proofs.Least.{leastFrom-none, leastFrom-unique}
+
+-- ---- Counts
+
+-- one day more
+pub history-next : (p : Plan) (rs : List Release) (k : ℕ) (f : Use → Bool)
+    → countOf f (history p rs (suc k)) ≡ countOf f (history p rs k) + cond (f (useOn p rs k)) 1 0
+unfolding history
+history-next p rs k f =
+    countOf-append f (history p rs k) (useOn p rs k ∷ [])
+    ∙ ap (λ m. countOf f (history p rs k) + m) (countOf-one f (useOn p rs k))
+
+pub history-length : (p : Plan) (rs : List Release) (k : ℕ) → length (history p rs k) ≡ k
+unfolding history
+history-length p rs zero = refl
+history-length p rs (suc k) =
+    let before = history-length p rs k in
+    omega (arith, length-append (history p rs k) (useOn p rs k ∷ []))
+
+-- ---- A day is of one kind
+
+pub one-kind : (u : Use) → cond (isWork u) 1 0 + cond (isMove u) 1 0 + cond (isIdle u) 1 0 ≡ 1
+one-kind Idle = refl
+one-kind (Work i k) = refl
+one-kind (Move i k) = refl
+
+-- so the days of the three kinds are all the days
+pub kinds-add-up : (p : Plan) (rs : List Release) (k : ℕ)
+    → countOf isWork (history p rs k) + countOf isMove (history p rs k) + countOf isIdle (history p rs k) ≡ k
+unfolding history countOf
+kinds-add-up p rs zero = refl
+kinds-add-up p rs (suc k) =
+    let before = kinds-add-up p rs k in
+    let today = one-kind (useOn p rs k) in
+    omega (arith, history-next p rs k isWork, history-next p rs k isMove, history-next p rs k isIdle)
+
+pub run-adds-up : (p : Plan) (rs : List Release) → daysOf p rs isWork .0 + daysOf p rs isMove .0 + daysOf p rs isIdle .0 ≡ p .run .0
+unfolding daysOf
+run-adds-up p rs = kinds-add-up p rs (p .run .0)
+
+-- ---- The day of a miss
+
+pub missDay-none : (p : Plan) (rs : List Release) → ((t : ℕ) → t ≤ p .run .0 → lateOn p rs t ≡ 0) → missDay p rs ≡ suc (p .run .0)
+unfolding missDay
+missDay-none p rs h =
+    let all =
+    leastFrom-none (λ t. ltb 0 (lateOn p rs t)) 0 (suc (p .run .0))
+    (λ t a b. le-ltb 0 (lateOn p rs t) (omega (arith, h t (omega arith)))) in
+    omega arith
+
+-- the day of a miss is the only day that is late with none late before it
+pub missDay-is : (p : Plan) (rs : List Release) (t : ℕ) → t ≤ p .run .0 → 1 ≤ lateOn p rs t → ((i : ℕ) → i < t → lateOn p rs i ≡ 0)
+    → missDay p rs ≡ t
+unfolding missDay
+missDay-is p rs t within late before =
+    leastFrom-unique (λ d. ltb 0 (lateOn p rs d)) 0 (suc (p .run .0)) t (omega arith) (omega arith) (lt-ltb _ _ late)
+    (λ i a b. le-ltb 0 (lateOn p rs i) (omega (arith, before i b)))
+
+pub runOf-clean : (p : Plan) (rs : List Release) → missDay p rs ≡ suc (p .run .0)
+    → runOf p rs ≡ Clean (daysOf p rs isWork) (daysOf p rs isMove) (daysOf p rs isIdle)
+unfolding runOf
+runOf-clean p rs h = rw (lt-leb (missDay p rs) (p .run .0) (omega arith))
+
+pub runOf-miss : (p : Plan) (rs : List Release) → missDay p rs ≤ p .run .0
+    → runOf p rs ≡ Miss (day (missDay p rs)) (lateOn p rs (missDay p rs))
+unfolding runOf
+runOf-miss p rs h = rw (le-leb (missDay p rs) (p .run .0) h)
+
+-- the first day that is late ends the run
+pub runOf-late : (p : Plan) (rs : List Release) (t : ℕ) → t ≤ p .run .0 → 1 ≤ lateOn p rs t → ((i : ℕ) → i < t → lateOn p rs i ≡ 0)
+    → runOf p rs ≡ Miss (day t) (lateOn p rs t)
+runOf-late p rs t within late before =
+    let first = missDay-is p rs t within late before in
+    runOf-miss p rs (omega arith) ∙ ap (λ d. Miss (day d) (lateOn p rs d)) first

@@ -1,0 +1,130 @@
+-- Frames of a layout and the lines that write them: each says the other.
+--     frameLine frame       the line of a frame
+--     written l says        the line of the layout l whose fields say what says gives them
+--     Framed l line         the line writes a frame of the layout l
+use Prim.Native.Nat.{ℕ, _%_, _<_}
+use mathlib.Core.Path.{_≡_, refl, ap, _∙_}
+use mathlib.Core.Bool.{true, not, _&&_}
+use mathlib.Core.List.{List, [], _∷_, _++_, flatMap}
+use native.Mathlib.Omega.{arith}
+use borrow.Author.Tests.{lt-ltb, ltb-true, eq-eqb, eqb-true, not-false}
+use lib.Dec.{ltb, eqb}
+use lib.ListN.{length, drop}
+use Rattle.lists.specs.Count.{All, every}
+use Rattle.lists.proofs.Lists.{all-map, every-all, and-left, and-right}
+use Rattle.faults.specs.Checks.{refuseIf}
+use Rattle.faults.specs.declared.Fault.the-variants.{LineMalformed, FrameWrong}
+use Rattle.faults.specs.declared.Checked.the-variants.{Lawful}
+use Rattle.faults.proofs.Checks.{then-first, then-second, refuseIf-not}
+use Rattle.rules.specs.Layout.{Field, Layout, frameSize, numberFrom, kindIn}
+use Rattle.rules.specs.Text.{Line, digitOf, wellFormed, frameOf, frameCheck, layoutCheck}
+use Rattle.writing.specs.Written.{byteText, frameBytes, lineText}
+use Rattle.writing.proofs.Texts.{flatMap-length, byteText-length, frameBytes-length}
+use Rattle.onetext.proofs.HexBytes.{Small, Digit, frame-digits, frame-said, frame-written, frame-small}
+use Rattle.onetext.proofs.Numbers.{Says, Fits, fields-said, fields-written, fields-small}
+use Rattle.onetext.proofs.Ended.{lineBytes}
+
+abbrev pub frameLine : List ℕ → Line
+frameLine frame = record { bytes = flatMap byteText frame; ended = true }
+
+pub lineText-is : (frame : List ℕ) → lineText frame ≡ lineBytes (frameLine frame)
+unfolding lineText
+lineText-is frame = refl
+
+-- ---- A frame that is written
+
+all-every : (digits : List ℕ) → All Digit digits → every (λ b. ltb (digitOf b) 16) digits ≡ true
+unfolding every
+all-every [] h = refl
+all-every (b ∷ digits) h = rw (lt-ltb (digitOf b) 16 (h .0)) (all-every digits (h .1))
+
+line-well : (frame : List ℕ) → All Small frame → 0 < length frame → wellFormed (frameLine frame) ≡ true
+unfolding wellFormed
+line-well frame small some =
+    let size = flatMap-length byteText 2 byteText-length frame in
+    let long = lt-ltb 0 (length (flatMap byteText frame)) (omega arith) in
+    let even = eq-eqb (length (flatMap byteText frame) % 2) 0 (omega arith) in
+    rw (long, even, all-every (flatMap byteText frame) (frame-digits frame small))
+
+pub frame-is : (frame : List ℕ) → All Small frame → frameOf (frameLine frame) ≡ frame
+unfolding frameOf
+frame-is frame small = frame-said frame small
+
+abbrev pub written : Layout → (Field → ℕ) → Line
+written l says = frameLine (frameBytes l says)
+
+module _ (l : Layout) (says : Field → ℕ) (low : l .kind < 256) where
+  pub bytes-small : All Small (frameBytes l says)
+  unfolding frameBytes
+  bytes-small = (low, fields-small (l .fields) says)
+
+  written-kind : kindIn (frameBytes l says) ≡ l .kind
+  unfolding frameBytes numberFrom
+  written-kind = omega arith
+
+  pub written-lawful : (k : ℕ) → layoutCheck k l (written l says) ≡ Lawful
+  unfolding frameCheck
+  written-lawful k =
+      let size = frameBytes-length l says in
+      let well = line-well (frameBytes l says) bytes-small (omega arith) in
+      rw (
+        well,
+        frame-is (frameBytes l says) bytes-small,
+        eq-eqb (length (frameBytes l says)) (frameSize l) size,
+        eq-eqb (kindIn (frameBytes l says)) (l .kind) written-kind,
+      )
+
+  pub written-says : Fits (l .fields) says → Says (l .fields) says (drop 1 (frameOf (written l says)))
+  unfolding frameBytes
+  written-says fits = rw (frame-is (frameBytes l says) bytes-small) (fields-said (l .fields) says fits)
+
+-- ---- A frame that is read
+
+pub record Framed (l : Layout) (line : Line) : Type 0 where
+  pub ended : line .ended ≡ true
+  pub digits : All Digit (line .bytes)
+  pub even : length (line .bytes) % 2 ≡ 0
+  pub size : length (frameOf line) ≡ frameSize l
+  pub kind : kindIn (frameOf line) ≡ l .kind
+
+module _ (l : Layout) (line : Line) where
+  pub layout-framed : (k : ℕ) → layoutCheck k l line ≡ Lawful → Framed l line
+  unfolding frameCheck wellFormed
+  layout-framed k h =
+      let E = line .ended in
+      let L = ltb 0 (length (line .bytes)) in
+      let P = eqb (length (line .bytes) % 2) 0 in
+      let D = every (λ b. ltb (digitOf b) 16) (line .bytes) in
+      let S = eqb (length (frameOf line)) (frameSize l) in
+      let K = eqb (kindIn (frameOf line)) (l .kind) in
+      let form = refuseIf (not (E && L && P && D)) LineMalformed k in
+      let wrong = refuseIf (not (S && K)) FrameWrong k in
+      let well = not-false (E && L && P && D) (refuseIf-not _ LineMalformed k (then-first form wrong h)) in
+      let frame = not-false (S && K) (refuseIf-not _ FrameWrong k (then-second form wrong h)) in
+      let elv = and-left (E && L && P) D well in
+      record {
+        ended = and-left E L (and-left (E && L) P elv);
+        digits =
+            all-map (λ b. ltb (digitOf b) 16 ≡ true) Digit (λ b t. ltb-true (digitOf b) 16 t) (line .bytes)
+            (every-all (λ b. ltb (digitOf b) 16) (line .bytes) (and-right (E && L && P) D well));
+        even = eqb-true (length (line .bytes) % 2) 0 (and-right (E && L) P elv);
+        size = eqb-true (length (frameOf line)) (frameSize l) (and-left S K frame);
+        kind = eqb-true (kindIn (frameOf line)) (l .kind) (and-right S K frame);
+      }
+
+bytes-written : (l : Layout) (says : Field → ℕ) (frame : List ℕ) → All Small frame → length frame ≡ frameSize l → kindIn frame ≡ l .kind
+    → Says (l .fields) says (drop 1 frame) → frameBytes l says ≡ frame
+unfolding frameBytes numberFrom
+bytes-written l says [] small size kind s = absurd (omega arith)
+bytes-written l says (b ∷ bytes) small size kind s =
+    let first : l .kind ≡ b = omega arith in
+    rw (first, fields-written (l .fields) says bytes (small .1) (omega arith) s)
+
+-- a line whose fields say what is written is the line that is written
+pub framed-written : (l : Layout) (says : Field → ℕ) (line : Line) → Framed l line → Says (l .fields) says (drop 1 (frameOf line))
+    → lineText (frameBytes l says) ≡ lineBytes line
+unfolding frameOf
+framed-written l says line f s =
+    let bytes = bytes-written l says (frameOf line) (frame-small (line .bytes) (f .digits)) (f .size) (f .kind) s in
+    lineText-is (frameBytes l says)
+    ∙ ap (λ digits. digits ++ (0x0a ∷ [])) (ap (flatMap byteText) bytes ∙ frame-written (line .bytes) (f .digits) (f .even))

@@ -1,0 +1,79 @@
+-- The same of the page that the writer leaves: where it answers with a text, that text stands in the page and reads back.
+use Prim.Native.Nat.{ℕ, _+_, _≤_}
+use mathlib.Core.Path.{_≡_, refl, sym, ap, _∙_}
+use mathlib.Core.Bool.{Bool, true, false, _||_}
+use mathlib.Core.List.{List, _++_}
+use native.Mathlib.Omega.{arith}
+use borrow.Author.Tests.{ltb-false}
+use lib.Dec.{ltb}
+use lib.ListN.{length, take, drop}
+use lib.Seq.{take-append-seam, drop-at, length-take-le}
+use Rattle.faults.specs.declared.Fault.the-variants.{NoRoom}
+use Rattle.faults.specs.declared.Checked.{Checked}
+use Rattle.faults.specs.declared.Checked.the-variants as checked
+use Rattle.faults.specs.Checks.{refuseIf}
+use Rattle.faults.proofs.Checks.{then-first, then-second, refuseIf-not}
+use Rattle.rules.specs.declared.Plan.{Plan}
+use Rattle.rules.specs.declared.Releases.{Releases}
+use Rattle.rules.specs.Refusal.{runCheck}
+use Rattle.rules.specs.Text.{readingOf}
+use Rattle.writing.specs.declared.Saved.the-variants.{Text}
+use Rattle.writing.specs.Saved.{savedText, noRoom, patched, saveCheck, onSaved, savedAnswer, savedPage}
+use Rattle.onetext.specs.OneText.{lawfulText}
+use Rattle.onetext.proofs.ReadBack.{reading-what-was-written}
+use Rattle.onetext.proofs.WriteBack.{writing-what-was-read}
+
+or-right : (a b : Bool) → (a || b) ≡ false → b ≡ false
+or-right true b h = cc
+or-right false b h = h
+
+answered : (c : Checked) (long len : ℕ) → onSaved c long ≡ Text len → (c ≡ checked.Lawful) × (long ≡ len)
+answered checked.Lawful long len h = (refl, cc)
+answered (checked.Refused f at) long len h =
+    let z : _≡_ {A = ℕ} 0 1 = cc in
+    absurd (omega arith)
+
+module _ (p : Plan) (rs : Releases) (page : List ℕ) (at len : ℕ) (h : savedAnswer p rs page at ≡ Text len) where
+  saved : (saveCheck p rs page at ≡ checked.Lawful) × (length (savedText p rs) ≡ len)
+  unfolding savedAnswer
+  saved = answered (saveCheck p rs page at) (length (savedText p rs)) len h
+
+  pub text-long : length (savedText p rs) ≡ len
+  text-long = saved .1
+
+  pub text-lawful : runCheck p rs ≡ checked.Lawful
+  unfolding saveCheck
+  text-lawful = then-first (runCheck p rs) (refuseIf (noRoom page at (savedText p rs)) NoRoom 0) (saved .0)
+
+  inside : at ≤ length page
+  unfolding saveCheck noRoom
+  inside =
+      let room = refuseIf (noRoom page at (savedText p rs)) NoRoom 0 in
+      ltb-false (length page) at
+      (or-right (ltb (length (drop at page)) (length (savedText p rs))) (ltb (length page) at)
+      (refuseIf-not (noRoom page at (savedText p rs)) NoRoom 0 (then-second (runCheck p rs) room (saved .0))))
+
+  pub page-is : savedPage p rs page at ≡ patched page at (savedText p rs)
+  unfolding savedPage
+  page-is = rw (saved .0)
+
+  -- the text stands in the page from the named place on
+  pub text-stands : take len (drop at (savedPage p rs page at)) ≡ savedText p rs
+  text-stands =
+      let text = savedText p rs in
+      let rest = drop (at + length text) page in
+      ap (λ whole. take len (drop at whole)) page-is
+      ∙ ap (take len) (drop-at (take at page) (text ++ rest) at (length-take-le at page inside))
+      ∙ ap (λ k. take k (text ++ rest)) (sym text-long) ∙ take-append-seam text rest
+
+  -- and reads back to the plan
+  pub reading-the-page : length (p .strings) ≡ 10 → length (rs .list) ≡ 1000
+      → readingOf (take len (drop at (savedPage p rs page at))) ≡ lawfulText p rs
+  reading-the-page ten thousand = ap readingOf text-stands ∙ reading-what-was-written p rs ten thousand text-lawful
+
+-- a text that was read and is saved stands in the page byte for byte
+pub saving-what-was-read : (text page : List ℕ) (at len : ℕ) → readingOf text .checked ≡ checked.Lawful
+    → savedAnswer (readingOf text .plan) (readingOf text .releases) page at ≡ Text len
+    → savedPage (readingOf text .plan) (readingOf text .releases) page at ≡ patched page at text
+saving-what-was-read text page at len h saves =
+    page-is (readingOf text .plan) (readingOf text .releases) page at len saves ∙ ap (patched page at) (writing-what-was-read text h)

@@ -1,0 +1,44 @@
+-- A plan has one text, of what `read` and `write` answered: reading what was written gives the plan, and writing what was read gives the
+-- same bytes.
+-- The arguments of `write` are the plan, the releases, the page and the place.
+use Prim.Native.Nat.{ℕ}
+use mathlib.Core.Path.{_≡_, sym, ap, _∙_}
+use lib.ListN.{length, take, drop}
+use contract.Lifetimes.{Lfts}
+use Rattle.faults.specs.declared.Checked.the-variants.{Lawful}
+use Rattle.rules.specs.declared.Plan.{Plan}
+use Rattle.rules.specs.declared.Releases.{Releases}
+use Rattle.rules.specs.declared.Reading.{Reading}
+use Rattle.rules.specs.Text.{readingOf}
+use Rattle.writing.specs.declared.Saved.the-variants.{Text}
+use Rattle.writing.specs.Saved.{patched, savedAnswer, savedPage}
+use Rattle.onetext.specs.OneText.{lawfulText}
+use Rattle.onetext.proofs.InPage.{reading-the-page, saving-what-was-read}
+use Rattle.reading.proofs.read.Reads as read
+use Rattle.writing.proofs.write.Reads as write
+
+module _ (κs κt : Lfts 1) (lent : _) (after : _) (r : Reading) (was-read : read.Learnt κs lent r after) where
+  -- the text that was read stands in a page where it was written; places after the n-th and releases after the count come back blank
+  pub written-reads-back : (a : _) (e : _) (len : ℕ) → write.Learnt κt a (Text len) e → length (a .0 .strings) ≡ 10
+      → length (a .1 .0 .list) ≡ 1000
+      → lent .0 .now ≡ take len (drop (a .1 .1 .1 .0) (e .1 .1 .0 .now)) → r ≡ lawfulText (a .0) (a .1 .0)
+  written-reads-back a e len wrote ten thousand text =
+      was-read .0
+      ∙ ap readingOf (text ∙ ap (λ page. take len (drop (a .1 .1 .1 .0) page)) (wrote .1))
+      ∙ reading-the-page (a .0) (a .1 .0) (a .1 .1 .0 .now) (a .1 .1 .1 .0) len (sym (wrote .0)) ten thousand
+
+  -- what was read, written into a page, is the text byte for byte; the rest of the page stays
+  pub read-writes-back : r .checked ≡ Lawful → (a : _) (e : _) (len : ℕ) → write.Learnt κt a (Text len) e → a .0 ≡ r .plan
+      → a .1 .0 ≡ r .releases
+      → e .1 .1 .0 .now ≡ patched (a .1 .1 .0 .now) (a .1 .1 .1 .0) (lent .0 .now)
+  read-writes-back lawful a e len wrote plan list =
+      let text = lent .0 .now in
+      let page = a .1 .1 .0 .now in
+      let at = a .1 .1 .1 .0 in
+      let plan-is : a .0 ≡ readingOf text .plan = plan ∙ ap (λ s. s .plan) (was-read .0) in
+      let list-is : a .1 .0 ≡ readingOf text .releases = list ∙ ap (λ s. s .releases) (was-read .0) in
+      let saves : savedAnswer (readingOf text .plan) (readingOf text .releases) page at ≡ Text len =
+      ap (λ p. savedAnswer p (readingOf text .releases) page at) (sym plan-is) ∙ ap (λ rs. savedAnswer (a .0) rs page at) (sym list-is) ∙
+      sym (wrote .0) in
+      wrote .1 ∙ ap (λ p. savedPage p (a .1 .0) page at) plan-is ∙ ap (λ rs. savedPage (readingOf text .plan) rs page at) list-is
+      ∙ saving-what-was-read text page at len (sym (ap (λ s. s .checked) (was-read .0)) ∙ lawful) saves

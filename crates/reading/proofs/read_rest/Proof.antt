@@ -1,0 +1,56 @@
+-- `reading::read_rest` meets its contract: H decides first, then the release lines.
+use mathlib.Core.Path.{sym, _∙_}
+use native.Mathlib.Omega.{arith}
+use borrow.Author.Needs.{needs}
+use Rattle.rules.specs.Layout.{version01}
+use Rattle.reading.proofs.Whole.{strings-few, rest-list, rest-refused}
+use Rattle.reading.proofs.read_rest.Statement.{statement}
+use Rattle.reading.proofs.read_rest.Tie as tie
+
+abbrev begin : tie.After-multiple-check → tie.Start
+begin c = c .before .before .before
+
+add-multiple-check : tie.Need-add-multiple-check
+add-multiple-check c = omega (arith, strings-few version01 _ _ (c .before .before .pre))
+
+multiple-check-requires : tie.Need-multiple-check-requires
+multiple-check-requires c κs = search needs
+
+enum-told : tie.Need-enum-told
+enum-told c = search needs
+
+read-list-requires : tie.Need-read-list-requires
+read-list-requires c κs = begin (c .before .before) .pre
+
+enum-known-multiple : tie.Need-enum-known-multiple
+enum-known-multiple c = search needs
+
+refusal-requires : tie.Need-refusal-requires
+refusal-requires c κs = search needs
+
+returns : tie.Need-returns
+returns c =
+    let told = c .before in
+    let checked = told .before .before in
+    c .read-list .ensures
+    ∙ sym (rest-list version01 _ _ (begin checked .pre) (sym (checked .multiple-check .ensures) ∙ told .enum-told .given .1))
+
+returns-2 : tie.Need-returns-2
+returns-2 c =
+    let known = c .before .before in
+    let checked = known .before .before in
+    c .refusal .ensures
+    ∙ sym (rest-refused version01 _ _ (begin checked .pre) _ _ (sym (checked .multiple-check .ensures) ∙ known .multiple .given .1))
+
+pub read-rest-spec : {M : Type 1} → statement M
+read-rest-spec =
+    tie.close
+    (tie.spec
+    add-multiple-check
+    multiple-check-requires
+    enum-told
+    read-list-requires
+    enum-known-multiple
+    refusal-requires
+    returns
+    returns-2)

@@ -1,0 +1,54 @@
+-- The answer of the run: for a plan that passes and releases that are lawful it is clean, and a clean answer counts the run's days.
+use Prim.Native.Nat.{ℕ}
+use mathlib.Core.Path.{_≡_, sym, _∙_}
+use native.Mathlib.Omega.{arith}
+use lib.Dec.{leb}
+use Rattle.days.specs.declared.Length.{Length}
+use Rattle.lists.proofs.Lists.{by-bool}
+use Rattle.faults.specs.declared.Fault.{Fault}
+use Rattle.faults.specs.declared.Checked.{Checked}
+use Rattle.rules.specs.declared.Release.{Release}
+use mathlib.Core.List.{List}
+use Rattle.rules.specs.declared.Plan.{Plan}
+use Rattle.rules.specs.declared.Releases.{Releases}
+use Rattle.faults.specs.declared.Checked.the-variants.{Lawful, Refused}
+use Rattle.rules.specs.declared.Outcome.the-variants.{Miss, Clean}
+use Rattle.rules.specs.Release.{releasesOf}
+use Rattle.rules.specs.Demand.{Passes}
+use Rattle.rules.specs.Refusal.{onOutcome, runCheck, runAnswer}
+use Rattle.rules.specs.declared.Outcome.the-variants as outcome
+use Rattle.rules.specs.Run.{daysOf, isWork, isMove, isIdle, missDay, runOf}
+use Rattle.laws.proofs.Releases.{runCheck-lawful}
+use Rattle.laws.proofs.Answers.{run-lawful, run-refused}
+use Rattle.sound.proofs.Clean.{run-clean}
+
+pub never-misses : (p : Plan) (rs : Releases) → runCheck p rs ≡ Lawful → Passes p
+    → runAnswer p rs ≡ Clean (daysOf p (releasesOf rs) isWork) (daysOf p (releasesOf rs) isMove) (daysOf p (releasesOf rs) isIdle)
+never-misses p rs h passes =
+    let good = runCheck-lawful p rs h in
+    run-lawful p rs h ∙ run-clean p (releasesOf rs) (good .plan) (good .none-bad) passes
+
+module _ (p : Plan) (w m i : Length) where
+  -- how a run that ends clean is counted
+  runOf-clean-days : (rs : List Release) → runOf p rs ≡ Clean w m i
+      → Clean (daysOf p rs isWork) (daysOf p rs isMove) (daysOf p rs isIdle) ≡ Clean w m i
+  unfolding runOf
+  runOf-clean-days rs h =
+      by-bool (leb (missDay p rs) (p .run .0))
+      (λ t.
+      let missed = rw t at h in
+      let z : _≡_ {A = ℕ} 0 1 = cc in
+      absurd (omega arith))
+      (λ e. rw e at h)
+
+  pub answer-clean-days : (rs : Releases) → runAnswer p rs ≡ Clean w m i
+      → Clean (daysOf p (releasesOf rs) isWork) (daysOf p (releasesOf rs) isMove) (daysOf p (releasesOf rs) isIdle) ≡ Clean w m i
+  unfolding runAnswer
+  answer-clean-days rs h = go (runCheck p rs) h
+    where
+      go : (c : Checked) → onOutcome c (runOf p (releasesOf rs)) ≡ Clean w m i
+          → Clean (daysOf p (releasesOf rs) isWork) (daysOf p (releasesOf rs) isMove) (daysOf p (releasesOf rs) isIdle) ≡ Clean w m i
+      go Lawful e = runOf-clean-days (releasesOf rs) e
+      go (Refused f at) e =
+          let z : _≡_ {A = ℕ} 0 1 = cc in
+          absurd (omega arith)

@@ -1,0 +1,122 @@
+-- Lines of one length, written one after the other into a part of a page: a string's line, or a release's.
+--     Rows before part i    the lines of the first i stand at the head of the part, and what stood behind them stays
+use Prim.Native.Nat.{ℕ, _+_, _-_, _*_, _≤_, _<_, suc}
+use mathlib.Core.Path.{_≡_, sym, ap, _∙_, subst}
+use mathlib.Core.List.{List, [], _∷_, _++_, flatMap, append-nil}
+use native.Mathlib.Omega.{arith}
+use native.Mathlib.Numerals.{add-one}
+use native.Mathlib.Nat.{suc-mul, mul-le-mul-right}
+use lib.ListN.{length, take, drop, getD, length-append}
+use lib.Seq.{take-suc, take-all, length-take-le}
+use borrow.Rule.Slice.PartMut.{putMid}
+use Rattle.rules.specs.declared.BatteryString.{BatteryString}
+use Rattle.rules.specs.declared.Plan.{Plan}
+use Rattle.rules.specs.declared.Release.{Release}
+use Rattle.rules.specs.declared.Releases.{Releases}
+use Rattle.rules.specs.Plan.{stringsOf}
+use Rattle.rules.specs.Release.{releasesOf}
+use Rattle.rules.specs.Layout.{Field, Layout, lineSize, frameSize, version01}
+use Rattle.writing.specs.declared.cells.Cell.{Cell}
+use Rattle.writing.specs.Written.{frameBytes, lineText, headerSays, stringSays, releaseSays, headerText, stringText, releaseText, planText}
+use Rattle.writing.specs.Cells.{cellsSize, cellsText, Room, SaysFrame}
+use Rattle.writing.proofs.Texts.{flatMap-append, flatMap-one, flatMap-length, Stands, stands-none, stands-next}
+use Rattle.writing.proofs.Texts.{lineText-length, frameBytes-length, says-line}
+
+module _ {ℓ} {A : Type ℓ} (f : A → List ℕ) (k : ℕ) (each : (x : A) → length (f x) ≡ k) (xs : List A) (z : A) where
+  abbrev pub Rows : List ℕ → List ℕ → ℕ → Type 0
+  Rows before part i = Stands before (flatMap f (take i xs)) part
+
+  pub rows-start : (before : List ℕ) → Rows before before 0
+  unfolding flatMap
+  rows-start before = stands-none before
+
+  step : (i : ℕ) → i < length xs → flatMap f (take (i + 1) xs) ≡ flatMap f (take i xs) ++ f (getD xs i z)
+  step i h =
+      ap (flatMap f) (rw add-one (take-suc xs i z h)) ∙ flatMap-append f (take i xs) (getD xs i z ∷ [])
+      ∙ ap (λ rest. flatMap f (take i xs) ++ rest) (flatMap-one f (getD xs i z) ∙ append-nil (f (getD xs i z)))
+
+  so-far : (i : ℕ) → i ≤ length xs → length (flatMap f (take i xs)) ≡ i * k
+  so-far i h = flatMap-length f k each (take i xs) ∙ ap (λ n. n * k) (length-take-le i xs h)
+
+  pub rows-next : (before part next : List ℕ) (i : ℕ) → Rows before part i → i < length xs → i * k + k ≤ length part
+      → next ≡ f (getD xs i z) ++ drop k (take (length part - i * k) (drop (i * k) part))
+      → Rows before (putMid (i * k) (length part - i * k) part next) (i + 1)
+  rows-next before part next i s h room got =
+      subst (λ text. Stands before text (putMid (i * k) (length part - i * k) part next)) (sym (step i h))
+      (stands-next before (flatMap f (take i xs)) (f (getD xs i z)) part next (i * k) k s (so-far i (omega arith)) (each (getD xs i z))
+      room got)
+
+  -- all of them stand
+  pub rows-end : (before part : List ℕ) (i : ℕ) → Rows before part i → i ≡ length xs → part ≡ flatMap f xs ++ drop (length xs * k) before
+  rows-end before part i s e =
+      let all : take i xs ≡ xs = take-all i xs (omega arith) in
+      s .is ∙ rw (all, flatMap-length f k each xs)
+
+  -- there is room for the next
+  pub rows-room : (before part : List ℕ) (i : ℕ) → Rows before part i → i < length xs → length xs * k ≤ length before
+      → i * k + k ≤ length part
+  rows-room before part i s h room =
+      let more : suc i * k ≤ length xs * k = mul-le-mul-right k h in
+      omega (arith, s .size, suc-mul i k)
+
+-- ---- The lines of a plan
+
+pub stringText-length : (s : BatteryString) → length (stringText version01 s) ≡ lineSize (version01 .string)
+unfolding stringText
+stringText-length s =
+    lineText-length (frameBytes (version01 .string) (stringSays s))
+    ∙ ap (λ k. k * 2 + 1) (frameBytes-length (version01 .string) (stringSays s))
+
+pub releaseText-length : (r : Release) → length (releaseText version01 r) ≡ lineSize (version01 .release)
+unfolding releaseText
+releaseText-length r =
+    lineText-length (frameBytes (version01 .release) (releaseSays r))
+    ∙ ap (λ k. k * 2 + 1) (frameBytes-length (version01 .release) (releaseSays r))
+
+pub headerText-length : (p : Plan) → length (headerText version01 p) ≡ lineSize (version01 .header)
+unfolding headerText
+headerText-length p =
+    lineText-length (frameBytes (version01 .header) (headerSays 1 p))
+    ∙ ap (λ k. k * 2 + 1) (frameBytes-length (version01 .header) (headerSays 1 p))
+
+-- what put_frame leaves, for cells that say a frame
+pub line-put : (cells : List Cell) (count : ℕ) (l : Layout) (says : Field → ℕ) (part next : List ℕ) → SaysFrame cells count l says
+    → next ≡ (cellsText (take count cells) ++ (0x0a ∷ [])) ++ drop (cellsSize (take count cells) * 2 + 1) part
+    → next ≡ lineText (frameBytes l says) ++ drop (lineSize l) part
+line-put cells count l says part next s got =
+    got ∙ ap (λ t. t ++ drop (cellsSize (take count cells) * 2 + 1) part) (says-line cells count l says s)
+    ∙ ap (λ k. lineText (frameBytes l says) ++ drop (k * 2 + 1) part) (s .size)
+
+-- and what it asks
+pub line-room : (cells : List Cell) (count : ℕ) (l : Layout) (says : Field → ℕ) (k : ℕ) → SaysFrame cells count l says → count ≤ 7
+    → lineSize l ≤ k → Room cells count k
+line-room cells count l says k s few room =
+    record { few = few; there = omega (arith, s .seven); bytes = omega (arith, ap (λ n. n * 2 + 1) (s .size)) }
+
+-- ---- The whole text
+
+module _ (p : Plan) (rs : Releases) (strings-many : length (stringsOf p) ≡ p .n) (releases-many : length (releasesOf rs) ≡ rs .count) where
+  pub strings-long : length (flatMap (stringText version01) (stringsOf p)) ≡ p .n * 17
+  strings-long = flatMap-length (stringText version01) 17 stringText-length (stringsOf p) ∙ ap (λ n. n * 17) strings-many
+
+  pub releases-long : length (flatMap (releaseText version01) (releasesOf rs)) ≡ rs .count * 17
+  releases-long = flatMap-length (releaseText version01) 17 releaseText-length (releasesOf rs) ∙ ap (λ n. n * 17) releases-many
+
+  pub text-long : length (planText version01 p (releasesOf rs)) ≡ 19 + p .n * 17 + rs .count * 17
+  unfolding planText
+  text-long =
+      length-append (headerText version01 p ++ flatMap (stringText version01) (stringsOf p))
+      (flatMap (releaseText version01) (releasesOf rs)) ∙ sum
+    where
+      sum :
+          length (headerText version01 p ++ flatMap (stringText version01) (stringsOf p)) + length
+          (flatMap (releaseText version01) (releasesOf rs))
+          ≡ 19 + p .n * 17 + rs .count * 17
+      sum =
+          omega (
+            arith,
+            headerText-length p,
+            strings-long,
+            releases-long,
+            length-append (headerText version01 p) (flatMap (stringText version01) (stringsOf p)),
+          )

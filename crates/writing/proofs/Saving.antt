@@ -1,0 +1,116 @@
+-- What is answered and what the page holds: a refusal of the plan, no room, or the text in its place.
+use Prim.Native.Nat.{ℕ, _+_, _-_, _≤_, _<_, _*_}
+use mathlib.Core.Path.{_≡_, refl, sym, ap, _∙_}
+use mathlib.Core.Bool.{Bool, true, false, _||_}
+use mathlib.Core.List.{List, _++_}
+use native.Mathlib.Omega.{arith}
+use borrow.Author.Tests.{lt-ltb, le-ltb}
+use lib.Dec.{ltb}
+use lib.ListN.{length, take, drop, length-drop}
+use lib.Seq.{length-take-le, drop-drop}
+use borrow.Rule.Slice.PartMut.{putMid}
+use Rattle.lists.specs.Count.{All}
+use Rattle.lists.proofs.Lists.{all-by}
+use Rattle.faults.specs.declared.Fault.{Fault}
+use Rattle.faults.specs.declared.Fault.the-variants.{NoRoom}
+use Rattle.faults.specs.declared.Checked.the-variants as checked
+use Rattle.rules.specs.declared.Plan.{Plan}
+use Rattle.rules.specs.declared.Releases.{Releases}
+use Rattle.rules.specs.Plan.{stringsOf}
+use Rattle.rules.specs.Release.{releasesOf, noRelease}
+use Rattle.rules.specs.Refusal.{runCheck}
+use Rattle.rules.specs.Layout.{version01}
+use Rattle.laws.specs.Lawful.{LawfulRun}
+use Rattle.laws.proofs.Releases.{runCheck-lawful}
+use Rattle.laws.proofs.ReleaseList.{release-lawful}
+use Rattle.writing.specs.declared.Saved.the-variants.{Refused, Text}
+use Rattle.writing.specs.Written.{planText}
+use Rattle.writing.specs.Saved.{savedText, noRoom, saveCheck, savedAnswer, savedPage}
+use Rattle.writing.specs.Cells.{PlanFits}
+use Rattle.writing.proofs.Texts.{lent-part, lent-back}
+use Rattle.writing.proofs.Rows.{text-long}
+
+-- ---- Room
+
+noRoom-beyond : (page : List ℕ) (at : ℕ) (text : List ℕ) → length page < at → noRoom page at text ≡ true
+unfolding noRoom
+noRoom-beyond page at text h = rw (lt-ltb (length page) at h) (either (ltb (length (drop at page)) (length text)))
+  where
+    either : (b : Bool) → (b || true) ≡ true
+    either true = refl
+    either false = refl
+
+noRoom-short : (page : List ℕ) (at : ℕ) (text : List ℕ) → length page - at < length text → noRoom page at text ≡ true
+unfolding noRoom
+noRoom-short page at text h = rw (lt-ltb (length (drop at page)) (length text) (omega (arith, length-drop at page)))
+
+noRoom-fits : (page : List ℕ) (at : ℕ) (text : List ℕ) → at ≤ length page → length text ≤ length page - at → noRoom page at text ≡ false
+unfolding noRoom
+noRoom-fits page at text here h =
+    rw (le-ltb (length (drop at page)) (length text) (omega (arith, length-drop at page)), le-ltb (length page) at here)
+
+-- ---- The answer and the page
+
+module _ (p : Plan) (rs : Releases) (page : List ℕ) (at : ℕ) where
+  pub saved-refused : (f : Fault) (k : ℕ) → runCheck p rs ≡ checked.Refused f k
+      → (savedAnswer p rs page at ≡ Refused f k) × (savedPage p rs page at ≡ page)
+  unfolding savedAnswer savedPage saveCheck
+  saved-refused f k h = (rw h, rw h)
+
+  module _ (lawful : runCheck p rs ≡ checked.Lawful) where
+    saved-full : noRoom page at (savedText p rs) ≡ true → (savedAnswer p rs page at ≡ Refused NoRoom 0) × (savedPage p rs page at ≡ page)
+    unfolding savedAnswer savedPage saveCheck
+    saved-full full = (rw (lawful, full), rw (lawful, full))
+
+    pub saved-beyond : length page < at → (savedAnswer p rs page at ≡ Refused NoRoom 0) × (savedPage p rs page at ≡ page)
+    saved-beyond h = saved-full (noRoom-beyond page at (savedText p rs) h)
+
+    module _ (ten : length (p .strings) ≡ 10) (thousand : length (rs .list) ≡ 1000) where
+      run-is : LawfulRun p rs
+      run-is = runCheck-lawful p rs lawful
+
+      strings-many : length (stringsOf p) ≡ p .n
+      strings-many = length-take-le (p .n) (p .strings) (omega (arith, run-is .plan .nMax))
+
+      releases-many : length (releasesOf rs) ≡ rs .count
+      releases-many = length-take-le (rs .count) (rs .list) (omega (arith, run-is .few))
+
+      pub saved-long : length (savedText p rs) ≡ 19 + p .n * 17 + rs .count * 17
+      unfolding savedText
+      saved-long = text-long p rs strings-many releases-many
+
+      pub saved-short : length page - at < 19 + p .n * 17 + rs .count * 17
+          → (savedAnswer p rs page at ≡ Refused NoRoom 0) × (savedPage p rs page at ≡ page)
+      saved-short h = saved-full (noRoom-short page at (savedText p rs) (omega (arith, saved-long)))
+
+      module _ (here : at ≤ length page) (room : 19 + p .n * 17 + rs .count * 17 ≤ length page - at) where
+        -- what the writer of the plan asks of the part that it is lent
+        pub plan-fits : PlanFits p rs (length (take (length page - at) (drop at page)))
+        unfolding savedText
+        plan-fits =
+            let long : length (take (length page - at) (drop at page)) ≡ length page - at = ap length (lent-part at page) ∙ length-drop at
+            page in
+            record {
+              strings = record { few = run-is .plan .nMax; ten = ten; bytes = omega arith };
+              releases = record { few = run-is .few; thousand = thousand; places = places; bytes = omega arith };
+              bytes = omega (arith, text-long p rs strings-many releases-many);
+            }
+          where
+            places : All (λ r. r .place ≤ 10) (releasesOf rs)
+            places =
+                all-by (λ r. r .place ≤ 10) (releasesOf rs) noRelease
+                (λ i h. omega (arith, release-lawful p (releasesOf rs) (run-is .none-bad) i h .within, strings-many, run-is .plan .nMax))
+
+        -- the part comes back with the text at its head
+        pub saved-written : (next : List ℕ)
+            → next ≡ planText version01 p (releasesOf rs)
+            ++ drop (length (planText version01 p (releasesOf rs))) (take (length page - at) (drop at page))
+            → (savedAnswer p rs page at ≡ Text (19 + p .n * 17 + rs .count * 17))
+            × (savedPage p rs page at ≡ putMid at (length page - at) page next)
+        unfolding savedAnswer savedPage saveCheck savedText
+        saved-written next got =
+            let text = planText version01 p (releasesOf rs) in
+            let fits = noRoom-fits page at text here (omega (arith, text-long p rs strings-many releases-many)) in (
+              rw (lawful, fits, text-long p rs strings-many releases-many),
+              rw (lawful, fits) (sym (lent-back at page next here ∙ rw (got, lent-part at page, drop-drop (length text) at page))),
+            )

@@ -1,0 +1,43 @@
+-- `put_byte` meets its contract: the two digits stand where the first two bytes stood.
+use Prim.Native.Nat.{_/_, _%_}
+use mathlib.Core.Path.{_≡_}
+use native.Mathlib.Omega.{arith}
+use borrow.Author.Needs.{needs}
+use Rattle.writing.specs.Written.{digitText, byteText}
+use Rattle.writing.proofs.Texts.{set-two}
+use Rattle.writing.proofs.digits.put_byte.Statement.{statement}
+use Rattle.writing.proofs.digits.put_byte.Tie as tie
+
+digit-requires : tie.Need-digit-requires
+digit-requires c κs = search needs
+
+slice-write-part : tie.Need-slice-write-part
+slice-write-part c = search needs
+
+digit-requires-2 : tie.Need-digit-requires-2
+digit-requires-2 c κs = search needs
+
+slice-write-part-2 : tie.Need-slice-write-part-2
+slice-write-part-2 c = search needs
+
+same-length : tie.Need-same-length
+same-length c = search needs
+
+returns : tie.Need-returns
+unfolding byteText
+returns c =
+    let b = c .before .before .before .args .b in
+    let high : c .before .digit .result ≡ digitText (b / 16) = c .before .digit .ensures in
+    let low : c .digit2 .result ≡ digitText (b % 16) = c .digit2 .ensures in
+    rw (high, low) (set-two (c .before .before .before .args .part .now) (digitText (b / 16)) (digitText (b % 16)) (omega arith))
+
+pub put-byte-spec : {M : Type 1} → statement M
+put-byte-spec =
+    tie.close
+    (tie.spec
+    digit-requires
+    slice-write-part
+    digit-requires-2
+    slice-write-part-2
+    same-length
+    returns)

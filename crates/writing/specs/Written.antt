@@ -1,0 +1,90 @@
+-- The text of a plan (document 02, W-201): the frames of document 01, written from the layouts that the reader uses.
+--     numberBytes size n    n in size bytes, high byte first
+--     digitText v           the lowercase hexadecimal digit of v, which is below 16
+--     byteText b            the two digits of a byte
+--     frameBytes l says     the frame of the layout l whose fields say what says gives them
+--     lineText frame        the line of a frame: the digits of its bytes, and the 0a
+--     headerSays, stringSays, releaseSays     what each field of a frame says
+--     planText v p rs       the text of a plan and its releases in the version v: the header's line, a line for each string, a line for
+--                           each release
+use Prim.Native.Nat.{ℕ, zero, suc, _+_, _/_, _%_}
+use mathlib.Core.Bool.{cond}
+use mathlib.Core.List.{List, [], _∷_, _++_, flatMap}
+use lib.Dec.{ltb}
+use Rattle.rules.specs.declared.BatteryString.{BatteryString}
+use Rattle.rules.specs.declared.Plan.{Plan}
+use Rattle.rules.specs.declared.Release.{Release}
+use Rattle.rules.specs.Plan.{stringsOf}
+use Rattle.rules.specs.Layout.{Field, Layout, Frames}
+use Rattle.rules.specs.Layout as layout
+
+unfoldable pub numberBytes : ℕ → ℕ → List ℕ
+numberBytes zero n = []
+numberBytes (suc k) n = numberBytes k (n / 256) ++ (n % 256 ∷ [])
+
+unfoldable pub digitText : ℕ → ℕ
+digitText v = cond (ltb v 10) (0x30 + v) (0x57 + v)
+
+unfoldable pub byteText : ℕ → List ℕ
+byteText b = digitText (b / 16) ∷ digitText (b % 16) ∷ []
+
+unfoldable pub frameBytes : Layout → (Field → ℕ) → List ℕ
+frameBytes l says = l .kind ∷ flatMap (λ s. numberBytes (s .size) (says (s .field))) (l .fields)
+
+unfoldable pub lineText : List ℕ → List ℕ
+lineText frame = flatMap byteText frame ++ (0x0a ∷ [])
+
+-- ---- What the fields say; a field that a frame does not have says nothing
+
+abbrev pub headerSays : ℕ → Plan → Field → ℕ
+headerSays version p layout.Version = version
+headerSays version p layout.Count = p .n
+headerSays version p layout.Moving = p .a .0
+headerSays version p layout.Run = p .run .0
+headerSays version p layout.X = 0
+headerSays version p layout.T = 0
+headerSays version p layout.C = 0
+headerSays version p layout.D = 0
+headerSays version p layout.Place = 0
+headerSays version p layout.Day = 0
+headerSays version p layout.Need = 0
+
+abbrev pub stringSays : BatteryString → Field → ℕ
+stringSays s layout.Version = 0
+stringSays s layout.Count = 0
+stringSays s layout.Moving = 0
+stringSays s layout.Run = 0
+stringSays s layout.X = s .x
+stringSays s layout.T = s .t .0
+stringSays s layout.C = s .c .0
+stringSays s layout.D = s .d .0
+stringSays s layout.Place = 0
+stringSays s layout.Day = 0
+stringSays s layout.Need = 0
+
+abbrev pub releaseSays : Release → Field → ℕ
+releaseSays r layout.Version = 0
+releaseSays r layout.Count = 0
+releaseSays r layout.Moving = 0
+releaseSays r layout.Run = 0
+releaseSays r layout.X = 0
+releaseSays r layout.T = 0
+releaseSays r layout.C = 0
+releaseSays r layout.D = 0
+releaseSays r layout.Place = r .place
+releaseSays r layout.Day = r .day .0
+releaseSays r layout.Need = r .need .0
+
+-- ---- The text
+
+unfoldable pub headerText : Frames → Plan → List ℕ
+headerText v p = lineText (frameBytes (v .header) (headerSays (v .version) p))
+
+unfoldable pub stringText : Frames → BatteryString → List ℕ
+stringText v s = lineText (frameBytes (v .string) (stringSays s))
+
+unfoldable pub releaseText : Frames → Release → List ℕ
+releaseText v r = lineText (frameBytes (v .release) (releaseSays r))
+
+unfoldable pub planText : Frames → Plan → List Release → List ℕ
+planText v p rs = headerText v p ++ flatMap (stringText v) (stringsOf p) ++ flatMap (releaseText v) rs

@@ -1,0 +1,54 @@
+// A plan and its releases, written as frames into the caller's page from a place that the caller names.
+mod cells;
+mod digits;
+mod lines;
+mod says;
+
+use faults::Checked;
+use faults::Fault;
+use layouts::HEADER_LINE;
+use layouts::RELEASE_LINE;
+use layouts::STRING_LINE;
+use lines::put_plan;
+use rules::Plan;
+use rules::Releases;
+ghost use mathlib.Core.Path.{_≡_};
+ghost use Rattle.writing.specs.Saved.{savedAnswer, savedPage};
+
+// The length of the text that was written, or why nothing was.
+pub enum Saved {
+    Refused { fault: Fault, at: usize },
+    Text { length: usize },
+}
+
+// The plan's text goes into the page from `at` on; the bytes ahead of it and behind it stay. 4 to 8 as for numbers, then 9 with 0 where
+// there is
+// no room; then no byte of the page is another.
+pub fn write(p: Plan, rs: Releases, page: &mut [u8], at: usize) -> Saved
+    ensures exact { λ r. ⌜ r ≡ savedAnswer p rs (now (page .entry)) at ⌝ }
+    ensures page { λ r. ⌜ now (page .exit) ≡ savedPage p rs (now (page .entry)) at ⌝ }
+{
+    let checked = bounds::run_check(p, rs);
+    match checked {
+        Checked::Lawful => {
+            let n = p.n;
+            let count = rs.count;
+            let length = HEADER_LINE + n * STRING_LINE + count * RELEASE_LINE;
+            if page.len() < at {
+                return Saved::Refused {
+                    fault: Fault::NoRoom,
+                    at: 0,
+                };
+            }
+            if page.len() - at < length {
+                return Saved::Refused {
+                    fault: Fault::NoRoom,
+                    at: 0,
+                };
+            }
+            put_plan(&mut page[at..], p, rs);
+            Saved::Text { length }
+        }
+        Checked::Refused { fault, at } => Saved::Refused { fault, at },
+    }
+}

@@ -1,0 +1,63 @@
+// The lines of a plan, one after the other: each frame writer is lent the next part of the page.
+use super::cells::put_frame;
+use super::says::header_cells;
+use super::says::release_cells;
+use super::says::string_cells;
+use layouts::HEADER_LINE;
+use layouts::RELEASE_LINE;
+use layouts::STRING_LINE;
+use rules::Plan;
+use rules::Releases;
+ghost use mathlib.Core.Path.{_≡_};
+ghost use mathlib.Core.List.{_++_, flatMap};
+ghost use Prim.Native.Nat.{_*_};
+ghost use lib.ListN.{length, drop};
+ghost use Rattle.rules.specs.Plan.{stringsOf};
+ghost use Rattle.rules.specs.Release.{releasesOf};
+ghost use Rattle.rules.specs.Layout.{version01, lineSize};
+ghost use Rattle.writing.specs.Written.{stringText, releaseText, planText};
+ghost use Rattle.writing.specs.Cells.{StringsFit, ReleasesFit, PlanFits};
+
+// A line for each string.
+fn put_strings(part: &mut [u8], p: Plan)
+    requires { ⌜ StringsFit p (length (now part)) ⌝ }
+    ensures exact { λ r. ⌜ now (part .exit) ≡ flatMap (stringText version01) (stringsOf p)
+        ++ drop (length (stringsOf p) * lineSize (version01 .string)) (now (part .entry)) ⌝ }
+{
+    let n = p.n;
+    let strings = p.strings;
+    let mut i: usize = 0;
+    while i < n {
+        let s = strings[i];
+        put_frame(&mut part[i * STRING_LINE..], string_cells(s), 5);
+        i += 1;
+    }
+}
+
+// A line for each release.
+fn put_releases(part: &mut [u8], rs: Releases)
+    requires { ⌜ ReleasesFit rs (length (now part)) ⌝ }
+    ensures exact { λ r. ⌜ now (part .exit) ≡ flatMap (releaseText version01) (releasesOf rs)
+        ++ drop (length (releasesOf rs) * lineSize (version01 .release)) (now (part .entry)) ⌝ }
+{
+    let count = rs.count;
+    let list = rs.list;
+    let mut i: usize = 0;
+    while i < count {
+        let r = list[i];
+        put_frame(&mut part[i * RELEASE_LINE..], release_cells(r), 4);
+        i += 1;
+    }
+}
+
+// The whole text: header, strings, releases.
+pub(crate) fn put_plan(part: &mut [u8], p: Plan, rs: Releases)
+    requires { ⌜ PlanFits p rs (length (now part)) ⌝ }
+    ensures exact { λ r. ⌜ now (part .exit) ≡ planText version01 p (releasesOf rs)
+        ++ drop (length (planText version01 p (releasesOf rs))) (now (part .entry)) ⌝ }
+{
+    let n = p.n;
+    put_frame(part, header_cells(p), 5);
+    put_strings(&mut part[HEADER_LINE..], p);
+    put_releases(&mut part[HEADER_LINE + n * STRING_LINE..], rs);
+}

@@ -1,0 +1,229 @@
+//! One batch of the clerk: making its files, asking to save them, and comparing what is written.
+
+use crate::chance::Chance;
+use crate::complaints;
+use crate::edges::pages;
+use crate::mix::{make, KINDS};
+use crate::options::Comparison;
+use crate::saving::{into_page, saved, written, Saved};
+use crate::stop::Stop;
+use crate::tally::Tally;
+use std::env;
+use std::fs;
+use std::io;
+use std::ops::Range;
+use std::path::{Path, PathBuf};
+use std::process::{Command, Output, Stdio};
+use std::time::Instant;
+
+/// The most bytes that the clerk takes as a list of commands.
+const LONGEST_LIST: usize = 65_536;
+
+/// A command about one file, and all that has to be written for it.
+struct Question {
+    file: u64,
+    kind: &'static str,
+    command: String,
+    answer: Vec<u8>,
+}
+
+/// Compares the files of these numbers. Without a difference none of them is needed any more.
+pub fn compare_batch(
+    job: &Comparison,
+    clerk: &Path,
+    folder: &Path,
+    files: Range<u64>,
+) -> Result<Tally, Stop> {
+    if files.start == 0 {
+        complaints::compare(clerk, folder)?;
+    }
+    let mut tally = Tally::default();
+    let begin = Instant::now();
+    let mut questions = Vec::new();
+    for file in files.clone() {
+        questions.extend(prepare(job, folder, file, &mut tally)?);
+    }
+    tally.own = begin.elapsed();
+    let begin = Instant::now();
+    ask_in_lists(job, clerk, folder, &questions)?;
+    ask_some_alone(job, clerk, folder, &questions)?;
+    tally.other = begin.elapsed();
+    if job.keep.is_none() {
+        for file in files {
+            fs::remove_file(path(folder, file))?;
+        }
+    }
+    Ok(tally)
+}
+
+fn name(file: u64) -> String {
+    format!("{file:06}.plan")
+}
+
+fn path(folder: &Path, file: u64) -> PathBuf {
+    folder.join(name(file))
+}
+
+/// Makes and writes one file, and asks about it alone and in pages. A lawful file is the one text of its plan.
+fn prepare(
+    job: &Comparison,
+    folder: &Path,
+    file: u64,
+    tally: &mut Tally,
+) -> Result<Vec<Question>, Stop> {
+    let made = make(job.seed, file);
+    let kind = KINDS[made.kind].name;
+    fs::write(path(folder, file), &made.text)?;
+    let whole = saved(&made.text);
+    if whole.as_ref().map_or(false, |text| *text != made.text) {
+        let what = "a plan has another text";
+        return Err(Stop::found(job, file, kind, &path(folder, file), what, ""));
+    }
+    tally.count_file(made.kind);
+    let mut ask = |command: String, answer: Saved| {
+        tally.count_saved(&answer);
+        Question {
+            file,
+            kind,
+            command,
+            answer: written(answer),
+        }
+    };
+    let name = name(file);
+    // a sequence of its own, so that the pages do not follow from how the file was made
+    let mut chance = Chance::new(!job.seed, file);
+    let mut questions = vec![ask(format!("save {name}"), whole.clone())];
+    questions.extend(pages(&mut chance, &whole).into_iter().map(|page| {
+        let command = format!("save {name} {} {}", page.size, page.place);
+        ask(command, into_page(&whole, page))
+    }));
+    Ok(questions)
+}
+
+/// Many questions to a start.
+fn ask_in_lists(
+    job: &Comparison,
+    clerk: &Path,
+    folder: &Path,
+    questions: &[Question],
+) -> Result<(), Stop> {
+    let list = format!("{:06}.commands", questions[0].file);
+    let mut rest = questions;
+    while !rest.is_empty() {
+        let (part, after) = rest.split_at(fitting(rest));
+        let commands: String = part.iter().map(command_line).collect();
+        fs::write(folder.join(&list), commands)?;
+        let output = ask(clerk, folder, &["each", &list])?;
+        compare(job, folder, part, true, &output)?;
+        rest = after;
+    }
+    if job.keep.is_none() {
+        fs::remove_file(folder.join(&list))?;
+    }
+    Ok(())
+}
+
+/// How many questions fit into a list.
+fn fitting(questions: &[Question]) -> usize {
+    let mut length = 0;
+    let too_long = |question: &Question| {
+        length += command_line(question).len();
+        length > LONGEST_LIST
+    };
+    let end = questions.iter().position(too_long);
+    end.unwrap_or(questions.len())
+}
+
+fn command_line(question: &Question) -> String {
+    format!("{}\n", question.command)
+}
+
+/// A start for each question about some of the files.
+fn ask_some_alone(
+    job: &Comparison,
+    clerk: &Path,
+    folder: &Path,
+    questions: &[Question],
+) -> Result<(), Stop> {
+    for question in questions.iter().filter(|one| job.asks_alone(one.file)) {
+        let words: Vec<&str> = question.command.split(' ').collect();
+        let output = ask(clerk, folder, &words)?;
+        compare(job, folder, std::slice::from_ref(question), false, &output)?;
+    }
+    Ok(())
+}
+
+/// Starts the clerk in the folder, so that a command has no more of a file's name than it needs.
+pub fn ask(clerk: &Path, folder: &Path, words: &[&str]) -> io::Result<Output> {
+    let program = env::current_dir()?.join(clerk);
+    let named =
+        |error: io::Error| io::Error::new(error.kind(), format!("{}: {error}", program.display()));
+    Command::new(&program)
+        .current_dir(folder)
+        .args(words)
+        .stdin(Stdio::null())
+        .output()
+        .map_err(named)
+}
+
+/// Compares the clerk's whole output with the answers; in a list each is under its command.
+fn compare(
+    job: &Comparison,
+    folder: &Path,
+    questions: &[Question],
+    listed: bool,
+    output: &Output,
+) -> Result<(), Stop> {
+    let mut rest = output.stdout.as_slice();
+    for question in questions {
+        let mut expected = Vec::new();
+        if listed {
+            expected.extend(command_line(question).as_bytes());
+        }
+        expected.extend(&question.answer);
+        match rest.strip_prefix(expected.as_slice()) {
+            Some(after) => rest = after,
+            None => return Err(differs(job, folder, question, rest, output)),
+        }
+    }
+    if rest.is_empty() && output.stderr.is_empty() {
+        return Ok(());
+    }
+    Err(differs(
+        job,
+        folder,
+        &questions[questions.len() - 1],
+        rest,
+        output,
+    ))
+}
+
+/// The question, what has to be written for it, and what was written from there on.
+fn differs(
+    job: &Comparison,
+    folder: &Path,
+    question: &Question,
+    given: &[u8],
+    output: &Output,
+) -> Stop {
+    const SHOWN: usize = 2_000;
+    let shown =
+        |bytes: &[u8]| String::from_utf8_lossy(&bytes[..bytes.len().min(SHOWN)]).into_owned();
+    let lines = format!(
+        "{}\nexpected:\n{}\ngiven:\n{}\n({}) {}",
+        question.command,
+        shown(&question.answer),
+        shown(given),
+        output.status,
+        shown(&output.stderr)
+    );
+    let path = path(folder, question.file);
+    Stop::found(
+        job,
+        question.file,
+        question.kind,
+        &path,
+        "difference",
+        &lines,
+    )
+}

@@ -1,0 +1,50 @@
+//! What the clerk says where it cannot answer: one line on standard error, and nothing on standard output.
+
+use crate::clerk::ask;
+use crate::stop::Stop;
+use std::path::Path;
+
+/// The words of a start, and what has to be said. There is no file of these names.
+const COMPLAINTS: [(&[&str], &str); 12] = [
+    (&[], "no word; clerk help lists them"),
+    (&["xyz"], "no word xyz; clerk help lists them"),
+    (&["xyz", "x.plan"], "no word xyz; clerk help lists them"),
+    (&["save"], "save FILE, or save FILE SIZE PLACE"),
+    (
+        &["save", "x.plan", "7"],
+        "save FILE, or save FILE SIZE PLACE",
+    ),
+    (&["save", "x.plan"], "cannot read x.plan"),
+    (&["save", "x.plan", "65536", "0"], "cannot read x.plan"),
+    (&["save", "."], "cannot read ."),
+    (
+        &["save", "x.plan", "65537", "0"],
+        "65537 is no size of a page: 0 to 65536",
+    ),
+    (
+        &["save", "x.plan", "1e3", "0"],
+        "1e3 is no size of a page: 0 to 65536",
+    ),
+    (
+        &["save", "x.plan", "9", "18446744073709551616"],
+        "18446744073709551616 is no place in a page: 0 or more",
+    ),
+    (&["each", "x"], "cannot read x"),
+];
+
+pub fn compare(clerk: &Path, folder: &Path) -> Result<(), Stop> {
+    for (words, said) in COMPLAINTS {
+        let output = ask(clerk, folder, words)?;
+        let expected = format!("clerk: {said}\n");
+        if !output.stdout.is_empty() || output.stderr != expected.as_bytes() {
+            let report = format!(
+                "second: difference, clerk {}\nexpected:\n{expected}given:\n{}{}",
+                words.join(" "),
+                String::from_utf8_lossy(&output.stdout),
+                String::from_utf8_lossy(&output.stderr)
+            );
+            return Err(Stop::Found { path: None, report });
+        }
+    }
+    Ok(())
+}
