@@ -1,10 +1,9 @@
 -- Laws of months: a month starts where the one before it ends, and the twelve fill the year.
-use Prim.Native.Nat.{ℕ, suc, _+_, _-_, _≤_, _<_}
-use mathlib.Core.Path.{_≡_, refl, ap, _∙_, sym}
+use Prim.Native.Nat.{ℕ, suc, _+_, _-_, _≤_}
+use mathlib.Core.Path.{_≡_, refl, ap, _∙_}
 use mathlib.Core.Bool.{Bool, true, false, cond}
-use mathlib.Core.List.{List, [], _∷_}
 use native.Mathlib.Omega.{arith}
-use lib.ListN.{length, take, getD}
+use lib.ListN.{length, take}
 use Rattle.lists.specs.Count.{sumOf}
 use Rattle.lists.proofs.Lists.{All, all-at, by-bool, sumOf-take-suc, sumOf-take-le}
 use Rattle.calendar.specs.Years.{leapYear, yearLength, monthsWith, monthLengths, monthLength}

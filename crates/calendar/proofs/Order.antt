@@ -1,15 +1,15 @@
 -- Earlier dates have smaller day numbers: no two dates have one number.
 --     Before d e            why d is earlier than e
-use Prim.Native.Nat.{ℕ, _+_, _-_, _≤_, _<_}
-use mathlib.Core.Path.{_≡_, refl, ap, _∙_, sym}
-use mathlib.Core.Bool.{Bool, true, false, _&&_, _||_}
+use Prim.Native.Nat.{_+_, _-_, _<_}
+use mathlib.Core.Path.{_≡_, refl, ap, sym}
+use mathlib.Core.Bool.{Bool, true, false, _||_}
 use native.Mathlib.Omega.{arith}
 use native.Mathlib.Decide.{decLe}
 use lib.Dec.{ltb, eqb}
 use borrow.Author.Tests.{ltb-true, eqb-true, lt-ltb, le-ltb, eq-eqb}
-use Rattle.lists.proofs.Lists.{by-bool, and-left, and-right, and-both}
+use Rattle.lists.proofs.Lists.{and-left, and-right}
 use Rattle.calendar.specs.declared.Date.{Date}
-use Rattle.calendar.specs.Dates.{date, dateExists, earlier}
+use Rattle.calendar.specs.Dates.{date, earlier}
 use Rattle.calendar.specs.Numbers.{daysBeforeYear, daysBeforeMonth, dayNumber}
 use Rattle.calendar.proofs.Months.{daysBeforeMonth-le}
 use Rattle.calendar.proofs.Existing.{Existing, daysBeforeYear-le, dayNumber-from-month, dayNumber-to-month, dayNumber-from-year, dayNumber-to-year}

@@ -1,20 +1,19 @@
 -- Laws of yearly lists: year by year, and which years can be left out.
 use Prim.Native.Nat.{ℕ, zero, suc, _+_, _-_, _≤_, _<_}
 use mathlib.Core.Path.{_≡_, refl, sym, ap, _∙_}
-use mathlib.Core.Bool.{true, false, not}
+use mathlib.Core.Bool.{true, false}
 use mathlib.Core.List.{List, [], _∷_, _++_}
 use native.Mathlib.Omega.{arith}
 use lib.ListN.{length, length-append}
 use Rattle.lists.specs.Count.{keep, upFrom}
 use Rattle.lists.proofs.Lists.{by-bool}
-use Rattle.lists.proofs.Order.{keep-yes, keep-no, upFrom-cons}
+use Rattle.lists.proofs.Order.{upFrom-cons}
 use Rattle.faults.specs.Checks.{inBounds}
-use Rattle.faults.proofs.Checks.{inBounds-low, inBounds-high, inBounds-not}
-use Rattle.calendar.specs.declared.Date.{Date}
+use Rattle.faults.proofs.Checks.{inBounds-not}
 use Rattle.calendar.specs.declared.YearlyDate.{YearlyDate}
-use Rattle.calendar.specs.Dates.{date, dateExists}
+use Rattle.calendar.specs.Dates.{dateExists}
 use Rattle.calendar.specs.Numbers.{daysBeforeYear, dayNumber}
-use Rattle.calendar.specs.Yearly.{inYear, datesIn, inNoYear, daysIn, yearlyDays}
+use Rattle.calendar.specs.Yearly.{inYear, datesIn, daysIn, yearlyDays}
 use Rattle.calendar.specs.Places.{InYear}
 use Rattle.calendar.proofs.Existing.{existing, daysBeforeYear-next, daysBeforeYear-le, dayNumber-from-year, dayNumber-to-year}
 

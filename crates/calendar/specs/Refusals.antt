@@ -8,7 +8,7 @@
 --     yearlyAnswer t a e room     how many days are listed, or the refusal
 --     yearlyListed t a e list     what the lent list holds afterwards: the days, and then its own later places; as it was on a refusal
 use Prim.Native.Nat.{ℕ}
-use mathlib.Core.Bool.{Bool, not, cond, _||_}
+use mathlib.Core.Bool.{cond, _||_}
 use mathlib.Core.List.{List, _++_}
 use lib.Dec.{leb, ltb}
 use lib.ListN.{length, drop}

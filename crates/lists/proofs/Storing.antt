@@ -1,8 +1,8 @@
 -- Lent lists written from the front: what is stored so far, and the lent list's own places behind it.
 --     Stored all left list₀ list at     the first `at` places hold what comes before `left` in `all`; the others are those of list₀
-use Prim.Native.Nat.{ℕ, _+_, _-_, _≤_}
+use Prim.Native.Nat.{ℕ, _+_, _≤_}
 use mathlib.Core.Path.{_≡_, refl, sym, ap, _∙_}
-use mathlib.Core.List.{List, [], _∷_, _++_, append-assoc, append-nil}
+use mathlib.Core.List.{List, [], _++_, append-assoc, append-nil}
 use native.Mathlib.Omega.{arith}
 use lib.ListN.{length, take, drop, length-append, length-drop, take-append-drop}
 use Rattle.lists.specs.Count.{putAt}

@@ -1,6 +1,4 @@
 -- `calendar::weekday_of` meets its contract: each arm has the place of its weekday in the week.
-use Prim.Native.Nat.{_%_}
-use mathlib.Core.Path.{_≡_}
 use native.Mathlib.Omega.{arith}
 use Rattle.calendar.proofs.Weekdays.{weekdayOf-place}
 use Rattle.calendar.proofs.weekday_of.Statement.{statement}

@@ -1,8 +1,6 @@
 -- `calendar::listing::between` meets its contract: each `return` has the bound that decides.
-use mathlib.Core.Path.{sym}
 use native.Mathlib.Omega.{arith}
 use Rattle.lists.specs.Count.{keep}
-use Rattle.lists.proofs.Order.{keep-yes, keep-no}
 use Rattle.faults.proofs.Checks.{inBounds-yes, inBounds-not}
 use Rattle.calendar.proofs.listing.between.Statement.{statement}
 use Rattle.calendar.proofs.listing.between.Tie as tie

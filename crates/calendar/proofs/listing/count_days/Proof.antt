@@ -1,7 +1,7 @@
 -- `calendar::listing::count_days` meets its contract: what is found so far and what is left make the whole.
 use Prim.Native.Nat.{_+_, _-_, _≤_}
 use mathlib.Core.Path.{_≡_, ap, _∙_}
-use mathlib.Core.List.{[], _∷_, _++_}
+use mathlib.Core.List.{[], _∷_}
 use native.Mathlib.Omega.{arith}
 use lib.ListN.{length, length-append}
 use Rattle.calendar.specs.Yearly.{daysIn, yearlyDays}

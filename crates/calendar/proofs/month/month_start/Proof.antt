@@ -1,7 +1,6 @@
 -- `calendar::month::month_start` meets its contract: a month's start in a year with 30 days in February, less what February lacks.
 use native.Mathlib.Omega.{arith}
 use borrow.Author.Needs.{needs}
-use borrow.Author.Tests.{le-leb, lt-leb}
 use Rattle.calendar.proofs.Formula.{start-early, start-late}
 use Rattle.calendar.proofs.month.month_start.Statement.{statement}
 use Rattle.calendar.proofs.month.month_start.Tie as tie

@@ -1,5 +1,5 @@
 -- `calendar::text::fits` meets its contract: what is left of the text fits what is left of the form exactly if the whole does.
-use Prim.Native.Nat.{_+_, _-_, _≤_}
+use Prim.Native.Nat.{_-_, _≤_}
 use mathlib.Core.Path.{_≡_, refl, sym, _∙_}
 use native.Mathlib.Omega.{arith}
 use borrow.Author.Tests.{not-true, not-false}

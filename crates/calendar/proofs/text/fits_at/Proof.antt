@@ -1,5 +1,4 @@
 -- `calendar::text::fits_at` meets its contract: each `return` has the test of its kind of place.
-use native.Mathlib.Omega.{arith}
 use borrow.Author.Tests.{eq-eqb, ne-eqb, le-leb, lt-leb}
 use Rattle.calendar.specs.Texts.{fitsAt}
 use Rattle.calendar.proofs.text.fits_at.Statement.{statement}

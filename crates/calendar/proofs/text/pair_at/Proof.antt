@@ -1,5 +1,4 @@
 -- `calendar::text::pair_at` meets its contract: ten times the first digit and the second.
-use mathlib.Core.Path.{sym}
 use native.Mathlib.Omega.{arith}
 use borrow.Author.Needs.{needs}
 use Rattle.calendar.proofs.Texts.{number-two}
