@@ -1,6 +1,7 @@
-//! A second program, written from document 01 alone, that the desk is compared with.
+//! A second program, written from documents 01 and 02 alone, that the desk and the clerk are compared with.
 
 mod batch;
+mod calendar;
 mod chance;
 mod clerk;
 mod compare;
@@ -18,6 +19,7 @@ mod stop;
 mod tally;
 mod writing;
 
+use calendar::ask::{first_difference, print_all, Asked};
 use compare::compare_all;
 use options::{task, Comparison, Task, USAGE};
 use rules::answer::Answer;
@@ -33,6 +35,8 @@ fn main() -> ExitCode {
         Some(Task::Compare(job)) => run_comparison(&job),
         Some(Task::Answer(path)) => show_answer(&path),
         Some(Task::Selftest) => run_selftest(),
+        Some(Task::Calendar) => show_calendar(),
+        Some(Task::Dates(asked)) => run_dates(&asked),
         None => {
             eprintln!("{USAGE}");
             ExitCode::from(UNABLE)
@@ -79,10 +83,44 @@ fn run_selftest() -> ExitCode {
         println!("second: {case}");
     }
     if wrong.is_empty() {
-        println!("second: the document's plans come out as it says");
+        println!("second: the documents' plans and dates come out as they say");
         ExitCode::SUCCESS
     } else {
         ExitCode::FAILURE
+    }
+}
+
+fn show_calendar() -> ExitCode {
+    let lines = calendar::sheets();
+    let mut text = String::new();
+    for sheet in &lines {
+        text.push_str(&format!("{sheet}\n"));
+    }
+    print!("{text}");
+    ExitCode::SUCCESS
+}
+
+fn run_dates(asked: &Asked) -> ExitCode {
+    let clerk = match &asked.clerk {
+        Some(clerk) => clerk,
+        None => {
+            print_all(asked);
+            return ExitCode::SUCCESS;
+        }
+    };
+    match first_difference(clerk, asked) {
+        Ok(None) => {
+            println!(
+                "second: {} questions about dates, seed {}, no difference",
+                asked.questions, asked.seed
+            );
+            ExitCode::SUCCESS
+        }
+        Ok(Some(report)) => {
+            println!("second: {}", report.trim_end());
+            ExitCode::FAILURE
+        }
+        Err(error) => unable(&format!("{}: {error}", clerk.display())),
     }
 }
 

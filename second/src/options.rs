@@ -1,5 +1,6 @@
 //! What the program is asked to do.
 
+use crate::calendar::ask::Asked;
 use std::path::PathBuf;
 use std::str::FromStr;
 
@@ -7,12 +8,16 @@ pub const USAGE: &str =
     "usage: second --desk PATH [--files N] [--seed S] [--batch B] [--keep DIR] [--tally]
        second --clerk PATH [--files N] [--seed S] [--batch B] [--keep DIR] [--tally]
        second --answer FILE
+       second --calendar
+       second --dates [--ask CLERK] [--questions N] [--seed S]
        second --selftest";
 
 pub enum Task {
     Compare(Comparison),
     Answer(PathBuf),
     Selftest,
+    Calendar,
+    Dates(Asked),
 }
 
 /// The program that is compared with this one.
@@ -49,6 +54,8 @@ pub fn task(mut words: impl Iterator<Item = String>) -> Option<Task> {
         match word.as_str() {
             "--answer" => return words.next().map(|path| Task::Answer(path.into())),
             "--selftest" => return Some(Task::Selftest),
+            "--calendar" => return Some(Task::Calendar),
+            "--dates" => return asked(words).map(Task::Dates),
             "--desk" => program = Some(Program::Desk(value(&mut words)?)),
             "--clerk" => program = Some(Program::Clerk(value(&mut words)?)),
             "--files" => files = value(&mut words)?,
@@ -70,6 +77,24 @@ pub fn task(mut words: impl Iterator<Item = String>) -> Option<Task> {
         keep,
         tally,
     }))
+}
+
+/// How many questions about dates, which, and whom to ask.
+fn asked(mut words: impl Iterator<Item = String>) -> Option<Asked> {
+    let (mut clerk, mut questions, mut seed) = (None, 1_000, 1);
+    while let Some(word) = words.next() {
+        match word.as_str() {
+            "--ask" => clerk = Some(value(&mut words)?),
+            "--questions" => questions = value(&mut words)?,
+            "--seed" => seed = value(&mut words)?,
+            _ => return None,
+        }
+    }
+    Some(Asked {
+        clerk,
+        questions,
+        seed,
+    })
 }
 
 fn value<T: FromStr>(words: &mut impl Iterator<Item = String>) -> Option<T> {

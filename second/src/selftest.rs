@@ -1,5 +1,6 @@
-//! The plans whose answers document 01 gives.
+//! The plans whose answers document 01 gives, and the dates of document 02.
 
+use crate::calendar::answer::Calendar;
 use crate::rules::answer::Answer;
 use crate::rules::frames::{read, Refusal};
 use crate::rules::plan::{BatteryString, Plan, Release};
@@ -11,7 +12,15 @@ use crate::writing;
 
 /// The names of the cases that do not come out as the document says.
 pub fn wrong_cases() -> Vec<&'static str> {
-    let cases = [verdicts(), searches(), runs(), readings(), writings()].concat();
+    let cases = [
+        verdicts(),
+        searches(),
+        runs(),
+        readings(),
+        writings(),
+        dates(),
+    ]
+    .concat();
     cases
         .into_iter()
         .filter(|(_, holds)| !holds)
@@ -134,6 +143,37 @@ fn writings() -> Cases {
         (
             "a refused file in a page",
             into_page(&saved(b""), Page { size: 0, place: 1 }) == refused(3, 1),
+        ),
+    ]
+}
+
+fn dates() -> Cases {
+    let calendar = Calendar::new();
+    let says = |words: &str, lines: &str| {
+        let words: Vec<String> = words.split(' ').map(str::to_string).collect();
+        calendar.answer(&words) == lines
+    };
+    let last = &calendar.sheets[calendar.sheets.len() - 1];
+    vec![
+        ("day 0", says("day 0", "2000-01-01 Sat\n")),
+        ("day 366", says("day 366", "2001-01-01 Mon\n")),
+        ("the last day", last.to_string() == "146096 2399-12-31 Fri"),
+        ("2001-01-01", says("date 2001-01-01", "366 Mon\n")),
+        ("2001-02-29", says("date 2001-02-29", "refused 10 line 0\n")),
+        (
+            "29 February to 2012",
+            says(
+                "yearly 02-29 2000-01-01 2012-12-31",
+                "2000-02-29 Tue\n2004-02-29 Sun\n2008-02-29 Fri\n2012-02-29 Wed\n",
+            ),
+        ),
+        (
+            "first after last",
+            says("yearly 02-29 2012-12-31 2000-01-01", ""),
+        ),
+        (
+            "02-30",
+            says("yearly 02-30 2000-01-01 2012-12-31", "refused 10 line 0\n"),
         ),
     ]
 }

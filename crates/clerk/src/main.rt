@@ -1,6 +1,7 @@
 // The clerk: `clerk WORD ..`, for all that is done with plan files and dates. One start, one answer on standard output; what cannot be
 // answered is named by one line on standard error.
 mod commands;
+mod dates;
 mod each;
 mod files;
 mod plans;

@@ -11,7 +11,7 @@ pub(crate) fn answer(text: &[u8]) {
     io::write_all(STDOUT_FILENO, text);
 }
 
-fn answer_page(page: Page)
+pub(crate) fn answer_page(page: Page)
     requires { ⌜ page .len ≤ length (page .bytes) ⌝ }
 {
     let n = page.len;

@@ -1,6 +1,9 @@
 // Which word is asked for. A new word has its line in `answer` and in `help`, and its module.
 use super::commands::same;
 use super::commands::word;
+use super::dates::date;
+use super::dates::day;
+use super::dates::yearly_days;
 use super::save::save;
 use super::say;
 
@@ -8,6 +11,12 @@ pub(crate) fn answer(command: &[u8]) {
     let first = word(command, 0);
     if same(first, b"save") {
         save(command);
+    } else if same(first, b"date") {
+        date(command);
+    } else if same(first, b"day") {
+        day(command);
+    } else if same(first, b"yearly") {
+        yearly_days(command);
     } else if same(first, b"help") {
         help();
     } else if same(first, b"each") {
@@ -18,8 +27,13 @@ pub(crate) fn answer(command: &[u8]) {
 }
 
 fn help() {
+    say::answer(b"date YYYY-MM-DD         the day number and the weekday of a date\n");
+    say::answer(b"day NUMBER              the date and the weekday of a day number\n");
     say::answer(b"each COMMANDS           answer every line of a file of commands\n");
     say::answer(b"help                    list the words\n");
     say::answer(b"save FILE               write the plan in FILE back\n");
     say::answer(b"save FILE SIZE PLACE    write it into a page of SIZE bytes, from PLACE on\n");
+    say::answer(
+        b"yearly MM-DD FIRST LAST    the days on which a yearly test falls between two dates\n",
+    );
 }

@@ -1,4 +1,4 @@
--- Refusals (document 01, "Refusal numbers"): the number of each fault, and the order of checks.
+-- Refusals (document 01, "Refusal numbers"; document 02 from 9 on): the number of each fault, and the order of checks.
 --     faultNumber f         the number that the documents give the fault f
 --     then a b              the first check decides; the second is looked at only where the first finds nothing
 --     refuseIf bad f at     the fault f at `at` where something is bad, nothing otherwise
@@ -8,7 +8,7 @@ use mathlib.Core.Bool.{Bool, cond, _&&_}
 use lib.Dec.{leb}
 use Rattle.faults.specs.declared.Fault.{Fault}
 use Rattle.faults.specs.declared.Fault.the-variants.{TextTooLong, LineMalformed, FrameWrong, StringCount}
-use Rattle.faults.specs.declared.Fault.the-variants.{OutOfBounds, MultipleOver, ReleaseTooMany, ReleaseUnlawful, NoRoom}
+use Rattle.faults.specs.declared.Fault.the-variants.{OutOfBounds, MultipleOver, ReleaseTooMany, ReleaseUnlawful, NoRoom, NoSuchDate}
 use Rattle.faults.specs.declared.Checked.{Checked}
 use Rattle.faults.specs.declared.Checked.the-variants.{Lawful, Refused}
 
@@ -22,6 +22,7 @@ faultNumber MultipleOver = 6
 faultNumber ReleaseTooMany = 7
 faultNumber ReleaseUnlawful = 8
 faultNumber NoRoom = 9
+faultNumber NoSuchDate = 10
 
 abbrev pub then : Checked → Checked → Checked
 then Lawful next = next

@@ -13,6 +13,7 @@ pub enum Fault {
     ReleaseTooMany,
     ReleaseUnlawful,
     NoRoom,
+    NoSuchDate,
 }
 
 // Whether all rules were met; if not, the first fault, and where: a line, a place, or 0 for the whole.
@@ -35,5 +36,6 @@ pub fn fault_number(f: Fault) -> u32
         Fault::ReleaseTooMany => 7,
         Fault::ReleaseUnlawful => 8,
         Fault::NoRoom => 9,
+        Fault::NoSuchDate => 10,
     }
 }

@@ -1,7 +1,10 @@
 // The lines that are written for an answer (document 01, "Frames of the plan file"), on a page of text.
+mod dates;
 mod pages;
 mod parts;
 
+pub use dates::date_line;
+pub use dates::day_line;
 use pages::blank;
 use parts::assign_line;
 use parts::outcome_line;

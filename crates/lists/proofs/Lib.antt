@@ -8,3 +8,5 @@ pub mod Counts
 pub mod FirstOf
 pub mod FirstN
 pub mod Parts
+pub mod Storing
+pub mod Members

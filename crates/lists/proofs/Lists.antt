@@ -7,7 +7,7 @@ use mathlib.Core.List.{List, [], _∷_}
 use native.Mathlib.Omega.{arith}
 use native.Mathlib.Decide.{decLe}
 use native.Mathlib.Nat.{not-suc-le-zero, le-of-suc-le-suc, le-refl}
-use lib.ListN.{length, getD, set}
+use lib.ListN.{length, getD, take, set}
 use Rattle.lists.specs.Count.{sumOf, largest, smallest, smallestWith, every}
 pub use Rattle.lists.specs.Count.{All}
 
@@ -95,6 +95,26 @@ module _ {ℓ} {A : Type ℓ} where
   sumOf-add f g [] = refl
   sumOf-add f g (x ∷ xs) =
       let rest = sumOf-add f g xs in
+      omega arith
+
+  pub sumOf-take-suc : (f : A → ℕ) (xs : List A) (z : A) (i : ℕ) → i < length xs
+      → sumOf f (take (suc i) xs) ≡ sumOf f (take i xs) + f (getD xs i z)
+  unfolding sumOf
+  sumOf-take-suc f [] z i h = absurd (not-suc-le-zero h)
+  sumOf-take-suc f (x ∷ xs) z zero h = omega arith
+  sumOf-take-suc f (x ∷ xs) z (suc i) h =
+      let rest = sumOf-take-suc f xs z i (le-of-suc-le-suc h) in
+      omega arith
+
+  pub sumOf-take-le : (f : A → ℕ) (xs : List A) (i j : ℕ) → i ≤ j → sumOf f (take i xs) ≤ sumOf f (take j xs)
+  unfolding sumOf
+  sumOf-take-le f [] zero j h = zero-le
+  sumOf-take-le f [] (suc i) zero h = absurd (not-suc-le-zero h)
+  sumOf-take-le f [] (suc i) (suc j) h = zero-le
+  sumOf-take-le f (x ∷ xs) zero j h = zero-le
+  sumOf-take-le f (x ∷ xs) (suc i) zero h = absurd (not-suc-le-zero h)
+  sumOf-take-le f (x ∷ xs) (suc i) (suc j) h =
+      let rest = sumOf-take-le f xs i j (le-of-suc-le-suc h) in
       omega arith
 
   -- ---- largest

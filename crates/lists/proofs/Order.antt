@@ -94,6 +94,10 @@ module _ {ℓ κ} {A : Type ℓ} {B : Type κ} where
 
 -- ---- upFrom
 
+pub upFrom-cons : (k n : ℕ) → upFrom k (suc n) ≡ k ∷ upFrom (suc k) n
+unfolding upFrom
+upFrom-cons k n = refl
+
 pub all-upFrom : (P : ℕ → Type 0) (k n : ℕ) → ((i : ℕ) → k ≤ i → i < k + n → P i) → All P (upFrom k n)
 unfolding upFrom
 all-upFrom P k zero f = tt

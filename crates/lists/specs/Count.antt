@@ -4,18 +4,22 @@
 --     smallest f xs         the smallest f of xs, 0 of none
 --     every f xs            all of xs pass f
 --     All P xs              every one of xs has P
+--     Member x xs           x stands somewhere in xs
 --     keep f xs             those of xs that pass f, in their order
 --     countOf f xs          how many of xs pass f
 --     firstOf f xs          the first of xs that passes f
 --     upFrom k n            the n numbers k, k + 1, ..
 --     filled k z xs         xs, and z to fill k places
+--     putAt i ys xs         xs with ys in place of as many elements from place i on
 --     leastFrom f k n       the least of the n numbers from k on that passes f, or k + n where none does
 -- In a recursion both ways are bound before `cond` chooses, so that only the chosen one is computed.
 use Prim.Native.Nat.{ℕ, zero, suc, _+_, _-_, min, max}
+use mathlib.Core.Path.{_≡_}
+use mathlib.Core.Logic.{_⊎_}
 use mathlib.Core.Bool.{Bool, true, false, cond}
 use mathlib.Core.List.{List, [], _∷_, _++_}
 use mathlib.Core.Option.{Option, none, some}
-use lib.ListN.{length, replicate}
+use lib.ListN.{length, take, drop, replicate}
 
 module _ {ℓ} {A : Type ℓ} where
   unfoldable pub sumOf : (A → ℕ) → List A → ℕ
@@ -60,8 +64,15 @@ module _ {ℓ} {A : Type ℓ} where
       let later = firstOf f xs in
       cond (f x) (some x) later
 
+abbrev pub Member : {A : Type 0} → A → List A → Type 0
+Member x [] = ⊥
+Member x (y ∷ ys) = (x ≡ y) ⊎ Member x ys
+
 abbrev pub filled {ℓ} : {A : Type ℓ} → ℕ → A → List A → List A
 filled k z xs = xs ++ replicate (k - length xs) z
+
+abbrev pub putAt {ℓ} : {A : Type ℓ} → ℕ → List A → List A → List A
+putAt i ys xs = take i xs ++ (ys ++ drop (i + length ys) xs)
 
 unfoldable pub upFrom : ℕ → ℕ → List ℕ
 upFrom k zero = []

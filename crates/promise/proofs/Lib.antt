@@ -8,5 +8,6 @@ pub mod NeverMisses
 pub mod ThreeLines
 pub mod OneText
 pub mod ShutOut
+pub mod Dates
 pub mod OnlyOne
 pub mod EquationSeven

@@ -15,12 +15,28 @@ use Rattle.rules.specs.declared.Verdict.{Verdict}
 use Rattle.rules.specs.declared.Assign.{Assign}
 use Rattle.rules.specs.declared.Outcome.{Outcome}
 use Rattle.lines.specs.declared.Page.{Page}
+use Rattle.calendar.specs.declared.WhichDate.{WhichDate}
+use Rattle.calendar.specs.declared.WhichDay.{WhichDay}
+use Rattle.calendar.specs.declared.WhichWeekday.{WhichWeekday}
+use Rattle.calendar.specs.declared.WhichYearly.{WhichYearly}
+use Rattle.calendar.specs.declared.Listed.{Listed}
+use Rattle.calendar.specs.declared.DateText.{DateText}
+use Rattle.calendar.specs.declared.YearlyText.{YearlyText}
 use Rattle.rules.specs.declared.Answer.{Answer}
 use Rattle.days.proofs.Day.plus.Reads as Day-plus
 use Rattle.days.proofs.Day.since.Reads as Day-since
 use Rattle.days.proofs.Day.before.Reads as Day-before
 use Rattle.days.proofs.Length.shorter.Reads as Length-shorter
 use Rattle.faults.proofs.fault_number.Reads as fault-number
+use Rattle.calendar.proofs.Date.from_day.Reads as Date-from-day
+use Rattle.calendar.proofs.Date.day_number.Reads as Date-day-number
+use Rattle.calendar.proofs.Date.weekday.Reads as Date-weekday
+use Rattle.calendar.proofs.yearly.Reads as yearly
+use Rattle.calendar.proofs.date_read.Reads as date-read
+use Rattle.calendar.proofs.day_read.Reads as day-read
+use Rattle.calendar.proofs.date_text.Reads as date-text
+use Rattle.calendar.proofs.yearly_read.Reads as yearly-read
+use Rattle.calendar.proofs.yearly_text.Reads as yearly-text
 use mathlib.Core.List.{List}
 use Rattle.days.specs.declared.Length.{Length}
 use Rattle.rules.specs.declared.Job.{Job}
@@ -49,6 +65,8 @@ use Rattle.verdict.proofs.verdict_with.Reads as verdict-with
 use Rattle.verdict.proofs.search.Reads as search-takers
 use Rattle.run.proofs.run.Reads as run
 use Rattle.lines.proofs.written.Reads as written
+use Rattle.lines.proofs.date_line.Reads as date-line
+use Rattle.lines.proofs.day_line.Reads as day-line
 use Rattle.answers.proofs.answer.Reads as answer
 
 -- days
@@ -68,6 +86,41 @@ one-Length-shorter κs a e f r s h k = h ∙ sym k
 -- faults
 pub one-fault-number : (κs : Lfts 0) (a : _) (e f : _) (r s : ℕ) → fault-number.Learnt κs a r e → fault-number.Learnt κs a s f → r ≡ s
 one-fault-number κs a e f r s h k = h ∙ sym k
+
+-- calendar
+pub one-Date-from-day : (κs : Lfts 0) (a : _) (e f : _) (r s : WhichDate) → Date-from-day.Learnt κs a r e → Date-from-day.Learnt κs a s f
+    → r ≡ s
+one-Date-from-day κs a e f r s h k = h ∙ sym k
+
+pub one-Date-day-number : (κs : Lfts 0) (a : _) (e f : _) (r s : WhichDay) → Date-day-number.Learnt κs a r e
+    → Date-day-number.Learnt κs a s f → r ≡ s
+one-Date-day-number κs a e f r s h k = h ∙ sym k
+
+pub one-Date-weekday : (κs : Lfts 0) (a : _) (e f : _) (r s : WhichWeekday) → Date-weekday.Learnt κs a r e → Date-weekday.Learnt κs a s f
+    → r ≡ s
+one-Date-weekday κs a e f r s h k = h ∙ sym k
+
+pub one-yearly : (κs : Lfts 1) (a : _) (e f : _) (r s : Listed) → yearly.Learnt κs a r e → yearly.Learnt κs a s f
+    → (r ≡ s) × (e .1 .1 .1 .0 .now ≡ f .1 .1 .1 .0 .now)
+one-yearly κs a e f r s h k = (h .0 ∙ sym (k .0), h .1 ∙ sym (k .1))
+
+pub one-date-read : (κs : Lfts 1) (a : _) (e f : _) (r s : WhichDate) → date-read.Learnt κs a r e → date-read.Learnt κs a s f
+    → (r ≡ s) × (e .0 .now ≡ f .0 .now)
+one-date-read κs a e f r s h k = (h .0 ∙ sym (k .0), h .1 ∙ sym (k .1))
+
+pub one-day-read : (κs : Lfts 1) (a : _) (e f : _) (r s : WhichDay) → day-read.Learnt κs a r e → day-read.Learnt κs a s f
+    → (r ≡ s) × (e .0 .now ≡ f .0 .now)
+one-day-read κs a e f r s h k = (h .0 ∙ sym (k .0), h .1 ∙ sym (k .1))
+
+pub one-date-text : (κs : Lfts 0) (a : _) (e f : _) (r s : DateText) → date-text.Learnt κs a r e → date-text.Learnt κs a s f → r ≡ s
+one-date-text κs a e f r s h k = h ∙ sym k
+
+pub one-yearly-read : (κs : Lfts 1) (a : _) (e f : _) (r s : WhichYearly) → yearly-read.Learnt κs a r e → yearly-read.Learnt κs a s f
+    → (r ≡ s) × (e .0 .now ≡ f .0 .now)
+one-yearly-read κs a e f r s h k = (h .0 ∙ sym (k .0), h .1 ∙ sym (k .1))
+
+pub one-yearly-text : (κs : Lfts 0) (a : _) (e f : _) (r s : YearlyText) → yearly-text.Learnt κs a r e → yearly-text.Learnt κs a s f → r ≡ s
+one-yearly-text κs a e f r s h k = h ∙ sym k
 
 -- rules
 pub one-Plan-moving-cost : (κs : Lfts 0) (a : _) (e f : _) (r s : Length) → Plan-moving-cost.Learnt κs a r e
@@ -146,6 +199,13 @@ one-run κs a e f r s h k = h ∙ sym k
 -- lines
 pub one-written : (κs : Lfts 0) (a : _) (e f : _) (r s : Page) → written.Learnt κs a r e → written.Learnt κs a s f → r ≡ s
 one-written κs a e f r s h k = h .0 ∙ sym (k .0)
+
+pub one-date-line : (κs : Lfts 1) (a : _) (e f : _) (r s : Page) → date-line.Learnt κs a r e → date-line.Learnt κs a s f
+    → (r ≡ s) × (e .0 .now ≡ f .0 .now)
+one-date-line κs a e f r s h k = (h .0 ∙ sym (k .0), h .1 .1 ∙ sym (k .1 .1))
+
+pub one-day-line : (κs : Lfts 0) (a : _) (e f : _) (r s : Page) → day-line.Learnt κs a r e → day-line.Learnt κs a s f → r ≡ s
+one-day-line κs a e f r s h k = h .0 ∙ sym (k .0)
 
 -- answers
 pub one-answer : (κs : Lfts 1) (a : _) (e f : _) (r s : Answer) → answer.Learnt κs a r e → answer.Learnt κs a s f

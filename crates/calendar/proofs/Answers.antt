@@ -1,0 +1,196 @@
+-- Laws of the calendar's answers: which case holds.
+use Prim.Native.Nat.{ℕ, _≤_, _<_}
+use mathlib.Core.Path.{_≡_, sym, ap, _∙_}
+use mathlib.Core.Logic.{_↔_}
+use mathlib.Core.Bool.{Bool, true, false, _||_}
+use mathlib.Core.List.{List, _++_}
+use native.Mathlib.Omega.{arith}
+use native.Mathlib.Decide.{decLe}
+use lib.Dec.{ltb}
+use lib.ListN.{length, drop}
+use borrow.Author.Tests.{le-leb, lt-leb, lt-ltb, le-ltb}
+use Rattle.lists.proofs.Lists.{by-bool}
+use Rattle.days.specs.declared.Day.{Day}
+use Rattle.days.specs.Days.{day}
+use Rattle.faults.specs.declared.Fault.{Fault}
+use Rattle.faults.specs.declared.Fault.the-variants.{NoRoom, NoSuchDate}
+use Rattle.calendar.specs.declared.Date.{Date}
+use Rattle.calendar.specs.declared.WhichDate.the-variants as which-date
+use Rattle.calendar.specs.declared.WhichDay.the-variants as which-day
+use Rattle.calendar.specs.declared.WhichWeekday.the-variants as which-weekday
+use Rattle.calendar.specs.declared.YearlyDate.{YearlyDate}
+use Rattle.calendar.specs.declared.Listed.the-variants as listed
+use Rattle.calendar.specs.Dates.{dateExists}
+use Rattle.calendar.specs.Numbers.{dayNumber, dateOf, lastDay}
+use Rattle.calendar.specs.Weekdays.{weekdayOf}
+use Rattle.calendar.specs.Yearly.{inNoYear, yearlyDays}
+use Rattle.calendar.specs.Refusals.{dateAnswer, dayAnswer, weekdayAnswer, yearlyCheck, listedIf, storedIf, yearlyAnswer, yearlyListed}
+use Rattle.calendar.proofs.BothWays.{dateOf-exists, dayNumber-dateOf, dayNumber-in-range, dateOf-dayNumber}
+
+pub dateAnswer-is : (k : ℕ) → k ≤ lastDay → dateAnswer k ≡ which-date.Is (dateOf k)
+unfolding dateAnswer
+dateAnswer-is k h = rw (le-leb k lastDay h)
+
+pub dateAnswer-refused : (k : ℕ) → lastDay < k → dateAnswer k ≡ which-date.Refused NoSuchDate 0
+unfolding dateAnswer
+dateAnswer-refused k h = rw (lt-leb k lastDay h)
+
+never : _≡_ {A = ℕ} 0 1 → ⊥
+never z = omega arith
+
+-- a date that is answered is the day's own, and exists
+pub dateAnswer-date : (k : ℕ) (d : Date) → dateAnswer k ≡ which-date.Is d → (k ≤ lastDay) × (d ≡ dateOf k)
+dateAnswer-date k d h =
+    elim (decLe k lastDay) [ yes within ↦ inside within (dateAnswer-is k within) | no over ↦ outside (dateAnswer-refused k (omega arith)) ]
+  where
+    inside : k ≤ lastDay → dateAnswer k ≡ which-date.Is (dateOf k) → (k ≤ lastDay) × (d ≡ dateOf k)
+    inside within is =
+        let same : d ≡ dateOf k = cc in
+        (within, same)
+
+    outside : dateAnswer k ≡ which-date.Refused NoSuchDate 0 → (k ≤ lastDay) × (d ≡ dateOf k)
+    outside refused = absurd (never (cc))
+
+pub dateAnswer-exists : (k : ℕ) (d : Date) → dateAnswer k ≡ which-date.Is d → dateExists d ≡ true
+dateAnswer-exists k d h =
+    let is = dateAnswer-date k d h in
+    ap dateExists (is .1) ∙ dateOf-exists k (is .0)
+
+pub dayAnswer-is : (d : Date) → dateExists d ≡ true → dayAnswer d ≡ which-day.Is (day (dayNumber d))
+unfolding dayAnswer
+dayAnswer-is d h = rw h
+
+pub dayAnswer-refused : (d : Date) → dateExists d ≡ false → dayAnswer d ≡ which-day.Refused NoSuchDate 0
+unfolding dayAnswer
+dayAnswer-refused d h = rw h
+
+-- a day that is answered is the date's own
+pub dayAnswer-day : (d : Date) (k : Day) → dayAnswer d ≡ which-day.Is k → (dateExists d ≡ true) × (k ≡ day (dayNumber d))
+dayAnswer-day d k h = by-bool (dateExists d) (λ t. there t (dayAnswer-is d t)) (λ f. none (dayAnswer-refused d f))
+  where
+    there : dateExists d ≡ true → dayAnswer d ≡ which-day.Is (day (dayNumber d)) → (dateExists d ≡ true) × (k ≡ day (dayNumber d))
+    there t is =
+        let same : k ≡ day (dayNumber d) = cc in
+        (t, same)
+
+    none : dayAnswer d ≡ which-day.Refused NoSuchDate 0 → (dateExists d ≡ true) × (k ≡ day (dayNumber d))
+    none refused = absurd (never (cc))
+
+-- there and back, and back and there
+pub day-and-back : (k : ℕ) (d : Date) → dateAnswer k ≡ which-date.Is d → dayAnswer d ≡ which-day.Is (day k)
+day-and-back k d h =
+    let is = dateAnswer-date k d h in
+    let number = ap dayNumber (is .1) ∙ dayNumber-dateOf k (is .0) in
+    dayAnswer-is d (dateAnswer-exists k d h) ∙ ap (λ n. which-day.Is (day n)) number
+
+pub date-and-back : (d : Date) (k : Day) → dayAnswer d ≡ which-day.Is k → dateAnswer (k .0) ≡ which-date.Is d
+date-and-back d k h =
+    let is = dayAnswer-day d k h in
+    let number = ap (λ (j : Day). j .0) (is .1) in
+    ap dateAnswer number
+    ∙ dateAnswer-is (dayNumber d) (dayNumber-in-range d (is .0))
+    ∙ ap which-date.Is (dateOf-dayNumber d (is .0))
+
+pub weekdayAnswer-is : (d : Date) → dateExists d ≡ true → weekdayAnswer d ≡ which-weekday.Is (weekdayOf (dayNumber d))
+unfolding weekdayAnswer
+weekdayAnswer-is d h = rw h
+
+pub weekdayAnswer-refused : (d : Date) → dateExists d ≡ false → weekdayAnswer d ≡ which-weekday.Refused NoSuchDate 0
+unfolding weekdayAnswer
+weekdayAnswer-refused d h = rw h
+
+-- ---- The yearly list
+
+module _ (t : YearlyDate) (a e : ℕ) (list : List ℕ) where
+  abbrev pub noSuch : Bool
+  noSuch = inNoYear t || ltb lastDay a || ltb lastDay e
+
+  pub yearly-no-such : noSuch ≡ true → (yearlyAnswer t a e (length list) ≡ listed.Refused NoSuchDate 0) × (yearlyListed t a e list ≡ list)
+  unfolding yearlyCheck listedIf storedIf yearlyAnswer yearlyListed
+  yearly-no-such bad = (rw bad, rw bad)
+
+  pub yearly-no-room : noSuch ≡ false → length list < length (yearlyDays t a e)
+      → (yearlyAnswer t a e (length list) ≡ listed.Refused NoRoom 0) × (yearlyListed t a e list ≡ list)
+  unfolding yearlyCheck listedIf storedIf yearlyAnswer yearlyListed
+  yearly-no-room good short =
+      let over = lt-ltb (length list) (length (yearlyDays t a e)) short in
+      (rw (good, over), rw (good, over))
+
+  pub yearly-listed : noSuch ≡ false → length (yearlyDays t a e) ≤ length list
+      → (yearlyAnswer t a e (length list) ≡ listed.Days (length (yearlyDays t a e)))
+      × (yearlyListed t a e list ≡ yearlyDays t a e ++ drop (length (yearlyDays t a e)) list)
+  unfolding yearlyCheck listedIf storedIf yearlyAnswer yearlyListed
+  yearly-listed good room =
+      let fits = le-ltb (length list) (length (yearlyDays t a e)) room in
+      (rw (good, fits), rw (good, fits))
+
+  -- the three ways to answer
+  pub data Outcome : Type 0 where
+    ten : noSuch ≡ true → Outcome
+    nine : noSuch ≡ false → length list < length (yearlyDays t a e) → Outcome
+    all : noSuch ≡ false → length (yearlyDays t a e) ≤ length list → Outcome
+
+  pub outcome : Outcome
+  outcome =
+      by-bool noSuch (λ bad. ten bad)
+      (λ good. elim (decLe (length (yearlyDays t a e)) (length list)) [ yes room ↦ all good room | no few ↦ nine good (omega arith) ])
+
+  -- what is listed stands at the front, and the list's later places stay
+  pub listed-front : (n : ℕ) → yearlyAnswer t a e (length list) ≡ listed.Days n
+      → (n ≡ length (yearlyDays t a e)) × (yearlyListed t a e list ≡ yearlyDays t a e ++ drop n list)
+  listed-front n h = by outcome
+    where
+      front : noSuch ≡ false → length (yearlyDays t a e) ≤ length list → n ≡ length (yearlyDays t a e)
+          → (n ≡ length (yearlyDays t a e)) × (yearlyListed t a e list ≡ yearlyDays t a e ++ drop n list)
+      front good room count = (count, yearly-listed good room .1 ∙ ap (λ m. yearlyDays t a e ++ drop m list) (sym count))
+
+      by : Outcome → (n ≡ length (yearlyDays t a e)) × (yearlyListed t a e list ≡ yearlyDays t a e ++ drop n list)
+      by (ten bad) =
+          let is = yearly-no-such bad .0 in
+          absurd (never (cc))
+      by (nine good few) =
+          let is = yearly-no-room good few .0 in
+          absurd (never (cc))
+      by (all good room) =
+          let is = yearly-listed good room .0 in
+          let count : n ≡ length (yearlyDays t a e) = cc in
+          front good room count
+
+  -- on a refusal nothing is written
+  pub refused-kept : (f : Fault) (at : ℕ) → yearlyAnswer t a e (length list) ≡ listed.Refused f at → yearlyListed t a e list ≡ list
+  refused-kept f at h = by outcome
+    where
+      by : Outcome → yearlyListed t a e list ≡ list
+      by (ten bad) = yearly-no-such bad .1
+      by (nine good few) = yearly-no-room good few .1
+      by (all good room) =
+          let is = yearly-listed good room .0 in
+          absurd (never (cc))
+
+  -- 10 exactly where something is no date or outside the range, whatever the room
+  pub ten-exactly : (yearlyAnswer t a e (length list) ≡ listed.Refused NoSuchDate 0) ↔ (noSuch ≡ true)
+  ten-exactly = (λ h. by h outcome, λ bad. yearly-no-such bad .0)
+    where
+      by : yearlyAnswer t a e (length list) ≡ listed.Refused NoSuchDate 0 → Outcome → noSuch ≡ true
+      by h (ten bad) = bad
+      by h (nine good few) =
+          let is = yearly-no-room good few .0 in
+          absurd (never (cc))
+      by h (all good room) =
+          let is = yearly-listed good room .0 in
+          absurd (never (cc))
+
+  -- then 9 exactly where the days do not fit
+  pub nine-exactly : (yearlyAnswer t a e (length list) ≡ listed.Refused NoRoom 0)
+      ↔ ((noSuch ≡ false) × (length list < length (yearlyDays t a e)))
+  nine-exactly = (λ h. by h outcome, λ p. yearly-no-room (p .0) (p .1) .0)
+    where
+      by : yearlyAnswer t a e (length list) ≡ listed.Refused NoRoom 0 → Outcome
+          → (noSuch ≡ false) × (length list < length (yearlyDays t a e))
+      by h (ten bad) =
+          let is = yearly-no-such bad .0 in
+          absurd (never (cc))
+      by h (nine good few) = (good, few)
+      by h (all good room) =
+          let is = yearly-listed good room .0 in
+          absurd (never (cc))

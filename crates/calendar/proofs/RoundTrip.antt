@@ -1,0 +1,235 @@
+-- Reading a date's text and writing it undo each other, both ways: a date has one text, and a text is that of one date.
+use Prim.Native.Nat.{ℕ, suc, _+_, _-_, _*_, _/_, _%_, _≤_, _<_}
+use mathlib.Core.Path.{_≡_, refl, sym, ap, _∙_}
+use mathlib.Core.Bool.{true, false, not}
+use mathlib.Core.List.{List, [], _∷_, _++_}
+use native.Mathlib.Omega.{arith}
+use borrow.Author.Tests.{eqb-true}
+use lib.ListN.{length}
+use Rattle.lists.proofs.Lists.{by-bool, true-not-false, and-left, and-right}
+use Rattle.faults.proofs.Checks.{inBounds-low, inBounds-high, inBounds-yes}
+use Rattle.faults.specs.declared.Fault.the-variants.{NoSuchDate}
+use Rattle.calendar.specs.declared.Date.{Date}
+use Rattle.calendar.specs.declared.YearlyDate.{YearlyDate}
+use Rattle.calendar.specs.declared.WhichDate.the-variants as which-date
+use Rattle.calendar.specs.declared.WhichYearly.the-variants as which-yearly
+use Rattle.calendar.specs.Dates.{dateExists}
+use Rattle.calendar.specs.Yearly.{inYear, inNoYear}
+use Rattle.calendar.specs.Texts.{hyphen, digits, number, numberAfter, fitsAt, fits, dateForm, yearlyForm, dateText, yearlyText}
+use Rattle.calendar.specs.Texts.{dateIn, yearlyIn, dateReading, yearlyReading}
+use Rattle.calendar.proofs.Months.{monthLength-bounds}
+use Rattle.calendar.proofs.Existing.{existing}
+use Rattle.calendar.proofs.Order.{same-date}
+use Rattle.calendar.proofs.SomeYear.{inNoYear-2000}
+use Rattle.calendar.proofs.Texts.{dateReading-is, dateReading-form, dateReading-none, yearlyReading-is, yearlyReading-form, yearlyReading-none}
+
+-- ---- Digits
+
+digit-low : (b : ℕ) → fitsAt 0x30 b ≡ true → 0x30 ≤ b
+unfolding fitsAt
+digit-low b h = inBounds-low 0x30 b 0x39 h
+
+digit-high : (b : ℕ) → fitsAt 0x30 b ≡ true → b ≤ 0x39
+unfolding fitsAt
+digit-high b h = inBounds-high 0x30 b 0x39 h
+
+line : fitsAt hyphen hyphen ≡ true
+unfolding fitsAt
+line = refl
+
+figure : (n : ℕ) → fitsAt 0x30 (0x30 + n % 10) ≡ true
+unfolding fitsAt
+figure n = inBounds-yes 0x30 (0x30 + n % 10) 0x39 (omega arith) (omega arith)
+
+digits-two : (n : ℕ) → n < 100 → number (digits 2 n) ≡ n
+unfolding digits numberAfter
+digits-two n h = omega arith
+
+digits-four : (n : ℕ) → n < 10000 → number (digits 4 n) ≡ n
+unfolding digits numberAfter
+digits-four n h = omega arith
+
+-- a digit more
+digits-more : (k n b : ℕ) → fitsAt 0x30 b ≡ true → digits (suc k) (10 * n + (b - 0x30)) ≡ digits k n ++ (b ∷ [])
+unfolding digits
+digits-more k n b h =
+    let low = digit-low b h in
+    let high = digit-high b h in
+    let before : (10 * n + (b - 0x30)) / 10 ≡ n = omega arith in
+    let last : 0x30 + (10 * n + (b - 0x30)) % 10 ≡ b = omega arith in
+    rw (before, last)
+
+two-back : (a b : ℕ) → fitsAt 0x30 a ≡ true → fitsAt 0x30 b ≡ true → digits 2 (number (a ∷ b ∷ [])) ≡ a ∷ b ∷ []
+unfolding digits numberAfter
+two-back a b h g = digits-more 1 (10 * 0 + (a - 0x30)) b g ∙ ap (λ l. l ++ (b ∷ [])) (digits-more 0 0 a h)
+
+four-back : (a b c d : ℕ) → fitsAt 0x30 a ≡ true → fitsAt 0x30 b ≡ true → fitsAt 0x30 c ≡ true → fitsAt 0x30 d ≡ true
+    → digits 4 (number (a ∷ b ∷ c ∷ d ∷ [])) ≡ a ∷ b ∷ c ∷ d ∷ []
+unfolding digits numberAfter
+four-back a b c d h g f e =
+    let n = number (a ∷ b ∷ []) in
+    digits-more 3 (10 * n + (c - 0x30)) d e
+    ∙ ap (λ l. l ++ (d ∷ [])) (digits-more 2 n c f)
+    ∙ ap (λ l. (l ++ (c ∷ [])) ++ (d ∷ [])) (two-back a b h g)
+
+-- ---- Written, then read
+
+dateText-fits : (d : Date) → fits dateForm (dateText d) ≡ true
+unfolding dateText digits fits
+dateText-fits d =
+    rw (
+      figure (d .year / 10 / 10 / 10),
+      figure (d .year / 10 / 10),
+      figure (d .year / 10),
+      figure (d .year),
+      figure (d .month / 10),
+      figure (d .month),
+      figure (d .day / 10),
+      figure (d .day),
+      line,
+    )
+
+pub dateText-ten : (d : Date) → length (dateText d) ≡ 10
+unfolding dateText digits
+dateText-ten d = refl
+
+yearlyText-fits : (t : YearlyDate) → fits yearlyForm (yearlyText t) ≡ true
+unfolding yearlyText digits fits
+yearlyText-fits t = rw (figure (t .month / 10), figure (t .month), figure (t .day / 10), figure (t .day), line)
+
+-- a month and day that exist in some year have two digits each
+yearly-short : (t : YearlyDate) → inNoYear t ≡ false → (t .month < 100) × (t .day < 100)
+yearly-short t h =
+    let x = existing (inYear t 2000) (sym (inNoYear-2000 t) ∙ ap not h) in
+    let month = x .december in
+    (omega arith, omega (arith, x .last, monthLength-bounds 2000 (t .month) (x .january) (x .december)))
+
+dateText-parts : (d : Date) → d .year < 10000 → d .month < 100 → d .day < 100 → dateIn (dateText d) ≡ d
+unfolding dateIn dateText digits
+dateText-parts d y m k = same-date (dateIn (dateText d)) d (digits-four (d .year) y) (digits-two (d .month) m) (digits-two (d .day) k)
+
+yearlyText-parts : (t : YearlyDate) → t .month < 100 → t .day < 100 → yearlyIn (yearlyText t) ≡ t
+unfolding yearlyIn yearlyText digits
+yearlyText-parts t m k =
+    let month = digits-two (t .month) m in
+    let day = digits-two (t .day) k in
+    let parts : record { month = number (digits 2 (t .month)); day = number (digits 2 (t .day)) } ≡ t = rw (month, day) in
+    parts
+
+pub date-read-back : (d : Date) → dateExists d ≡ true → dateReading (dateText d) ≡ which-date.Is d
+date-read-back d h =
+    let x = existing d h in
+    let last = x .to-2399 in
+    let december = x .december in
+    let size = monthLength-bounds (d .year) (d .month) (x .january) (x .december) in
+    let whole = dateText-parts d (omega arith) (omega arith) (omega (arith, x .last)) in
+    dateReading-is (dateText d) (dateText-fits d) (ap dateExists whole ∙ h) ∙ ap which-date.Is whole
+
+pub yearly-read-back : (t : YearlyDate) → inNoYear t ≡ false → yearlyReading (yearlyText t) ≡ which-yearly.Is t
+yearly-read-back t h =
+    let short = yearly-short t h in
+    let whole = yearlyText-parts t (short .0) (short .1) in
+    yearlyReading-is (yearlyText t) (yearlyText-fits t) (ap inNoYear whole ∙ h) ∙ ap which-yearly.Is whole
+
+-- ---- Read, then written
+
+-- a text that has a form has a first character, and the rest has the rest of the form
+record Cut (c : ℕ) (cs text : List ℕ) : Type 0 where
+  first : ℕ
+  rest : List ℕ
+  whole : text ≡ first ∷ rest
+  here : fitsAt c first ≡ true
+  after : fits cs rest ≡ true
+
+cut : (c : ℕ) (cs text : List ℕ) → fits (c ∷ cs) text ≡ true → Cut c cs text
+unfolding fits
+cut c cs [] h = absurd (true-not-false (sym h))
+cut c cs (b ∷ bs) h =
+    let here = and-left (fitsAt c b) (fits cs bs) h in
+    let after = and-right (fitsAt c b) (fits cs bs) h in
+    record { first = b; rest = bs; whole = refl; here = here; after = after }
+
+ended : (text : List ℕ) → fits [] text ≡ true → text ≡ []
+unfolding fits
+ended [] h = refl
+ended (b ∷ bs) h = absurd (true-not-false (sym h))
+
+hyphen-back : (b : ℕ) → fitsAt hyphen b ≡ true → b ≡ hyphen
+unfolding fitsAt
+hyphen-back b h = sym (eqb-true hyphen b h)
+
+yearly-back : (text : List ℕ) → fits yearlyForm text ≡ true → yearlyText (yearlyIn text) ≡ text
+unfolding yearlyIn yearlyText
+yearly-back text h =
+    let m = cut _ _ text h in
+    let n = cut _ _ (m .rest) (m .after) in
+    let line = cut _ _ (n .rest) (n .after) in
+    let d = cut _ _ (line .rest) (line .after) in
+    let e = cut _ _ (d .rest) (d .after) in
+    rw (m .whole, n .whole, line .whole, d .whole, e .whole, ended (e .rest) (e .after), hyphen-back (line .first) (line .here))
+    (rw (two-back (m .first) (n .first) (m .here) (n .here), two-back (d .first) (e .first) (d .here) (e .here)))
+
+date-back : (text : List ℕ) → fits dateForm text ≡ true → dateText (dateIn text) ≡ text
+unfolding dateIn dateText yearlyIn yearlyText
+date-back text h =
+    let a = cut _ _ text h in
+    let b = cut _ _ (a .rest) (a .after) in
+    let c = cut _ _ (b .rest) (b .after) in
+    let d = cut _ _ (c .rest) (c .after) in
+    let line = cut _ _ (d .rest) (d .after) in
+    let year = four-back (a .first) (b .first) (c .first) (d .first) (a .here) (b .here) (c .here) (d .here) in
+    let rest = yearly-back (line .rest) (line .after) in
+    rw (a .whole, b .whole, c .whole, d .whole, line .whole, hyphen-back (line .first) (line .here))
+    (rw year (ap (λ l. a .first ∷ b .first ∷ c .first ∷ d .first ∷ hyphen ∷ l) rest))
+
+never : _≡_ {A = ℕ} 0 1 → ⊥
+never z = omega arith
+
+-- a date that is read exists
+pub date-read-exists : (text : List ℕ) (d : Date) → dateReading text ≡ which-date.Is d → dateExists d ≡ true
+date-read-exists text d h =
+    by-bool (fits dateForm text)
+    (λ form. by-bool (dateExists (dateIn text))
+    (λ there. read there (dateReading-is text form there))
+    (λ none. other (dateReading-none text form none)))
+    (λ form. other (dateReading-form text form))
+  where
+    read : dateExists (dateIn text) ≡ true → dateReading text ≡ which-date.Is (dateIn text) → dateExists d ≡ true
+    read there is =
+        let same : d ≡ dateIn text = cc in
+        ap dateExists same ∙ there
+
+    other : dateReading text ≡ which-date.Refused NoSuchDate 0 → dateExists d ≡ true
+    other refused = absurd (never (cc))
+
+pub date-written-back : (text : List ℕ) (d : Date) → dateReading text ≡ which-date.Is d → dateText d ≡ text
+date-written-back text d h =
+    by-bool (fits dateForm text)
+    (λ form. by-bool (dateExists (dateIn text))
+    (λ there. read form (dateReading-is text form there))
+    (λ none. other (dateReading-none text form none)))
+    (λ form. other (dateReading-form text form))
+  where
+    read : fits dateForm text ≡ true → dateReading text ≡ which-date.Is (dateIn text) → dateText d ≡ text
+    read form is =
+        let same : d ≡ dateIn text = cc in
+        ap dateText same ∙ date-back text form
+
+    other : dateReading text ≡ which-date.Refused NoSuchDate 0 → dateText d ≡ text
+    other refused = absurd (never (cc))
+
+pub yearly-written-back : (text : List ℕ) (t : YearlyDate) → yearlyReading text ≡ which-yearly.Is t → yearlyText t ≡ text
+yearly-written-back text t h =
+    by-bool (fits yearlyForm text)
+    (λ form. by-bool (inNoYear (yearlyIn text))
+    (λ none. other (yearlyReading-none text form none))
+    (λ there. read form (yearlyReading-is text form there)))
+    (λ form. other (yearlyReading-form text form))
+  where
+    read : fits yearlyForm text ≡ true → yearlyReading text ≡ which-yearly.Is (yearlyIn text) → yearlyText t ≡ text
+    read form is =
+        let same : t ≡ yearlyIn text = cc in
+        ap yearlyText same ∙ yearly-back text form
+
+    other : yearlyReading text ≡ which-yearly.Refused NoSuchDate 0 → yearlyText t ≡ text
+    other refused = absurd (never (cc))

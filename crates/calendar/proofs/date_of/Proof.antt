@@ -1,0 +1,36 @@
+-- `calendar::date_of` meets its contract: the day lies in its year and in its month.
+use Prim.Native.Nat.{_+_}
+use native.Mathlib.Omega.{arith}
+use borrow.Author.Needs.{needs}
+use Rattle.calendar.proofs.Places.{februaryOf-most, februaryOf-year, placed-date}
+use Rattle.calendar.proofs.date_of.Statement.{statement}
+use Rattle.calendar.proofs.date_of.Tie as tie
+
+in-year-requires : tie.Need-in-year-requires
+in-year-requires c κs = search needs
+
+add-year : tie.Need-add-year
+add-year c = search needs
+
+february-requires : tie.Need-february-requires
+february-requires c κs = search needs
+
+in-month-requires : tie.Need-in-month-requires
+in-month-requires c κs =
+    let found = c .before .before .before in
+    let y = 2000 + found .in-year .result .whole in
+    let is = c .february .ensures in
+    (omega (arith, februaryOf-most y), omega (arith, found .in-year .ensures .within, februaryOf-year y))
+
+add-t6 : tie.Need-add-t6
+add-t6 c = search needs
+
+returns : tie.Need-returns
+returns c =
+    let month = c .before in
+    let february = month .before in
+    let found = february .before .before .before in
+    placed-date _ _ _ _ _ (found .in-year .ensures) (rw (february .february .ensures) at (month .in-month .ensures))
+
+pub date-of-spec : {M : Type 1} → statement M
+date-of-spec = tie.close (tie.spec in-year-requires add-year february-requires in-month-requires add-t6 returns)

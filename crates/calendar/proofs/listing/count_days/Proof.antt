@@ -1,0 +1,88 @@
+-- `calendar::listing::count_days` meets its contract: what is found so far and what is left make the whole.
+use Prim.Native.Nat.{_+_, _-_, _≤_}
+use mathlib.Core.Path.{_≡_, ap, _∙_}
+use mathlib.Core.List.{[], _∷_}
+use native.Mathlib.Omega.{arith}
+use lib.ListN.{length, length-append}
+use Rattle.calendar.specs.Yearly.{daysIn, yearlyDays}
+use Rattle.calendar.proofs.YearByYear.{daysIn-few, leftFrom, left-start, left-next, left-end}
+use Rattle.calendar.proofs.listing.count_days.Statement.{statement}
+use Rattle.calendar.proofs.listing.count_days.Tie as tie
+
+abbrev Inv-loop : tie.InvT-loop
+Inv-loop on first last end k₀ found₀ k found =
+    (k ≤ 400) × (found + length (leftFrom on first last k) ≡ length (yearlyDays on first last))
+
+abbrev μ-loop : tie.MeasureT-loop
+μ-loop on first last end k₀ found₀ k found = end + 1 - k
+
+in-year-requires : tie.Need-in-year-requires Inv-loop μ-loop
+in-year-requires c κs = c .pre .1
+
+in-year-requires-2 : tie.Need-in-year-requires-2 Inv-loop μ-loop
+in-year-requires-2 c κs = c .before .pre .0
+
+loop-holds : tie.Need-loop-holds Inv-loop μ-loop
+loop-holds c =
+    let g = c .before .before .args in
+    let year = c .in-year2 .ensures in
+    (omega (arith, year .last), omega (arith, ap length (left-start (g .on) (g .first) (g .last) _ _ year)))
+
+fall-in-requires : tie.Need-fall-in-requires Inv-loop μ-loop
+fall-in-requires c κs = omega (arith, c .before .before .before .in-year .ensures .last)
+
+one-requires : tie.Need-one-requires Inv-loop μ-loop
+one-requires c κs = tt
+
+-- one year more
+counted : (c : tie.After-one Inv-loop μ-loop) → let at = c .before .before .before in let g = at .before .before .before .args in
+    at .loop .found + c .one .result + length (leftFrom (g .on) (g .first) (g .last) (at .loop .k + 1))
+    ≡ length (yearlyDays (g .on) (g .first) (g .last))
+counted c =
+    let fall = c .before in
+    let at = fall .before .before in
+    let g = at .before .before .before .args in
+    let k = at .loop .k in
+    let last = at .before .before .in-year .ensures .last in
+    let here = c .one .ensures ∙ ap length (fall .fall-in .ensures) in
+    let next = left-next (g .on) (g .first) (g .last) k (omega arith) in
+    let parts = length-append (daysIn (g .on) (g .first) (g .last) ((2000 + k) ∷ [])) (leftFrom (g .on) (g .first) (g .last) (k + 1)) in
+    omega (arith, at .loop .inv .1, ap length next)
+
+add-found : tie.Need-add-found Inv-loop μ-loop
+add-found c =
+    let g = c .before .before .before .before .before .before .args in
+    omega (arith, counted c, daysIn-few (g .on) (g .first) (g .last) 2000 400)
+
+add-k : tie.Need-add-k Inv-loop μ-loop
+add-k c = omega arith
+
+loop-less : tie.Need-loop-less Inv-loop μ-loop
+loop-less c = omega arith
+
+loop-again : tie.Need-loop-again Inv-loop μ-loop
+loop-again c = (omega (arith, c .before .before .before .before .before .in-year .ensures .last), counted c)
+
+returns : tie.Need-returns Inv-loop μ-loop
+returns c =
+    let at = c .before in
+    let g = at .before .before .before .args in
+    let none = left-end (g .on) (g .first) (g .last) _ _ (at .loop .k) (at .before .before .in-year .ensures) (c .loop-test .left) in
+    omega (arith, at .loop .inv .1, ap length none)
+
+pub count-days-spec : {M : Type 1} → statement M
+count-days-spec =
+    tie.close
+    (tie.spec
+    Inv-loop
+    μ-loop
+    in-year-requires
+    in-year-requires-2
+    loop-holds
+    fall-in-requires
+    one-requires
+    add-found
+    add-k
+    loop-less
+    loop-again
+    returns)

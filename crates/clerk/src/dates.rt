@@ -1,0 +1,90 @@
+// `date TEXT`, `day NUMBER`, `yearly MM-DD FIRST LAST`: what the calendar answers, a line for each day.
+use super::commands::word;
+use super::commands::word_count;
+use super::say;
+use calendar::Listed;
+use calendar::WhichDate;
+use calendar::WhichDay;
+use calendar::WhichYearly;
+use calendar::YearlyDate;
+use calendar::date_read;
+use calendar::day_read;
+use calendar::yearly;
+use calendar::yearly_read;
+use days::Day;
+
+pub(crate) fn date(command: &[u8]) {
+    if word_count(command) != 2 {
+        say::complain(b"date YYYY-MM-DD");
+        return;
+    }
+    say::answer_page(lines::date_line(word(command, 1)));
+}
+
+pub(crate) fn day(command: &[u8]) {
+    if word_count(command) != 2 {
+        say::complain(b"day NUMBER");
+        return;
+    }
+    let asked = day_read(word(command, 1));
+    match asked {
+        WhichDay::Is(day) => say::answer_page(lines::day_line(day)),
+        WhichDay::Refused { fault, at } => say::refused(fault, at),
+    }
+}
+
+pub(crate) fn yearly_days(command: &[u8]) {
+    if word_count(command) != 4 {
+        say::complain(b"yearly MM-DD FIRST LAST");
+        return;
+    }
+    let on = yearly_read(word(command, 1));
+    match on {
+        WhichYearly::Is(on) => from_first(on, word(command, 2), word(command, 3)),
+        WhichYearly::Refused { fault, at } => say::refused(fault, at),
+    }
+}
+
+// The day of a date's text.
+fn day_of(text: &[u8]) -> WhichDay {
+    let date = date_read(text);
+    match date {
+        WhichDate::Is(date) => date.day_number(),
+        WhichDate::Refused { fault, at } => WhichDay::Refused { fault, at },
+    }
+}
+
+fn from_first(on: YearlyDate, first: &[u8], last: &[u8]) {
+    let from = day_of(first);
+    match from {
+        WhichDay::Is(from) => to_last(on, from, last),
+        WhichDay::Refused { fault, at } => say::refused(fault, at),
+    }
+}
+
+// The calendar has 400 years, so that many places are enough.
+fn to_last(on: YearlyDate, first: Day, last: &[u8]) {
+    let to = day_of(last);
+    match to {
+        WhichDay::Is(to) => {
+            let mut list = [0u32; 400];
+            let listed = yearly(on, first, to, &mut list);
+            match listed {
+                Listed::Days(count) => write_days(list, count),
+                Listed::Refused { fault, at } => say::refused(fault, at),
+            }
+        }
+        WhichDay::Refused { fault, at } => say::refused(fault, at),
+    }
+}
+
+fn write_days(list: [u32; 400], count: usize) {
+    let mut i: usize = 0;
+    while i < 400 {
+        if i < count {
+            let day = Day(list[i]);
+            say::answer_page(lines::day_line(day));
+        }
+        i += 1;
+    }
+}

@@ -1,0 +1,56 @@
+-- What is a member of a list made by `keep`, `map` and `upFrom`.
+use Prim.Native.Nat.{ℕ, zero, suc, _+_, _≤_, _<_}
+use mathlib.Core.Path.{_≡_, refl, sym, ap, _∙_}
+use mathlib.Core.Logic.{inl, inr}
+use mathlib.Core.Bool.{Bool, true, false}
+use mathlib.Core.List.{List, [], _∷_, map}
+use native.Mathlib.Omega.{arith}
+use native.Mathlib.Decide.{ℕ-discrete}
+use Rattle.lists.specs.Count.{upFrom, keep, Member}
+use Rattle.lists.proofs.Lists.{by-bool}
+
+module _ {A : Type 0} (f : A → Bool) (x : A) where
+  pub keep-member : (xs : List A) → Member x xs → f x ≡ true → Member x (keep f xs)
+  unfolding keep
+  keep-member [] m h = absurd m
+  keep-member (y ∷ ys) (inl e) h = rw (ap f (sym e) ∙ h) (inl e)
+  keep-member (y ∷ ys) (inr m) h =
+      let rest = keep-member ys m h in
+      by-bool (f y) (λ t. rw t (inr rest)) (λ t. rw t rest)
+
+  pub member-keep : (xs : List A) → Member x (keep f xs) → Member x xs × (f x ≡ true)
+  unfolding keep
+  member-keep [] m = absurd m
+  member-keep (y ∷ ys) m = by-bool (f y) (λ t. kept t (rw t at m) (member-keep ys)) (λ t. later (member-keep ys (rw t at m)))
+    where
+      later : Member x ys × (f x ≡ true) → Member x (y ∷ ys) × (f x ≡ true)
+      later both = (inr (both .0), both .1)
+
+      kept : f y ≡ true → Member x (y ∷ keep f ys) → (Member x (keep f ys) → Member x ys × (f x ≡ true)) → Member x (y ∷ ys) × (f x ≡ true)
+      kept t (inl e) rest = (inl e, ap f e ∙ t)
+      kept t (inr n) rest = later (rest n)
+
+-- where none passes, none is kept
+pub keep-none {ℓ} : {A : Type ℓ} (f : A → Bool) → ((y : A) → f y ≡ false) → (xs : List A) → keep f xs ≡ []
+unfolding keep
+keep-none f none [] = refl
+keep-none f none (y ∷ ys) = rw (none y) (keep-none f none ys)
+
+module _ {A B : Type 0} (f : A → B) where
+  pub map-member : (x : A) (xs : List A) → Member x xs → Member (f x) (map f xs)
+  map-member x [] m = absurd m
+  map-member x (y ∷ ys) (inl e) = inl (ap f e)
+  map-member x (y ∷ ys) (inr m) = inr (map-member x ys m)
+
+  pub member-map : (z : B) (xs : List A) → Member z (map f xs) → (x : A) × (Member x xs) × (z ≡ f x)
+  member-map z [] m = absurd m
+  member-map z (y ∷ ys) (inl e) = (y, inl refl, e)
+  member-map z (y ∷ ys) (inr m) =
+      let rest = member-map z ys m in
+      (rest .0, inr (rest .1), rest .2)
+
+pub upFrom-member : (i k n : ℕ) → k ≤ i → i < k + n → Member i (upFrom k n)
+unfolding upFrom
+upFrom-member i k zero low high = absurd (omega arith)
+upFrom-member i k (suc n) low high =
+    elim (ℕ-discrete i k) [ yes same ↦ inl same | no other ↦ inr (upFrom-member i (suc k) n (omega arith) (omega arith)) ]
