@@ -161,21 +161,60 @@ fn dates() -> Cases {
         ("2001-01-01", says("date 2001-01-01", "366 Mon\n")),
         ("2001-02-29", says("date 2001-02-29", "refused 10 line 0\n")),
         (
-            "29 February to 2012",
+            "29 February to 2012, edition 1",
             says(
-                "yearly 02-29 2000-01-01 2012-12-31",
+                "yearly 02-29 1 2000-01-01 2012-12-31",
                 "2000-02-29 Tue\n2004-02-29 Sun\n2008-02-29 Fri\n2012-02-29 Wed\n",
             ),
         ),
         (
             "first after last",
-            says("yearly 02-29 2012-12-31 2000-01-01", ""),
+            says("yearly 02-29 2 2012-12-31 2000-01-01", ""),
         ),
         (
             "02-30",
-            says("yearly 02-30 2000-01-01 2012-12-31", "refused 10 line 0\n"),
+            says(
+                "yearly 02-30 1 2000-01-01 2012-12-31",
+                "refused 10 line 0\n",
+            ),
+        ),
+        (
+            "29 February to 2004, edition 2",
+            says(
+                "yearly 02-29 2 2000-01-01 2004-12-31",
+                "2000-02-29 Tue\n2001-02-28 Wed\n2002-02-28 Thu\n2003-02-28 Fri\n2004-02-29 Sun\n",
+            ),
+        ),
+        (
+            "edition 3, before 10",
+            says(
+                "yearly 02-30 3 2000-01-01 2012-12-31",
+                "refused 11 line 0\n",
+            ),
+        ),
+        (
+            "gaps of 29 February, edition 1",
+            gaps(&calendar, "02-29", "1") == [1461, 2921],
+        ),
+        (
+            "gaps of 29 February, edition 2",
+            gaps(&calendar, "02-29", "2") == [365, 366],
+        ),
+        (
+            "gaps of 30 June, edition 2",
+            gaps(&calendar, "06-30", "2") == [365, 366],
         ),
     ]
+}
+
+/// The gaps in days between successive days of a yearly test, each once, the smallest first.
+fn gaps(calendar: &Calendar, on: &str, edition: &str) -> Vec<usize> {
+    let days = (0..calendar.sheets.len()).filter(|day| calendar.falls(on, edition, *day));
+    let days: Vec<usize> = days.collect();
+    let mut gaps: Vec<usize> = days.windows(2).map(|pair| pair[1] - pair[0]).collect();
+    gaps.sort();
+    gaps.dedup();
+    gaps
 }
 
 fn refused<T>(number: usize, line: usize) -> Result<T, Refusal> {

@@ -9,11 +9,11 @@ use native.Mathlib.Decide.{decLe}
 use lib.Dec.{ltb}
 use lib.ListN.{length, drop}
 use borrow.Author.Tests.{le-leb, lt-leb, lt-ltb, le-ltb}
-use Rattle.lists.proofs.Lists.{by-bool}
+use Rattle.lists.proofs.Lists.{by-bool, true-not-false}
 use Rattle.days.specs.declared.Day.{Day}
 use Rattle.days.specs.Days.{day}
 use Rattle.faults.specs.declared.Fault.{Fault}
-use Rattle.faults.specs.declared.Fault.the-variants.{NoRoom, NoSuchDate}
+use Rattle.faults.specs.declared.Fault.the-variants.{NoRoom, NoSuchDate, NoSuchEdition}
 use Rattle.calendar.specs.declared.Date.{Date}
 use Rattle.calendar.specs.declared.WhichDate.the-variants as which-date
 use Rattle.calendar.specs.declared.WhichDay.the-variants as which-day
@@ -23,9 +23,10 @@ use Rattle.calendar.specs.declared.Listed.the-variants as listed
 use Rattle.calendar.specs.Dates.{dateExists}
 use Rattle.calendar.specs.Numbers.{dayNumber, dateOf, lastDay}
 use Rattle.calendar.specs.Weekdays.{weekdayOf}
-use Rattle.calendar.specs.Yearly.{inNoYear, yearlyDays}
+use Rattle.calendar.specs.Yearly.{noEdition, onLeapDay, inNoYear, yearlyDays}
 use Rattle.calendar.specs.Refusals.{dateAnswer, dayAnswer, weekdayAnswer, yearlyCheck, listedIf, storedIf, yearlyAnswer, yearlyListed}
 use Rattle.calendar.proofs.BothWays.{dateOf-exists, dayNumber-dateOf, dayNumber-in-range, dateOf-dayNumber}
+use Rattle.calendar.proofs.Editions.{editions-agree}
 
 pub dateAnswer-is : (k : ℕ) → k ≤ lastDay → dateAnswer k ≡ which-date.Is (dateOf k)
 unfolding dateAnswer
@@ -101,96 +102,158 @@ weekdayAnswer-refused d h = rw h
 
 -- ---- The yearly list
 
-module _ (t : YearlyDate) (a e : ℕ) (list : List ℕ) where
+module _ (ed : ℕ) (t : YearlyDate) (a e : ℕ) (list : List ℕ) where
   abbrev pub noSuch : Bool
   noSuch = inNoYear t || ltb lastDay a || ltb lastDay e
 
-  pub yearly-no-such : noSuch ≡ true → (yearlyAnswer t a e (length list) ≡ listed.Refused NoSuchDate 0) × (yearlyListed t a e list ≡ list)
+  pub yearly-no-edition : noEdition ed ≡ true
+      → (yearlyAnswer ed t a e (length list) ≡ listed.Refused NoSuchEdition 0) × (yearlyListed ed t a e list ≡ list)
   unfolding yearlyCheck listedIf storedIf yearlyAnswer yearlyListed
-  yearly-no-such bad = (rw bad, rw bad)
+  yearly-no-edition other = (rw other, rw other)
 
-  pub yearly-no-room : noSuch ≡ false → length list < length (yearlyDays t a e)
-      → (yearlyAnswer t a e (length list) ≡ listed.Refused NoRoom 0) × (yearlyListed t a e list ≡ list)
+  pub yearly-no-such : noEdition ed ≡ false → noSuch ≡ true
+      → (yearlyAnswer ed t a e (length list) ≡ listed.Refused NoSuchDate 0) × (yearlyListed ed t a e list ≡ list)
   unfolding yearlyCheck listedIf storedIf yearlyAnswer yearlyListed
-  yearly-no-room good short =
-      let over = lt-ltb (length list) (length (yearlyDays t a e)) short in
-      (rw (good, over), rw (good, over))
+  yearly-no-such known bad = (rw (known, bad), rw (known, bad))
 
-  pub yearly-listed : noSuch ≡ false → length (yearlyDays t a e) ≤ length list
-      → (yearlyAnswer t a e (length list) ≡ listed.Days (length (yearlyDays t a e)))
-      × (yearlyListed t a e list ≡ yearlyDays t a e ++ drop (length (yearlyDays t a e)) list)
+  pub yearly-no-room : noEdition ed ≡ false → noSuch ≡ false → length list < length (yearlyDays ed t a e)
+      → (yearlyAnswer ed t a e (length list) ≡ listed.Refused NoRoom 0) × (yearlyListed ed t a e list ≡ list)
   unfolding yearlyCheck listedIf storedIf yearlyAnswer yearlyListed
-  yearly-listed good room =
-      let fits = le-ltb (length list) (length (yearlyDays t a e)) room in
-      (rw (good, fits), rw (good, fits))
+  yearly-no-room known good short =
+      let over = lt-ltb (length list) (length (yearlyDays ed t a e)) short in
+      (rw (known, good, over), rw (known, good, over))
 
-  -- the three ways to answer
+  pub yearly-listed : noEdition ed ≡ false → noSuch ≡ false → length (yearlyDays ed t a e) ≤ length list
+      → (yearlyAnswer ed t a e (length list) ≡ listed.Days (length (yearlyDays ed t a e)))
+      × (yearlyListed ed t a e list ≡ yearlyDays ed t a e ++ drop (length (yearlyDays ed t a e)) list)
+  unfolding yearlyCheck listedIf storedIf yearlyAnswer yearlyListed
+  yearly-listed known good room =
+      let fits = le-ltb (length list) (length (yearlyDays ed t a e)) room in
+      (rw (known, good, fits), rw (known, good, fits))
+
+  -- the four ways to answer
   pub data Outcome : Type 0 where
-    ten : noSuch ≡ true → Outcome
-    nine : noSuch ≡ false → length list < length (yearlyDays t a e) → Outcome
-    all : noSuch ≡ false → length (yearlyDays t a e) ≤ length list → Outcome
+    eleven : noEdition ed ≡ true → Outcome
+    ten : noEdition ed ≡ false → noSuch ≡ true → Outcome
+    nine : noEdition ed ≡ false → noSuch ≡ false → length list < length (yearlyDays ed t a e) → Outcome
+    all : noEdition ed ≡ false → noSuch ≡ false → length (yearlyDays ed t a e) ≤ length list → Outcome
 
   pub outcome : Outcome
   outcome =
-      by-bool noSuch (λ bad. ten bad)
-      (λ good. elim (decLe (length (yearlyDays t a e)) (length list)) [ yes room ↦ all good room | no few ↦ nine good (omega arith) ])
+      by-bool (noEdition ed) (λ other. eleven other)
+      (λ known. by-bool noSuch (λ bad. ten known bad)
+      (λ good. elim (decLe (length (yearlyDays ed t a e)) (length list)) [
+        | yes room ↦ all known good room
+        | no few ↦ nine known good (omega arith)
+      ]))
 
   -- what is listed stands at the front, and the list's later places stay
-  pub listed-front : (n : ℕ) → yearlyAnswer t a e (length list) ≡ listed.Days n
-      → (n ≡ length (yearlyDays t a e)) × (yearlyListed t a e list ≡ yearlyDays t a e ++ drop n list)
+  pub listed-front : (n : ℕ) → yearlyAnswer ed t a e (length list) ≡ listed.Days n
+      → (n ≡ length (yearlyDays ed t a e)) × (yearlyListed ed t a e list ≡ yearlyDays ed t a e ++ drop n list)
   listed-front n h = by outcome
     where
-      front : noSuch ≡ false → length (yearlyDays t a e) ≤ length list → n ≡ length (yearlyDays t a e)
-          → (n ≡ length (yearlyDays t a e)) × (yearlyListed t a e list ≡ yearlyDays t a e ++ drop n list)
-      front good room count = (count, yearly-listed good room .1 ∙ ap (λ m. yearlyDays t a e ++ drop m list) (sym count))
+      front : noEdition ed ≡ false → noSuch ≡ false → length (yearlyDays ed t a e) ≤ length list → n ≡ length (yearlyDays ed t a e)
+          → (n ≡ length (yearlyDays ed t a e)) × (yearlyListed ed t a e list ≡ yearlyDays ed t a e ++ drop n list)
+      front known good room count =
+          (count, yearly-listed known good room .1 ∙ ap (λ m. yearlyDays ed t a e ++ drop m list) (sym count))
 
-      by : Outcome → (n ≡ length (yearlyDays t a e)) × (yearlyListed t a e list ≡ yearlyDays t a e ++ drop n list)
-      by (ten bad) =
-          let is = yearly-no-such bad .0 in
+      by : Outcome → (n ≡ length (yearlyDays ed t a e)) × (yearlyListed ed t a e list ≡ yearlyDays ed t a e ++ drop n list)
+      by (eleven other) =
+          let is = yearly-no-edition other .0 in
           absurd (never (cc))
-      by (nine good few) =
-          let is = yearly-no-room good few .0 in
+      by (ten known bad) =
+          let is = yearly-no-such known bad .0 in
           absurd (never (cc))
-      by (all good room) =
-          let is = yearly-listed good room .0 in
-          let count : n ≡ length (yearlyDays t a e) = cc in
-          front good room count
+      by (nine known good few) =
+          let is = yearly-no-room known good few .0 in
+          absurd (never (cc))
+      by (all known good room) =
+          let is = yearly-listed known good room .0 in
+          let count : n ≡ length (yearlyDays ed t a e) = cc in
+          front known good room count
+
+  -- a test whose days are listed has a month and day that exist in some year
+  pub listed-exists : (n : ℕ) → yearlyAnswer ed t a e (length list) ≡ listed.Days n → inNoYear t ≡ false
+  listed-exists n h = by-bool (inNoYear t) (λ none. absurd (by none outcome)) (λ some. some)
+    where
+      by : inNoYear t ≡ true → Outcome → ⊥
+      by none (eleven other) =
+          let is = yearly-no-edition other .0 in
+          never (cc)
+      by none (ten known bad) =
+          let is = yearly-no-such known bad .0 in
+          never (cc)
+      by none (nine known good few) =
+          let is = yearly-no-room known good few .0 in
+          never (cc)
+      by none (all known good room) = true-not-false (sym (rw none) ∙ good)
 
   -- on a refusal nothing is written
-  pub refused-kept : (f : Fault) (at : ℕ) → yearlyAnswer t a e (length list) ≡ listed.Refused f at → yearlyListed t a e list ≡ list
+  pub refused-kept : (f : Fault) (at : ℕ) → yearlyAnswer ed t a e (length list) ≡ listed.Refused f at → yearlyListed ed t a e list ≡ list
   refused-kept f at h = by outcome
     where
-      by : Outcome → yearlyListed t a e list ≡ list
-      by (ten bad) = yearly-no-such bad .1
-      by (nine good few) = yearly-no-room good few .1
-      by (all good room) =
-          let is = yearly-listed good room .0 in
+      by : Outcome → yearlyListed ed t a e list ≡ list
+      by (eleven other) = yearly-no-edition other .1
+      by (ten known bad) = yearly-no-such known bad .1
+      by (nine known good few) = yearly-no-room known good few .1
+      by (all known good room) =
+          let is = yearly-listed known good room .0 in
           absurd (never (cc))
 
-  -- 10 exactly where something is no date or outside the range, whatever the room
-  pub ten-exactly : (yearlyAnswer t a e (length list) ≡ listed.Refused NoSuchDate 0) ↔ (noSuch ≡ true)
-  ten-exactly = (λ h. by h outcome, λ bad. yearly-no-such bad .0)
+  -- 11 exactly where the edition is neither 1 nor 2, whatever the dates
+  pub eleven-exactly : (yearlyAnswer ed t a e (length list) ≡ listed.Refused NoSuchEdition 0) ↔ (noEdition ed ≡ true)
+  eleven-exactly = (λ h. by h outcome, λ other. yearly-no-edition other .0)
     where
-      by : yearlyAnswer t a e (length list) ≡ listed.Refused NoSuchDate 0 → Outcome → noSuch ≡ true
-      by h (ten bad) = bad
-      by h (nine good few) =
-          let is = yearly-no-room good few .0 in
+      by : yearlyAnswer ed t a e (length list) ≡ listed.Refused NoSuchEdition 0 → Outcome → noEdition ed ≡ true
+      by h (eleven other) = other
+      by h (ten known bad) =
+          let is = yearly-no-such known bad .0 in
           absurd (never (cc))
-      by h (all good room) =
-          let is = yearly-listed good room .0 in
+      by h (nine known good few) =
+          let is = yearly-no-room known good few .0 in
+          absurd (never (cc))
+      by h (all known good room) =
+          let is = yearly-listed known good room .0 in
+          absurd (never (cc))
+
+  -- then 10 exactly where something is no date or outside the range, whatever the room
+  pub ten-exactly : (yearlyAnswer ed t a e (length list) ≡ listed.Refused NoSuchDate 0) ↔ ((noEdition ed ≡ false) × (noSuch ≡ true))
+  ten-exactly = (λ h. by h outcome, λ p. yearly-no-such (p .0) (p .1) .0)
+    where
+      by : yearlyAnswer ed t a e (length list) ≡ listed.Refused NoSuchDate 0 → Outcome → (noEdition ed ≡ false) × (noSuch ≡ true)
+      by h (eleven other) =
+          let is = yearly-no-edition other .0 in
+          absurd (never (cc))
+      by h (ten known bad) = (known, bad)
+      by h (nine known good few) =
+          let is = yearly-no-room known good few .0 in
+          absurd (never (cc))
+      by h (all known good room) =
+          let is = yearly-listed known good room .0 in
           absurd (never (cc))
 
   -- then 9 exactly where the days do not fit
-  pub nine-exactly : (yearlyAnswer t a e (length list) ≡ listed.Refused NoRoom 0)
-      ↔ ((noSuch ≡ false) × (length list < length (yearlyDays t a e)))
-  nine-exactly = (λ h. by h outcome, λ p. yearly-no-room (p .0) (p .1) .0)
+  pub nine-exactly : (yearlyAnswer ed t a e (length list) ≡ listed.Refused NoRoom 0)
+      ↔ ((noEdition ed ≡ false) × (noSuch ≡ false) × (length list < length (yearlyDays ed t a e)))
+  nine-exactly = (λ h. by h outcome, λ p. yearly-no-room (p .0) (p .1) (p .2) .0)
     where
-      by : yearlyAnswer t a e (length list) ≡ listed.Refused NoRoom 0 → Outcome
-          → (noSuch ≡ false) × (length list < length (yearlyDays t a e))
-      by h (ten bad) =
-          let is = yearly-no-such bad .0 in
+      by : yearlyAnswer ed t a e (length list) ≡ listed.Refused NoRoom 0 → Outcome
+          → (noEdition ed ≡ false) × (noSuch ≡ false) × (length list < length (yearlyDays ed t a e))
+      by h (eleven other) =
+          let is = yearly-no-edition other .0 in
           absurd (never (cc))
-      by h (nine good few) = (good, few)
-      by h (all good room) =
-          let is = yearly-listed good room .0 in
+      by h (ten known bad) =
+          let is = yearly-no-such known bad .0 in
           absurd (never (cc))
+      by h (nine known good few) = (known, good, few)
+      by h (all known good room) =
+          let is = yearly-listed known good room .0 in
+          absurd (never (cc))
+
+-- of every date but 29 February the editions answer and list the same
+pub answers-agree : (t : YearlyDate) → onLeapDay t ≡ false → (a e : ℕ) (list : List ℕ)
+    → (yearlyAnswer 1 t a e (length list) ≡ yearlyAnswer 2 t a e (length list)) × (yearlyListed 1 t a e list ≡ yearlyListed 2 t a e list)
+unfolding yearlyCheck listedIf storedIf yearlyAnswer yearlyListed
+answers-agree t other a e list =
+    let same = editions-agree t other a e in
+    (rw same, rw same)

@@ -1,6 +1,7 @@
 -- Laws of the calendar. Years, Months, Weekdays: of the definitions. Existing, Order, BothWays: dates and day numbers agree.
--- Cycle: the calendar repeats. SomeYear, YearByYear, YearlyDays: yearly tests. Formula, Places: years and months by arithmetic.
--- Answers, Texts, Decimals: which case of an answer holds. RoundTrip: a date's text, there and back. Worked: the page's dates, one table.
+-- Cycle: the calendar repeats. SomeYear, Editions, YearByYear, YearlyDays, Gaps: yearly tests. Formula, Places: years and months by
+-- arithmetic. Answers, Texts, Decimals: which case of an answer holds. RoundTrip: a date's text, there and back.
+-- Worked: the page's dates, one table.
 pub mod Years
 pub mod Months
 pub mod Weekdays
@@ -11,8 +12,10 @@ pub mod BothWays
 pub mod Places
 pub mod Cycle
 pub mod SomeYear
+pub mod Editions
 pub mod YearByYear
 pub mod YearlyDays
+pub mod Gaps
 pub mod Answers
 pub mod Texts
 pub mod Decimals

@@ -14,7 +14,7 @@ use Rattle.calendar.specs.declared.YearlyDate.{YearlyDate}
 use Rattle.calendar.specs.declared.WhichDate.the-variants as which-date
 use Rattle.calendar.specs.declared.WhichYearly.the-variants as which-yearly
 use Rattle.calendar.specs.Dates.{dateExists}
-use Rattle.calendar.specs.Yearly.{inYear, inNoYear}
+use Rattle.calendar.specs.Yearly.{setOn, inNoYear}
 use Rattle.calendar.specs.Texts.{hyphen, digits, number, numberAfter, fitsAt, fits, dateForm, yearlyForm, dateText, yearlyText}
 use Rattle.calendar.specs.Texts.{dateIn, yearlyIn, dateReading, yearlyReading}
 use Rattle.calendar.proofs.Months.{monthLength-bounds}
@@ -100,7 +100,7 @@ yearlyText-fits t = rw (figure (t .month / 10), figure (t .month), figure (t .da
 -- a month and day that exist in some year have two digits each
 yearly-short : (t : YearlyDate) → inNoYear t ≡ false → (t .month < 100) × (t .day < 100)
 yearly-short t h =
-    let x = existing (inYear t 2000) (sym (inNoYear-2000 t) ∙ ap not h) in
+    let x = existing (setOn t 2000) (sym (inNoYear-2000 t) ∙ ap not h) in
     let month = x .december in
     (omega arith, omega (arith, x .last, monthLength-bounds 2000 (t .month) (x .january) (x .december)))
 

@@ -13,7 +13,7 @@ use Rattle.lists.proofs.Order.{keep-yes, upFrom-cons}
 use Rattle.calendar.specs.declared.YearlyDate.{YearlyDate}
 use Rattle.calendar.specs.Years.{leapYear, monthLengths, monthLength}
 use Rattle.calendar.specs.Dates.{dateExists}
-use Rattle.calendar.specs.Yearly.{years, inYear, datesIn, inNoYear}
+use Rattle.calendar.specs.Yearly.{years, setOn, inNoYear}
 use Rattle.calendar.proofs.Formula.{month-longest}
 use Rattle.calendar.proofs.Existing.{existing, exists}
 use Rattle.calendar.proofs.Places.{februaryOf, februaryOf-most}
@@ -23,10 +23,10 @@ unfolding monthLength monthLengths leapYear
 monthLength-2000 y m low high = month-longest (februaryOf y) m (februaryOf-most y) low high
 
 module _ (t : YearlyDate) where
-  pub some-2000 : (y : ℕ) → dateExists (inYear t y) ≡ true → dateExists (inYear t 2000) ≡ true
+  pub some-2000 : (y : ℕ) → dateExists (setOn t y) ≡ true → dateExists (setOn t 2000) ≡ true
   some-2000 y h =
-      let x = existing (inYear t y) h in
-      exists (inYear t 2000)
+      let x = existing (setOn t y) h in
+      exists (setOn t 2000)
       (record {
         from-2000 = omega arith;
         to-2399 = omega arith;
@@ -36,24 +36,24 @@ module _ (t : YearlyDate) where
         last = omega (arith, x .last, monthLength-2000 y (t .month) (x .january) (x .december));
       })
 
-  none-anywhere : dateExists (inYear t 2000) ≡ false → (ys : List ℕ) → datesIn t ys ≡ []
-  unfolding datesIn keep
+  pub none-anywhere : dateExists (setOn t 2000) ≡ false → (ys : List ℕ) → keep dateExists (map (setOn t) ys) ≡ []
+  unfolding keep
   none-anywhere none [] = refl
   none-anywhere none (y ∷ ys) =
-      by-bool (dateExists (inYear t y))
+      by-bool (dateExists (setOn t y))
       (λ h. absurd (true-not-false (sym (some-2000 y h) ∙ none)))
       (λ h. rw h (none-anywhere none ys))
 
-  in-2000 : (ys : List ℕ) → dateExists (inYear t 2000) ≡ true → eqb (length (datesIn t (2000 ∷ ys))) 0 ≡ false
-  unfolding datesIn
+  in-2000 : (ys : List ℕ) → dateExists (setOn t 2000) ≡ true → eqb (length (keep dateExists (map (setOn t) (2000 ∷ ys)))) 0 ≡ false
   in-2000 ys h =
-      let rest = keep dateExists (map (inYear t) ys) in
-      ap (λ ds. eqb (length ds) 0) (keep-yes dateExists (inYear t 2000) (map (inYear t) ys) h)
-      ∙ ne-eqb (length (inYear t 2000 ∷ rest)) 0 (λ z. omega arith)
+      let rest = keep dateExists (map (setOn t) ys) in
+      ap (λ ds. eqb (length ds) 0) (keep-yes dateExists (setOn t 2000) (map (setOn t) ys) h)
+      ∙ ne-eqb (length (setOn t 2000 ∷ rest)) 0 (λ z. omega arith)
 
-  pub inNoYear-2000 : not (inNoYear t) ≡ dateExists (inYear t 2000)
+  pub inNoYear-2000 : not (inNoYear t) ≡ dateExists (setOn t 2000)
   unfolding inNoYear
   inNoYear-2000 =
-      by-bool (dateExists (inYear t 2000))
-      (λ h. ap (λ ys. not (eqb (length (datesIn t ys)) 0)) (upFrom-cons 2000 399) ∙ ap not (in-2000 (upFrom 2001 399) h) ∙ sym h)
+      by-bool (dateExists (setOn t 2000))
+      (λ h. ap (λ ys. not (eqb (length (keep dateExists (map (setOn t) ys))) 0)) (upFrom-cons 2000 399)
+      ∙ ap not (in-2000 (upFrom 2001 399) h) ∙ sym h)
       (λ h. ap (λ ds. not (eqb (length ds) 0)) (none-anywhere h years) ∙ sym h)

@@ -8,16 +8,17 @@ use native.Mathlib.Numerals.{add-one}
 use lib.ListN.{length, getD, take, drop, replicate, drop-of-length-le}
 use lib.Seq.{drop-cons}
 use Rattle.lists.proofs.Lists.{by-bool, and-right}
-use Rattle.faults.specs.declared.Fault.the-variants.{NoSuchDate}
+use Rattle.faults.specs.declared.Fault.the-variants.{NoSuchDate, NoSuchEdition}
 use Rattle.faults.specs.declared.Checked.the-variants as checked
 use Rattle.calendar.specs.declared.Date.{Date}
 use Rattle.calendar.specs.declared.YearlyDate.{YearlyDate}
 use Rattle.calendar.specs.declared.WhichDate.the-variants as which-date
 use Rattle.calendar.specs.declared.WhichYearly.the-variants as which-yearly
+use Rattle.calendar.specs.declared.WhichEdition.the-variants as which-edition
 use Rattle.calendar.specs.Dates.{date, dateExists}
-use Rattle.calendar.specs.Yearly.{inNoYear}
+use Rattle.calendar.specs.Yearly.{noEdition, inNoYear}
 use Rattle.calendar.specs.Texts.{fitsAt, fits, number, numberAfter, dateForm, yearlyForm, dateIn, yearlyIn, dateReading, yearlyReading}
-use Rattle.calendar.specs.Texts.{dateText, yearlyText, dateWriting, yearlyWriting}
+use Rattle.calendar.specs.Texts.{editionForm, editionReading, dateText, yearlyText, dateWriting, yearlyWriting}
 
 -- ---- Forms
 
@@ -58,6 +59,12 @@ unfolding numberAfter
 number-two text at room =
     rw (add-one at, drop-cons text at 0 (omega arith), drop-cons text (suc at) 0 (omega arith)) (omega arith)
 
+pub number-one : (text : List ℕ) → 1 ≡ length text → number text ≡ getD text 0 0 - 0x30
+unfolding numberAfter
+number-one [] h = absurd (omega arith)
+number-one (b ∷ []) h = omega arith
+number-one (a ∷ b ∷ rest) h = absurd (omega arith)
+
 pub number-four : (text : List ℕ) → 4 ≤ length text
     → number (take 4 text) ≡ 100 * number (take 2 (drop 0 text)) + number (take 2 (drop 2 text))
 unfolding numberAfter
@@ -96,6 +103,20 @@ pub yearlyReading-none : (text : List ℕ) → fits yearlyForm text ≡ true →
     → yearlyReading text ≡ which-yearly.Refused NoSuchDate 0
 unfolding yearlyReading
 yearlyReading-none text form there = rw (form, there)
+
+pub editionReading-is : (text : List ℕ) → fits editionForm text ≡ true → noEdition (number text) ≡ false
+    → editionReading text ≡ which-edition.Is (number text)
+unfolding editionReading
+editionReading-is text form known = rw (form, known)
+
+pub editionReading-form : (text : List ℕ) → fits editionForm text ≡ false → editionReading text ≡ which-edition.Refused NoSuchEdition 0
+unfolding editionReading
+editionReading-form text form = rw form
+
+pub editionReading-none : (text : List ℕ) → fits editionForm text ≡ true → noEdition (number text) ≡ true
+    → editionReading text ≡ which-edition.Refused NoSuchEdition 0
+unfolding editionReading
+editionReading-none text form other = rw (form, other)
 
 -- what the code reads, two digits at a time
 pub dateIn-pairs : (text : List ℕ) (c y m d : ℕ) → 4 ≤ length text → c ≡ number (take 2 (drop 0 text)) → y ≡ number (take 2 (drop 2 text))

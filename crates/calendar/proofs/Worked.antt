@@ -13,19 +13,20 @@ use Rattle.calendar.specs.Years.{leapYear, yearLength, monthsWith, month
 use Rattle.calendar.specs.Dates.{date, dateExists, dateAfter}
 use Rattle.calendar.specs.Numbers.{daysBeforeYear, daysBeforeMonth, dayNumber, dateOf}
 use Rattle.calendar.specs.Weekdays.{weekdayOf}
-use Rattle.calendar.specs.Yearly.{datesIn, inNoYear, daysIn}
+use Rattle.calendar.specs.Yearly.{onLeapDay, inNoYear, movedIn, inYear, datesIn, daysIn}
 use Rattle.calendar.specs.Refusals.{dateAnswer, dayAnswer, weekdayAnswer, yearlyCheck, listedIf, storedIf, yearlyAnswer, yearlyListed}
-use Rattle.calendar.specs.Texts.{digits, numberAfter, fitsAt, fits, dateText, dateIn, yearlyIn, dateReading, yearlyReading, noNumber, dayReading}
-use Rattle.calendar.specs.Said.{Said, refused, on, day, weekday, days, yearly, dateSays, daySays, weekdaySays, yearlySays, listedSays}
+use Rattle.calendar.specs.Texts.{digits, numberAfter, fitsAt, fits, dateText, dateIn, yearlyIn, dateReading, yearlyReading, noNumber, dayReading, editionReading}
+use Rattle.calendar.specs.Said.{Said, refused, on, day, weekday, days, yearly, edition, dateSays, daySays, weekdaySays, yearlySays, editionSays, listedSays}
 
 pub data Question : Type 0 where
   day-of : Date → Question
   date-of : ℕ → Question
   weekday-of : Date → Question
-  list : YearlyDate → ℕ → ℕ → ℕ → Question  -- a test, the first and the last day, the places lent
-  listed : YearlyDate → ℕ → ℕ → List ℕ → Question  -- the same, and what the lent list holds
+  list : ℕ → YearlyDate → ℕ → ℕ → ℕ → Question  -- an edition, a test, the first and the last day, the places lent
+  listed : ℕ → YearlyDate → ℕ → ℕ → List ℕ → Question  -- the same, and what the lent list holds
   read : List ℕ → Question
   read-yearly : List ℕ → Question
+  read-edition : List ℕ → Question
   read-day : List ℕ → Question
   write : Date → Question
 
@@ -41,10 +42,11 @@ unfoldable pub answered : Question → Answer
 answered (day-of d) = says (daySays (dayAnswer d))
 answered (date-of k) = says (dateSays (dateAnswer k))
 answered (weekday-of d) = says (weekdaySays (weekdayAnswer d))
-answered (list t a e room) = says (listedSays (yearlyAnswer t a e room))
-answered (listed t a e places) = holds (yearlyListed t a e places)
+answered (list ed t a e room) = says (listedSays (yearlyAnswer ed t a e room))
+answered (listed ed t a e places) = holds (yearlyListed ed t a e places)
 answered (read bytes) = says (dateSays (dateReading bytes))
 answered (read-yearly bytes) = says (yearlySays (yearlyReading bytes))
+answered (read-edition bytes) = says (editionSays (editionReading bytes))
 answered (read-day bytes) = says (daySays (dayReading bytes))
 answered (write d) = holds (dateText d)
 
@@ -88,18 +90,30 @@ table =
     ∷ row (date-of 366) (says (on 2001 1 1))
     ∷ row (date-of 1520) (says (on 2004 2 29))
     ∷ row (date-of 146097) (says (refused 10 0))
-    -- 29 February from 2000 to 2012, both ends counted, and from 2096 to 2108: none for eight years
-    ∷ row (listed (each 2 29) 0 4748 (7 ∷ 7 ∷ 7 ∷ 7 ∷ 7 ∷ [])) (holds (59 ∷ 1520 ∷ 2981 ∷ 4442 ∷ 7 ∷ []))
-    ∷ row (listed (each 2 29) 59 4442 (7 ∷ 7 ∷ 7 ∷ 7 ∷ 7 ∷ [])) (holds (59 ∷ 1520 ∷ 2981 ∷ 4442 ∷ 7 ∷ []))
-    ∷ row (listed (each 2 29) 60 4441 (7 ∷ 7 ∷ 7 ∷ 7 ∷ 7 ∷ [])) (holds (1520 ∷ 2981 ∷ 7 ∷ 7 ∷ 7 ∷ []))
-    ∷ row (listed (each 2 29) 35064 39812 (7 ∷ 7 ∷ 7 ∷ [])) (holds (35123 ∷ 38044 ∷ 39505 ∷ []))
+    -- edition 1: 29 February from 2000 to 2012, both ends counted, and from 2096 to 2108: none for eight years
+    ∷ row (listed 1 (each 2 29) 0 4748 (7 ∷ 7 ∷ 7 ∷ 7 ∷ 7 ∷ [])) (holds (59 ∷ 1520 ∷ 2981 ∷ 4442 ∷ 7 ∷ []))
+    ∷ row (listed 1 (each 2 29) 59 4442 (7 ∷ 7 ∷ 7 ∷ 7 ∷ 7 ∷ [])) (holds (59 ∷ 1520 ∷ 2981 ∷ 4442 ∷ 7 ∷ []))
+    ∷ row (listed 1 (each 2 29) 60 4441 (7 ∷ 7 ∷ 7 ∷ 7 ∷ 7 ∷ [])) (holds (1520 ∷ 2981 ∷ 7 ∷ 7 ∷ 7 ∷ []))
+    ∷ row (listed 1 (each 2 29) 35064 39812 (7 ∷ 7 ∷ 7 ∷ [])) (holds (35123 ∷ 38044 ∷ 39505 ∷ []))
     -- none if the first day is after the last; 9 where there is no room, and then nothing is written; 10 before 9
-    ∷ row (list (each 2 29) 4442 59 0) (says (days 0))
-    ∷ row (list (each 2 29) 59 4442 3) (says (refused 9 0))
-    ∷ row (listed (each 2 29) 59 4442 (7 ∷ 7 ∷ 7 ∷ [])) (holds (7 ∷ 7 ∷ 7 ∷ []))
-    ∷ row (list (each 2 29) 59 146097 0) (says (refused 10 0))
-    ∷ row (list (each 2 29) 146097 59 0) (says (refused 10 0))
-    ∷ row (list (each 2 30) 0 146096 0) (says (refused 10 0))
+    ∷ row (list 1 (each 2 29) 4442 59 0) (says (days 0))
+    ∷ row (list 1 (each 2 29) 59 4442 3) (says (refused 9 0))
+    ∷ row (listed 1 (each 2 29) 59 4442 (7 ∷ 7 ∷ 7 ∷ [])) (holds (7 ∷ 7 ∷ 7 ∷ []))
+    ∷ row (list 1 (each 2 29) 59 146097 0) (says (refused 10 0))
+    ∷ row (list 1 (each 2 29) 146097 59 0) (says (refused 10 0))
+    ∷ row (list 1 (each 2 30) 0 146096 0) (says (refused 10 0))
+    -- edition 2: 28 February in 2097 to 2103, 29 February in 2096 and 2104; every other date as by edition 1
+    ∷ row (listed 2 (each 2 29) 35064 38350 (7 ∷ 7 ∷ 7 ∷ 7 ∷ 7 ∷ 7 ∷ 7 ∷ 7 ∷ 7 ∷ []))
+    (holds (35123 ∷ 35488 ∷ 35853 ∷ 36218 ∷ 36583 ∷ 36948 ∷ 37313 ∷ 37678 ∷ 38044 ∷ []))
+    ∷ row (listed 2 (each 2 28) 36525 38350 (7 ∷ 7 ∷ 7 ∷ 7 ∷ 7 ∷ 7 ∷ [])) (holds (36583 ∷ 36948 ∷ 37313 ∷ 37678 ∷ 38043 ∷ 7 ∷ []))
+    ∷ row (listed 2 (each 6 30) 0 1000 (7 ∷ 7 ∷ 7 ∷ [])) (holds (181 ∷ 546 ∷ 911 ∷ []))
+    ∷ row (listed 1 (each 6 30) 0 1000 (7 ∷ 7 ∷ 7 ∷ [])) (holds (181 ∷ 546 ∷ 911 ∷ []))
+    ∷ row (list 2 (each 2 29) 0 146096 399) (says (refused 9 0))
+    -- 11 for another edition, before 10 and before 9, and then nothing is written
+    ∷ row (list 0 (each 2 29) 59 4442 4) (says (refused 11 0))
+    ∷ row (list 3 (each 2 30) 146097 146097 0) (says (refused 11 0))
+    ∷ row (listed 3 (each 2 29) 59 4442 (7 ∷ 7 ∷ 7 ∷ 7 ∷ [])) (holds (7 ∷ 7 ∷ 7 ∷ 7 ∷ []))
+    ∷ row (list 2 (each 2 30) 0 146096 0) (says (refused 10 0))
     -- texts
     ∷ row (read (bytes "2000-02-29")) (says (on 2000 2 29))
     ∷ row (read (bytes "2001-02-29")) (says (refused 10 0))
@@ -110,6 +124,13 @@ table =
     ∷ row (read-yearly (bytes "02-29")) (says (yearly 2 29))
     ∷ row (read-yearly (bytes "02-30")) (says (refused 10 0))
     ∷ row (read-yearly (bytes "13-01")) (says (refused 10 0))
+    ∷ row (read-edition (bytes "1")) (says (edition 1))
+    ∷ row (read-edition (bytes "2")) (says (edition 2))
+    ∷ row (read-edition (bytes "0")) (says (refused 11 0))
+    ∷ row (read-edition (bytes "3")) (says (refused 11 0))
+    ∷ row (read-edition (bytes "a")) (says (refused 11 0))
+    ∷ row (read-edition (bytes "01")) (says (refused 11 0))
+    ∷ row (read-edition (bytes "")) (says (refused 11 0))
     ∷ row (read-day (bytes "366")) (says (day 366))
     ∷ row (read-day (bytes "0")) (says (day 0))
     ∷ row (read-day (bytes "0366")) (says (refused 10 0))
@@ -124,7 +145,7 @@ unfolding
     sumOf upFrom keep every
     leapYear yearLength monthsWith monthLengths monthLength dateExists dateAfter
     daysBeforeYear daysBeforeMonth dayNumber dateOf weekdayOf
-    datesIn inNoYear daysIn
+    onLeapDay inNoYear movedIn inYear datesIn daysIn
     dateAnswer dayAnswer weekdayAnswer yearlyCheck listedIf storedIf yearlyAnswer yearlyListed
-    digits numberAfter fitsAt fits dateText dateIn yearlyIn dateReading yearlyReading noNumber dayReading
+    digits numberAfter fitsAt fits dateText dateIn yearlyIn dateReading yearlyReading noNumber dayReading editionReading
 worked = refl

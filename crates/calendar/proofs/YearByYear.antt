@@ -15,71 +15,77 @@ use Rattle.calendar.specs.Dates.{dateExists}
 use Rattle.calendar.specs.Numbers.{daysBeforeYear, dayNumber}
 use Rattle.calendar.specs.Yearly.{inYear, datesIn, daysIn, yearlyDays}
 use Rattle.calendar.specs.Places.{InYear}
+use Rattle.calendar.proofs.Editions.{inYear-year}
 use Rattle.calendar.proofs.Existing.{existing, daysBeforeYear-next, daysBeforeYear-le, dayNumber-from-year, dayNumber-to-year}
 
-module _ (t : YearlyDate) (a e : ℕ) where
+module _ (ed : ℕ) (t : YearlyDate) (a e : ℕ) where
   -- ---- One year
 
-  pub daysIn-there : (y : ℕ) → dateExists (inYear t y) ≡ true
-      → daysIn t a e (y ∷ []) ≡ keep (λ k. inBounds a k e) (dayNumber (inYear t y) ∷ [])
+  pub daysIn-there : (y : ℕ) → dateExists (inYear ed t y) ≡ true
+      → daysIn ed t a e (y ∷ []) ≡ keep (λ k. inBounds a k e) (dayNumber (inYear ed t y) ∷ [])
   unfolding daysIn datesIn keep
   daysIn-there y h = rw h
 
-  pub daysIn-absent : (y : ℕ) → dateExists (inYear t y) ≡ false → daysIn t a e (y ∷ []) ≡ []
+  pub daysIn-absent : (y : ℕ) → dateExists (inYear ed t y) ≡ false → daysIn ed t a e (y ∷ []) ≡ []
   unfolding daysIn datesIn keep
   daysIn-absent y h = rw h
 
-  pub daysIn-outside : (y : ℕ) → dateExists (inYear t y) ≡ true → inBounds a (dayNumber (inYear t y)) e ≡ false → daysIn t a e (y ∷ []) ≡ []
+  pub daysIn-outside : (y : ℕ) → dateExists (inYear ed t y) ≡ true → inBounds a (dayNumber (inYear ed t y)) e ≡ false
+      → daysIn ed t a e (y ∷ []) ≡ []
   unfolding keep
   daysIn-outside y h out = daysIn-there y h ∙ rw out
 
-  pub daysIn-one : (y : ℕ) → length (daysIn t a e (y ∷ [])) ≤ 1
+  pub daysIn-one : (y : ℕ) → length (daysIn ed t a e (y ∷ [])) ≤ 1
   unfolding daysIn datesIn keep
   daysIn-one y =
-      by-bool (dateExists (inYear t y))
-      (λ h. by-bool (inBounds a (dayNumber (inYear t y)) e) (λ g. rw (h, g) (omega arith)) (λ g. rw (h, g) (omega arith)))
+      by-bool (dateExists (inYear ed t y))
+      (λ h. by-bool (inBounds a (dayNumber (inYear ed t y)) e) (λ g. rw (h, g) (omega arith)) (λ g. rw (h, g) (omega arith)))
       (λ h. rw h (omega arith))
 
   -- ---- Year by year
 
-  pub daysIn-cons : (y : ℕ) (ys : List ℕ) → daysIn t a e (y ∷ ys) ≡ daysIn t a e (y ∷ []) ++ daysIn t a e ys
+  pub daysIn-cons : (y : ℕ) (ys : List ℕ) → daysIn ed t a e (y ∷ ys) ≡ daysIn ed t a e (y ∷ []) ++ daysIn ed t a e ys
   unfolding daysIn datesIn keep
   daysIn-cons y ys =
-      by-bool (dateExists (inYear t y))
-      (λ h. by-bool (inBounds a (dayNumber (inYear t y)) e) (λ g. rw (h, g)) (λ g. rw (h, g)))
+      by-bool (dateExists (inYear ed t y))
+      (λ h. by-bool (inBounds a (dayNumber (inYear ed t y)) e) (λ g. rw (h, g)) (λ g. rw (h, g)))
       (λ h. rw h)
 
-  pub daysIn-nil : daysIn t a e [] ≡ []
+  pub daysIn-nil : daysIn ed t a e [] ≡ []
   unfolding daysIn datesIn keep
   daysIn-nil = refl
 
-  pub daysIn-few : (y n : ℕ) → length (daysIn t a e (upFrom y n)) ≤ n
+  pub daysIn-few : (y n : ℕ) → length (daysIn ed t a e (upFrom y n)) ≤ n
   unfolding upFrom
   daysIn-few y zero = omega (arith, ap length daysIn-nil)
   daysIn-few y (suc n) =
       let rest = daysIn-few (suc y) n in
       let first = daysIn-one y in
-      omega (arith, ap length (daysIn-cons y (upFrom (suc y) n)), length-append (daysIn t a e (y ∷ [])) (daysIn t a e (upFrom (suc y) n)))
+      let parts = length-append (daysIn ed t a e (y ∷ [])) (daysIn ed t a e (upFrom (suc y) n)) in
+      omega (arith, ap length (daysIn-cons y (upFrom (suc y) n)))
 
   -- ---- Years that end before the first day, and that begin after the last
 
-  before-first : (y : ℕ) → 2000 ≤ y → daysBeforeYear (y + 1) ≤ a → daysIn t a e (y ∷ []) ≡ []
+  before-first : (y : ℕ) → 2000 ≤ y → daysBeforeYear (y + 1) ≤ a → daysIn ed t a e (y ∷ []) ≡ []
   before-first y from over =
-      by-bool (dateExists (inYear t y))
+      by-bool (dateExists (inYear ed t y))
       (λ h.
-      let end = dayNumber-to-year (inYear t y) (existing (inYear t y) h) in
-      daysIn-outside y h (inBounds-not a (dayNumber (inYear t y)) e (λ low high. omega arith)))
+      let end = dayNumber-to-year (inYear ed t y) (existing (inYear ed t y) h) in
+      let year = ap (λ z. daysBeforeYear (z + 1)) (inYear-year ed t y) in
+      daysIn-outside y h (inBounds-not a (dayNumber (inYear ed t y)) e (λ low high. omega arith)))
       (daysIn-absent y)
 
-  after-last : (y : ℕ) → e < daysBeforeYear y → daysIn t a e (y ∷ []) ≡ []
+  after-last : (y : ℕ) → e < daysBeforeYear y → daysIn ed t a e (y ∷ []) ≡ []
   after-last y over =
-      by-bool (dateExists (inYear t y))
+      by-bool (dateExists (inYear ed t y))
       (λ h.
-      let start = dayNumber-from-year (inYear t y) (existing (inYear t y) h) in
-      daysIn-outside y h (inBounds-not a (dayNumber (inYear t y)) e (λ low high. omega arith)))
+      let start = dayNumber-from-year (inYear ed t y) (existing (inYear ed t y) h) in
+      let year = ap daysBeforeYear (inYear-year ed t y) in
+      daysIn-outside y h (inBounds-not a (dayNumber (inYear ed t y)) e (λ low high. omega arith)))
       (daysIn-absent y)
 
-  pub none-before : (y n m : ℕ) → 2000 ≤ y → daysBeforeYear (y + n) ≤ a → daysIn t a e (upFrom y (n + m)) ≡ daysIn t a e (upFrom (y + n) m)
+  pub none-before : (y n m : ℕ) → 2000 ≤ y → daysBeforeYear (y + n) ≤ a
+      → daysIn ed t a e (upFrom y (n + m)) ≡ daysIn ed t a e (upFrom (y + n) m)
   unfolding upFrom
   none-before y zero m from over =
       let same : y + 0 ≡ y = omega arith in
@@ -90,9 +96,9 @@ module _ (t : YearlyDate) (a e : ℕ) where
       let place : suc y + n ≡ y + suc n = omega arith in
       let here = before-first y from (omega (arith, daysBeforeYear-le (y + 1) (y + suc n) (omega arith))) in
       let rest = none-before (suc y) n m (omega arith) (omega (arith, ap daysBeforeYear place)) in
-      rw count (daysIn-cons y (upFrom (suc y) (n + m)) ∙ rw here (rest ∙ ap (λ z. daysIn t a e (upFrom z m)) place))
+      rw count (daysIn-cons y (upFrom (suc y) (n + m)) ∙ rw here (rest ∙ ap (λ z. daysIn ed t a e (upFrom z m)) place))
 
-  pub none-after : (y n : ℕ) → e < daysBeforeYear y → daysIn t a e (upFrom y n) ≡ []
+  pub none-after : (y n : ℕ) → e < daysBeforeYear y → daysIn ed t a e (upFrom y n) ≡ []
   unfolding upFrom
   none-after y zero over = daysIn-nil
   none-after y (suc n) over =
@@ -102,22 +108,22 @@ module _ (t : YearlyDate) (a e : ℕ) where
   -- ---- What is left to list from year 2000 + k on
 
   abbrev pub leftFrom : ℕ → List ℕ
-  leftFrom k = daysIn t a e (upFrom (2000 + k) (400 - k))
+  leftFrom k = daysIn ed t a e (upFrom (2000 + k) (400 - k))
 
-  pub left-start : (k rest : ℕ) → InYear a k rest → yearlyDays t a e ≡ leftFrom k
+  pub left-start : (k rest : ℕ) → InYear a k rest → yearlyDays ed t a e ≡ leftFrom k
   left-start k rest x =
       let most = x .last in
       let whole : k + (400 - k) ≡ 400 = omega arith in
-      ap (λ n. daysIn t a e (upFrom 2000 n)) (sym whole) ∙ none-before 2000 k (400 - k) (omega arith) (omega (arith, x .adds))
+      ap (λ n. daysIn ed t a e (upFrom 2000 n)) (sym whole) ∙ none-before 2000 k (400 - k) (omega arith) (omega (arith, x .adds))
 
-  pub left-next : (k : ℕ) → k ≤ 399 → leftFrom k ≡ daysIn t a e ((2000 + k) ∷ []) ++ leftFrom (k + 1)
+  pub left-next : (k : ℕ) → k ≤ 399 → leftFrom k ≡ daysIn ed t a e ((2000 + k) ∷ []) ++ leftFrom (k + 1)
   left-next k h =
       let count : 400 - k ≡ suc (400 - (k + 1)) = omega arith in
       let next : suc (2000 + k) ≡ 2000 + (k + 1) = omega arith in
-      ap (λ n. daysIn t a e (upFrom (2000 + k) n)) count
-      ∙ ap (daysIn t a e) (upFrom-cons (2000 + k) (400 - (k + 1)))
+      ap (λ n. daysIn ed t a e (upFrom (2000 + k) n)) count
+      ∙ ap (daysIn ed t a e) (upFrom-cons (2000 + k) (400 - (k + 1)))
       ∙ daysIn-cons (2000 + k) (upFrom (suc (2000 + k)) (400 - (k + 1)))
-      ∙ ap (λ y. daysIn t a e ((2000 + k) ∷ []) ++ daysIn t a e (upFrom y (400 - (k + 1)))) next
+      ∙ ap (λ y. daysIn ed t a e ((2000 + k) ∷ []) ++ daysIn ed t a e (upFrom y (400 - (k + 1)))) next
 
   pub left-end : (end rest k : ℕ) → InYear e end rest → end < k → leftFrom k ≡ []
   left-end end rest k x over =

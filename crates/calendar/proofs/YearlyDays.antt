@@ -1,12 +1,12 @@
 -- The list of a yearly test: exactly the days on which it falls, rising, each once.
 use Prim.Native.Nat.{ℕ, _<_}
-use mathlib.Core.Path.{_≡_, refl, sym, ap, _∙_}
+use mathlib.Core.Path.{_≡_, sym, ap, _∙_}
 use mathlib.Core.Logic.{_↔_}
 use mathlib.Core.Bool.{true}
 use mathlib.Core.List.{[], map}
 use native.Mathlib.Omega.{arith}
 use Rattle.lists.specs.Count.{keep, Member}
-use Rattle.lists.proofs.Order.{Rising, all-of, all-keep, rising-keep, rising-within, rising-mapped, rising-upFrom}
+use Rattle.lists.proofs.Order.{Rising, all-of, all-keep, rising-keep, rising-map, rising-within, rising-mapped, rising-upFrom}
 use Rattle.lists.proofs.Members.{keep-member, member-keep, keep-none, map-member, member-map, upFrom-member}
 use Rattle.faults.specs.Checks.{inBounds}
 use Rattle.faults.proofs.Checks.{inBounds-low, inBounds-high, inBounds-yes, inBounds-not}
@@ -15,8 +15,9 @@ use Rattle.calendar.specs.declared.YearlyDate.{YearlyDate}
 use Rattle.calendar.specs.Dates.{dateExists}
 use Rattle.calendar.specs.Numbers.{dayNumber, dateOf}
 use Rattle.calendar.specs.Yearly.{years, inYear, datesIn, daysIn, yearlyDays, FallsBetween}
+use Rattle.calendar.proofs.Editions.{inYear-year}
 use Rattle.calendar.proofs.Existing.{existing}
-use Rattle.calendar.proofs.Order.{by-year, before-number, same-date}
+use Rattle.calendar.proofs.Order.{by-year, before-number}
 use Rattle.calendar.proofs.BothWays.{dateOf-exists, dayNumber-dateOf, dayNumber-in-range, dateOf-dayNumber}
 
 abbrev There : Date → Type 0
@@ -25,55 +26,61 @@ There d = dateExists d ≡ true
 abbrev Sooner : Date → Date → Type 0
 Sooner d f = d .year < f .year
 
-module _ (t : YearlyDate) (a e : ℕ) where
-  listed : (k : ℕ) → FallsBetween t a e k → Member k (yearlyDays t a e)
+-- the days of all years rise
+pub all-rising : (ed : ℕ) (t : YearlyDate) → Rising _<_ (map dayNumber (datesIn ed t years))
+unfolding datesIn
+all-rising ed t =
+    let all = map (inYear ed t) years in
+    let dates = keep dateExists all in
+    let there = all-keep There dateExists all (all-of (λ d. There d → There d) (λ d h. h) all) in
+    let in-order =
+    rising-map _<_ (λ y z. Sooner (inYear ed t y) (inYear ed t z))
+    (λ y z h. omega (arith, inYear-year ed t y, inYear-year ed t z)) years (rising-upFrom 2000 400) in
+    let by-years = rising-keep Sooner dateExists all (rising-mapped Sooner (inYear ed t) years in-order) in
+    let by-days =
+    rising-within There Sooner (λ d f. dayNumber d < dayNumber f)
+    (λ d f h g y. before-number d f (existing d h) (existing f g) (by-year y)) dates there by-years in
+    rising-mapped _<_ dayNumber dates by-days
+
+module _ (ed : ℕ) (t : YearlyDate) (a e : ℕ) where
+  listed : (k : ℕ) → FallsBetween ed t a e k → Member k (yearlyDays ed t a e)
   unfolding daysIn datesIn
   listed k f =
       let d = dateOf k in
       let there = dateOf-exists k (f .inCalendar) in
       let x = existing d there in
-      let is : inYear t (d .year) ≡ d = same-date (inYear t (d .year)) d refl (sym (f .month)) (sym (f .day)) in
-      let year = map-member (inYear t) (d .year) years (upFrom-member (d .year) 2000 400 (x .from-2000) (omega (arith, x .to-2399))) in
-      let date = keep-member dateExists d (map (inYear t) years) (rw is at year) there in
-      let day = map-member dayNumber d (datesIn t years) date in
-      keep-member (λ j. inBounds a j e) k (map dayNumber (datesIn t years)) (rw (dayNumber-dateOf k (f .inCalendar)) at day)
+      let year = map-member (inYear ed t) (d .year) years (upFrom-member (d .year) 2000 400 (x .from-2000) (omega (arith, x .to-2399))) in
+      let date = keep-member dateExists d (map (inYear ed t) years) (rw (← f .is) at year) there in
+      let day = map-member dayNumber d (datesIn ed t years) date in
+      keep-member (λ j. inBounds a j e) k (map dayNumber (datesIn ed t years)) (rw (dayNumber-dateOf k (f .inCalendar)) at day)
       (inBounds-yes a k e (f .from) (f .to))
 
-  falls : (k : ℕ) → Member k (yearlyDays t a e) → FallsBetween t a e k
+  falls : (k : ℕ) → Member k (yearlyDays ed t a e) → FallsBetween ed t a e k
   unfolding daysIn datesIn
   falls k m =
-      let between = member-keep (λ j. inBounds a j e) k (map dayNumber (datesIn t years)) m in
-      let day = member-map dayNumber k (datesIn t years) (between .0) in
+      let between = member-keep (λ j. inBounds a j e) k (map dayNumber (datesIn ed t years)) m in
+      let day = member-map dayNumber k (datesIn ed t years) (between .0) in
       let d = day .0 in
-      let date = member-keep dateExists d (map (inYear t) years) (day .1) in
-      let year = member-map (inYear t) d years (date .0) in
+      let date = member-keep dateExists d (map (inYear ed t) years) (day .1) in
+      let year = member-map (inYear ed t) d years (date .0) in
       let is : dateOf k ≡ d = ap dateOf (day .2) ∙ dateOf-dayNumber d (date .1) in
       record {
         inCalendar = omega (arith, day .2, dayNumber-in-range d (date .1));
         from = inBounds-low a k e (between .1);
         to = inBounds-high a k e (between .1);
-        month = ap (λ (x : Date). x .month) (is ∙ year .2);
-        day = ap (λ (x : Date). x .day) (is ∙ year .2);
+        is = is ∙ year .2 ∙ ap (inYear ed t) (sym (ap (λ (x : Date). x .year) (is ∙ year .2) ∙ inYear-year ed t (year .0)));
       }
 
   -- exactly the days on which it falls, both ends counted
-  pub yearly-exactly : (k : ℕ) → Member k (yearlyDays t a e) ↔ FallsBetween t a e k
+  pub yearly-exactly : (k : ℕ) → Member k (yearlyDays ed t a e) ↔ FallsBetween ed t a e k
   yearly-exactly k = (falls k, listed k)
 
   -- rising, so each once
-  pub yearly-rising : Rising _<_ (yearlyDays t a e)
-  unfolding daysIn datesIn
-  yearly-rising =
-      let all = map (inYear t) years in
-      let dates = keep dateExists all in
-      let there = all-keep There dateExists all (all-of (λ d. There d → There d) (λ d h. h) all) in
-      let by-years = rising-keep Sooner dateExists all (rising-mapped Sooner (inYear t) years (rising-upFrom 2000 400)) in
-      let by-days =
-      rising-within There Sooner (λ d f. dayNumber d < dayNumber f)
-      (λ d f h g y. before-number d f (existing d h) (existing f g) (by-year y)) dates there by-years in
-      rising-keep _<_ (λ k. inBounds a k e) (map dayNumber dates) (rising-mapped _<_ dayNumber dates by-days)
+  pub yearly-rising : Rising _<_ (yearlyDays ed t a e)
+  unfolding daysIn
+  yearly-rising = rising-keep _<_ (λ k. inBounds a k e) (map dayNumber (datesIn ed t years)) (all-rising ed t)
 
   -- none if the first day is after the last
-  pub yearly-none : e < a → yearlyDays t a e ≡ []
+  pub yearly-none : e < a → yearlyDays ed t a e ≡ []
   unfolding daysIn
-  yearly-none h = keep-none (λ k. inBounds a k e) (λ k. inBounds-not a k e (λ low high. omega arith)) (map dayNumber (datesIn t years))
+  yearly-none h = keep-none (λ k. inBounds a k e) (λ k. inBounds-not a k e (λ low high. omega arith)) (map dayNumber (datesIn ed t years))

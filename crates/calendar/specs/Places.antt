@@ -2,11 +2,12 @@
 --     InYear day k rest       day lies in year 2000 + k, `rest` days after its first
 --     InMonth f day m rest    day, counted in its year from 0, lies in month m, `rest` days after its first; f days in February
 --     fallDays fall           the day on which a test falls in a year, or none
+--     atFront days list      the days at the front of a list, whose later places stay
 --     digitsNumber text       the number that digits write; one past the last day for a larger one, and where another character stands
 use Prim.Native.Nat.{ℕ, _+_, _-_, _≤_, _<_, min}
 use mathlib.Core.Path.{_≡_}
-use mathlib.Core.List.{List, [], _∷_}
-use lib.ListN.{take, getD}
+use mathlib.Core.List.{List, [], _∷_, _++_}
+use lib.ListN.{length, take, drop, getD}
 use mathlib.Core.Bool.{cond}
 use Rattle.lists.specs.Count.{sumOf, every}
 use Rattle.calendar.specs.declared.listing.Fall.{Fall}
@@ -29,6 +30,9 @@ pub record InMonth (f day m rest : ℕ) : Type 0 where
 abbrev pub fallDays : Fall → List ℕ
 fallDays (On k) = k ∷ []
 fallDays Never = []
+
+abbrev pub atFront : List ℕ → List ℕ → List ℕ
+atFront days list = days ++ drop (length days) list
 
 unfoldable pub digitsNumber : List ℕ → ℕ
 digitsNumber text = cond (every (fitsAt 0x30) text) (min (number text) (lastDay + 1)) (lastDay + 1)

@@ -6,6 +6,7 @@
 --     weekday n             the days from a Saturday to the weekday
 --     days n                how many days were listed
 --     yearly m d            a month and a day
+--     edition ed            an edition
 use Prim.Native.Nat.{ℕ}
 use Rattle.faults.specs.Checks.{faultNumber}
 use Rattle.calendar.specs.declared.WhichDate.{WhichDate}
@@ -16,6 +17,8 @@ use Rattle.calendar.specs.declared.WhichWeekday.{WhichWeekday}
 use Rattle.calendar.specs.declared.WhichWeekday.the-variants as which-weekday
 use Rattle.calendar.specs.declared.WhichYearly.{WhichYearly}
 use Rattle.calendar.specs.declared.WhichYearly.the-variants as which-yearly
+use Rattle.calendar.specs.declared.WhichEdition.{WhichEdition}
+use Rattle.calendar.specs.declared.WhichEdition.the-variants as which-edition
 use Rattle.calendar.specs.declared.Listed.{Listed}
 use Rattle.calendar.specs.declared.Listed.the-variants as listed
 use Rattle.calendar.specs.Weekdays.{weekdayNumber}
@@ -27,6 +30,7 @@ pub data Said : Type 0 where
   weekday : ℕ → Said
   days : ℕ → Said
   yearly : ℕ → ℕ → Said
+  edition : ℕ → Said
 
 abbrev pub dateSays : WhichDate → Said
 dateSays (which-date.Is d) = on (d .year) (d .month) (d .day)
@@ -43,6 +47,10 @@ weekdaySays (which-weekday.Refused f at) = refused (faultNumber f) at
 abbrev pub yearlySays : WhichYearly → Said
 yearlySays (which-yearly.Is t) = yearly (t .month) (t .day)
 yearlySays (which-yearly.Refused f at) = refused (faultNumber f) at
+
+abbrev pub editionSays : WhichEdition → Said
+editionSays (which-edition.Is ed) = edition ed
+editionSays (which-edition.Refused f at) = refused (faultNumber f) at
 
 abbrev pub listedSays : Listed → Said
 listedSays (listed.Days n) = days n

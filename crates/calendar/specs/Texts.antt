@@ -1,4 +1,5 @@
--- Dates as texts (ISO 8601; document 02, W-203 and W-214), as bytes. A date has ten characters, as 2000-02-29; a yearly one five, as 02-29.
+-- Dates as texts (ISO 8601; document 02, W-203, W-206 and W-214), as bytes. A date has ten characters, as 2000-02-29; a yearly one five, as
+-- 02-29; an edition one, 1 or 2.
 --     digits k n            the last k decimal digits of n
 --     number text           the number that decimal digits write
 --     dateText d            the text of a date
@@ -8,6 +9,7 @@
 --     yearlyIn text         the yearly date that a text of the form 00-00 writes
 --     dateReading text      the date that a text writes, or 10 for any other text
 --     yearlyReading text    the yearly date that a text writes, or 10
+--     editionReading text   the edition that a text writes by one digit, or 11 for any other text
 --     dayReading text       the day that a text writes in decimal, without leading zeros, or 10
 --     dateWriting d         the text of a date that exists, or 10 and zeros
 --     yearlyWriting t       the text of a month and day that exist in some year, or 10 and zeros
@@ -18,7 +20,7 @@ use lib.Dec.{eqb, ltb, leb}
 use lib.ListN.{length, getD, take, drop, replicate}
 use Rattle.days.specs.Days.{day}
 use Rattle.lists.specs.Count.{every}
-use Rattle.faults.specs.declared.Fault.the-variants.{NoSuchDate}
+use Rattle.faults.specs.declared.Fault.the-variants.{NoSuchDate, NoSuchEdition}
 use Rattle.faults.specs.declared.Checked.the-variants as checked
 use Rattle.faults.specs.Checks.{inBounds}
 use Rattle.calendar.specs.declared.Date.{Date}
@@ -29,11 +31,13 @@ use Rattle.calendar.specs.declared.WhichDay.{WhichDay}
 use Rattle.calendar.specs.declared.WhichDay.the-variants as which-day
 use Rattle.calendar.specs.declared.WhichYearly.{WhichYearly}
 use Rattle.calendar.specs.declared.WhichYearly.the-variants as which-yearly
+use Rattle.calendar.specs.declared.WhichEdition.{WhichEdition}
+use Rattle.calendar.specs.declared.WhichEdition.the-variants as which-edition
 use Rattle.calendar.specs.declared.DateText.{DateText}
 use Rattle.calendar.specs.declared.YearlyText.{YearlyText}
 use Rattle.calendar.specs.Dates.{date, dateExists}
 use Rattle.calendar.specs.Numbers.{lastDay}
-use Rattle.calendar.specs.Yearly.{inNoYear}
+use Rattle.calendar.specs.Yearly.{noEdition, inNoYear}
 
 abbrev pub hyphen : ℕ
 hyphen = 0x2d
@@ -80,6 +84,9 @@ fits [] (b ∷ bs) = false
 fits (c ∷ cs) [] = false
 fits (c ∷ cs) (b ∷ bs) = fitsAt c b && fits cs bs
 
+abbrev pub editionForm : List ℕ
+editionForm = 0x30 ∷ []
+
 abbrev pub yearlyForm : List ℕ
 yearlyForm = 0x30 ∷ 0x30 ∷ hyphen ∷ 0x30 ∷ 0x30 ∷ []
 
@@ -98,6 +105,10 @@ dateReading text = cond (fits dateForm text && dateExists (dateIn text)) (which-
 unfoldable pub yearlyReading : List ℕ → WhichYearly
 yearlyReading text =
     cond (fits yearlyForm text && not (inNoYear (yearlyIn text))) (which-yearly.Is (yearlyIn text)) (which-yearly.Refused NoSuchDate 0)
+
+unfoldable pub editionReading : List ℕ → WhichEdition
+editionReading text =
+    cond (fits editionForm text && not (noEdition (number text))) (which-edition.Is (number text)) (which-edition.Refused NoSuchEdition 0)
 
 -- empty, or with a leading zero
 unfoldable pub noNumber : List ℕ → Bool

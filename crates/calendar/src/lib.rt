@@ -14,6 +14,7 @@ use month::month_start;
 pub use text::date_read;
 pub use text::date_text;
 pub use text::day_read;
+pub use text::edition_read;
 pub use text::yearly_read;
 pub use text::yearly_text;
 use year::february;
@@ -71,6 +72,11 @@ pub enum WhichWeekday {
 
 pub enum WhichYearly {
     Is(YearlyDate),
+    Refused { fault: Fault, at: usize },
+}
+
+pub enum WhichEdition {
+    Is(u32),
     Refused { fault: Fault, at: usize },
 }
 

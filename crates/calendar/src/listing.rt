@@ -5,20 +5,21 @@ use super::Listed;
 use super::YearlyDate;
 use super::date_exists;
 use super::number_of;
+use super::year::february;
 use super::year::in_year;
 use days::Day;
 use faults::Fault;
 ghost use mathlib.Core.Path.{_≡_};
 ghost use mathlib.Core.Bool.{not};
-ghost use mathlib.Core.List.{[], _∷_, _++_};
+ghost use mathlib.Core.List.{[], _∷_};
 ghost use Prim.Native.Nat.{_+_, _≤_};
-ghost use lib.ListN.{length, drop};
+ghost use lib.ListN.{length};
 ghost use Rattle.lists.specs.Count.{keep, putAt};
 ghost use Rattle.faults.specs.Checks.{inBounds};
 ghost use Rattle.calendar.specs.Numbers.{lastDay};
-ghost use Rattle.calendar.specs.Yearly.{inNoYear, daysIn, yearlyDays};
+ghost use Rattle.calendar.specs.Yearly.{noEdition, inNoYear, movedIn, inYear, daysIn, yearlyDays};
 ghost use Rattle.calendar.specs.Refusals.{yearlyAnswer, yearlyListed};
-ghost use Rattle.calendar.specs.Places.{fallDays};
+ghost use Rattle.calendar.specs.Places.{fallDays, atFront};
 
 // The day on which a test falls in a year.
 pub(crate) enum Fall {
@@ -37,6 +38,50 @@ pub(crate) fn yearly_exists(on: YearlyDate) -> bool
     })
 }
 
+// Whether an edition is 1 or 2.
+pub(crate) fn edition_exists(edition: u32) -> bool
+    ensures exact { λ r. ⌜ r ≡ not (noEdition edition) ⌝ }
+{
+    if edition == 1 {
+        return true;
+    }
+    edition == 2
+}
+
+// Whether an edition moves a test to 28 February in a year: edition 2 a test of 29 February in a common year.
+fn moved_in(on: YearlyDate, edition: u32, year: u32) -> bool
+    ensures exact { λ r. ⌜ r ≡ movedIn edition on year ⌝ }
+{
+    if edition != 2 {
+        return false;
+    }
+    if on.month != 2 {
+        return false;
+    }
+    if on.day != 29 {
+        return false;
+    }
+    february(year) == 28
+}
+
+// The date of a test in a year, whether it exists or not.
+fn date_in(on: YearlyDate, edition: u32, year: u32) -> Date
+    ensures exact { λ r. ⌜ r ≡ inYear edition on year ⌝ }
+{
+    if moved_in(on, edition, year) {
+        return Date {
+            year,
+            month: 2,
+            day: 28,
+        };
+    }
+    Date {
+        year,
+        month: on.month,
+        day: on.day,
+    }
+}
+
 // A day, if it lies between two days.
 fn between(day: u32, first: u32, last: u32) -> Fall
     ensures exact { λ r. ⌜ fallDays r ≡ keep (λ k. inBounds first k last) (day ∷ []) ⌝ }
@@ -51,15 +96,11 @@ fn between(day: u32, first: u32, last: u32) -> Fall
 }
 
 // The day of year 2000 + k on which a test falls, if it lies between two days.
-fn fall_in(on: YearlyDate, k: u32, first: u32, last: u32) -> Fall
+fn fall_in(on: YearlyDate, edition: u32, k: u32, first: u32, last: u32) -> Fall
     requires { ⌜ k ≤ 399 ⌝ }
-    ensures exact { λ r. ⌜ fallDays r ≡ daysIn on first last ((2000 + k) ∷ []) ⌝ }
+    ensures exact { λ r. ⌜ fallDays r ≡ daysIn edition on first last ((2000 + k) ∷ []) ⌝ }
 {
-    let date = Date {
-        year: Date::EPOCH.year + k,
-        month: on.month,
-        day: on.day,
-    };
+    let date = date_in(on, edition, Date::EPOCH.year + k);
     if date_exists(date) {
         between(number_of(date), first, last)
     } else {
@@ -78,15 +119,15 @@ fn one(fall: Fall) -> usize
 }
 
 // How many days there are to list.
-fn count_days(on: YearlyDate, first: u32, last: u32) -> usize
+fn count_days(on: YearlyDate, edition: u32, first: u32, last: u32) -> usize
     requires { ⌜ (first ≤ lastDay) × (last ≤ lastDay) ⌝ }
-    ensures exact { λ r. ⌜ r ≡ length (yearlyDays on first last) ⌝ }
+    ensures exact { λ r. ⌜ r ≡ length (yearlyDays edition on first last) ⌝ }
 {
     let end = in_year(last).whole;
     let mut k = in_year(first).whole;
     let mut found: usize = 0;
     while k <= end {
-        found += one(fall_in(on, k, first, last));
+        found += one(fall_in(on, edition, k, first, last));
         k += 1;
     }
     found
@@ -108,26 +149,32 @@ fn store(list: &mut [u32], at: usize, fall: Fall) -> usize
 }
 
 // The days at the front of a list that has room for them.
-fn fill(on: YearlyDate, first: u32, last: u32, list: &mut [u32])
+fn fill(on: YearlyDate, edition: u32, first: u32, last: u32, list: &mut [u32])
     requires { ⌜ (first ≤ lastDay) × (last ≤ lastDay) ⌝ }
-    requires { ⌜ length (yearlyDays on first last) ≤ length (now list) ⌝ }
-    ensures stored { λ r. ⌜ now (list .exit) ≡ yearlyDays on first last ++ drop (length (yearlyDays on first last)) (now (list .entry)) ⌝ }
+    requires { ⌜ length (yearlyDays edition on first last) ≤ length (now list) ⌝ }
+    ensures stored { λ r. ⌜ now (list .exit) ≡ atFront (yearlyDays edition on first last) (now (list .entry)) ⌝ }
 {
     let end = in_year(last).whole;
     let mut k = in_year(first).whole;
     let mut at: usize = 0;
     while k <= end {
-        let fall = fall_in(on, k, first, last);
+        let fall = fall_in(on, edition, k, first, last);
         at = store(list, at, fall);
         k += 1;
     }
 }
 
-// The days on which a yearly test falls from `first` to `last`, both counted, rising, each once, at the front of `list`.
-pub fn yearly(on: YearlyDate, first: Day, last: Day, list: &mut [u32]) -> Listed
-    ensures exact { λ r. ⌜ r ≡ yearlyAnswer on (first .0) (last .0) (length (now (list .entry))) ⌝ }
-    ensures stored { λ r. ⌜ now (list .exit) ≡ yearlyListed on (first .0) (last .0) (now (list .entry)) ⌝ }
+// The days on which a yearly test falls by its edition from `first` to `last`, both counted, rising, each once, at the front of `list`.
+pub fn yearly(on: YearlyDate, edition: u32, first: Day, last: Day, list: &mut [u32]) -> Listed
+    ensures exact { λ r. ⌜ r ≡ yearlyAnswer edition on (first .0) (last .0) (length (now (list .entry))) ⌝ }
+    ensures stored { λ r. ⌜ now (list .exit) ≡ yearlyListed edition on (first .0) (last .0) (now (list .entry)) ⌝ }
 {
+    if !edition_exists(edition) {
+        return Listed::Refused {
+            fault: Fault::NoSuchEdition,
+            at: 0,
+        };
+    }
     let exists = yearly_exists(on);
     if !exists {
         return Listed::Refused {
@@ -147,13 +194,13 @@ pub fn yearly(on: YearlyDate, first: Day, last: Day, list: &mut [u32]) -> Listed
             at: 0,
         };
     }
-    let count = count_days(on, first.0, last.0);
+    let count = count_days(on, edition, first.0, last.0);
     if list.len() < count {
         return Listed::Refused {
             fault: Fault::NoRoom,
             at: 0,
         };
     }
-    fill(on, first.0, last.0, list);
+    fill(on, edition, first.0, last.0, list);
     Listed::Days(count)
 }

@@ -1,13 +1,15 @@
-// Dates as texts: ten characters for a date, five for a month and a day.
+// Dates as texts: ten characters for a date, five for a month and a day, one for an edition.
 use super::Date;
 use super::DateText;
 use super::LAST_DAY;
 use super::WhichDate;
 use super::WhichDay;
+use super::WhichEdition;
 use super::WhichYearly;
 use super::YearlyDate;
 use super::YearlyText;
 use super::date_exists;
+use super::listing::edition_exists;
 use super::listing::yearly_exists;
 use days::Day;
 use faults::Checked;
@@ -16,7 +18,7 @@ ghost use mathlib.Core.Path.{_≡_};
 ghost use Prim.Native.Nat.{_+_, _-_, _≤_, _%_};
 ghost use lib.ListN.{length, take, drop};
 ghost use Rattle.calendar.specs.Texts.{fitsAt, number, dateReading, yearlyReading, dateWriting, yearlyWriting};
-ghost use Rattle.calendar.specs.Texts.{fits as fitsForm, noNumber, dayReading};
+ghost use Rattle.calendar.specs.Texts.{fits as fitsForm, noNumber, dayReading, editionReading};
 ghost use Rattle.calendar.specs.Places.{digitsNumber};
 
 // ---- Reading
@@ -124,6 +126,29 @@ pub fn yearly_read(text: &[u8]) -> WhichYearly
     } else {
         WhichYearly::Refused {
             fault: Fault::NoSuchDate,
+            at: 0,
+        }
+    }
+}
+
+// The edition that a text writes.
+pub fn edition_read(text: &[u8]) -> WhichEdition
+    ensures exact { λ r. ⌜ r ≡ editionReading (now (text .entry)) ⌝ }
+    ensures kept { λ r. ⌜ now (text .exit) ≡ now (text .entry) ⌝ }
+{
+    if !fits(b"0", text) {
+        return WhichEdition::Refused {
+            fault: Fault::NoSuchEdition,
+            at: 0,
+        };
+    }
+    let digit = text[0];
+    let edition = worth(digit);
+    if edition_exists(edition) {
+        WhichEdition::Is(edition)
+    } else {
+        WhichEdition::Refused {
+            fault: Fault::NoSuchEdition,
             at: 0,
         }
     }

@@ -1,14 +1,16 @@
-// `date TEXT`, `day NUMBER`, `yearly MM-DD FIRST LAST`: what the calendar answers, a line for each day.
+// `date TEXT`, `day NUMBER`, `yearly MM-DD EDITION FIRST LAST`: what the calendar answers, a line for each day.
 use super::commands::word;
 use super::commands::word_count;
 use super::say;
 use calendar::Listed;
 use calendar::WhichDate;
 use calendar::WhichDay;
+use calendar::WhichEdition;
 use calendar::WhichYearly;
 use calendar::YearlyDate;
 use calendar::date_read;
 use calendar::day_read;
+use calendar::edition_read;
 use calendar::yearly;
 use calendar::yearly_read;
 use days::Day;
@@ -34,13 +36,22 @@ pub(crate) fn day(command: &[u8]) {
 }
 
 pub(crate) fn yearly_days(command: &[u8]) {
-    if word_count(command) != 4 {
-        say::complain(b"yearly MM-DD FIRST LAST");
+    if word_count(command) != 5 {
+        say::complain(b"yearly MM-DD EDITION FIRST LAST");
         return;
     }
+    // the edition is looked at before any date
+    let edition = edition_read(word(command, 2));
+    match edition {
+        WhichEdition::Is(edition) => by_edition(edition, command),
+        WhichEdition::Refused { fault, at } => say::refused(fault, at),
+    }
+}
+
+fn by_edition(edition: u32, command: &[u8]) {
     let on = yearly_read(word(command, 1));
     match on {
-        WhichYearly::Is(on) => from_first(on, word(command, 2), word(command, 3)),
+        WhichYearly::Is(on) => from_first(on, edition, word(command, 3), word(command, 4)),
         WhichYearly::Refused { fault, at } => say::refused(fault, at),
     }
 }
@@ -54,21 +65,21 @@ fn day_of(text: &[u8]) -> WhichDay {
     }
 }
 
-fn from_first(on: YearlyDate, first: &[u8], last: &[u8]) {
+fn from_first(on: YearlyDate, edition: u32, first: &[u8], last: &[u8]) {
     let from = day_of(first);
     match from {
-        WhichDay::Is(from) => to_last(on, from, last),
+        WhichDay::Is(from) => to_last(on, edition, from, last),
         WhichDay::Refused { fault, at } => say::refused(fault, at),
     }
 }
 
 // The calendar has 400 years, so that many places are enough.
-fn to_last(on: YearlyDate, first: Day, last: &[u8]) {
+fn to_last(on: YearlyDate, edition: u32, first: Day, last: &[u8]) {
     let to = day_of(last);
     match to {
         WhichDay::Is(to) => {
             let mut list = [0u32; 400];
-            let listed = yearly(on, first, to, &mut list);
+            let listed = yearly(on, edition, first, to, &mut list);
             match listed {
                 Listed::Days(count) => write_days(list, count),
                 Listed::Refused { fault, at } => say::refused(fault, at),

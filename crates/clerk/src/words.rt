@@ -33,7 +33,8 @@ fn help() {
     say::answer(b"help                    list the words\n");
     say::answer(b"save FILE               write the plan in FILE back\n");
     say::answer(b"save FILE SIZE PLACE    write it into a page of SIZE bytes, from PLACE on\n");
+    say::answer(b"yearly MM-DD EDITION FIRST LAST\n");
     say::answer(
-        b"yearly MM-DD FIRST LAST    the days on which a yearly test falls between two dates\n",
+        b"                        the days on which a yearly test falls between two dates\n",
     );
 }

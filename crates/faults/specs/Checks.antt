@@ -8,7 +8,8 @@ use mathlib.Core.Bool.{Bool, cond, _&&_}
 use lib.Dec.{leb}
 use Rattle.faults.specs.declared.Fault.{Fault}
 use Rattle.faults.specs.declared.Fault.the-variants.{TextTooLong, LineMalformed, FrameWrong, StringCount}
-use Rattle.faults.specs.declared.Fault.the-variants.{OutOfBounds, MultipleOver, ReleaseTooMany, ReleaseUnlawful, NoRoom, NoSuchDate}
+use Rattle.faults.specs.declared.Fault.the-variants.{OutOfBounds, MultipleOver, ReleaseTooMany, ReleaseUnlawful}
+use Rattle.faults.specs.declared.Fault.the-variants.{NoRoom, NoSuchDate, NoSuchEdition}
 use Rattle.faults.specs.declared.Checked.{Checked}
 use Rattle.faults.specs.declared.Checked.the-variants.{Lawful, Refused}
 
@@ -23,6 +24,7 @@ faultNumber ReleaseTooMany = 7
 faultNumber ReleaseUnlawful = 8
 faultNumber NoRoom = 9
 faultNumber NoSuchDate = 10
+faultNumber NoSuchEdition = 11
 
 abbrev pub then : Checked → Checked → Checked
 then Lawful next = next

@@ -14,6 +14,7 @@ pub enum Fault {
     ReleaseUnlawful,
     NoRoom,
     NoSuchDate,
+    NoSuchEdition,
 }
 
 // Whether all rules were met; if not, the first fault, and where: a line, a place, or 0 for the whole.
@@ -37,5 +38,6 @@ pub fn fault_number(f: Fault) -> u32
         Fault::ReleaseUnlawful => 8,
         Fault::NoRoom => 9,
         Fault::NoSuchDate => 10,
+        Fault::NoSuchEdition => 11,
     }
 }

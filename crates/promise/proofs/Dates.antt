@@ -1,10 +1,14 @@
--- The calendar's promises, of what the code answered (document 02, W-203).
+-- The calendar's promises, of what the code answered (document 02, W-203 and W-206).
 use Prim.Native.Nat.{ℕ}
 use mathlib.Core.Path.{_≡_, sym, ap, _∙_}
 use contract.Lifetimes.{Lfts}
+use mathlib.Core.Bool.{true, false}
+use mathlib.Core.List.{map}
 use lib.ListN.{take, drop}
 use lib.Seq.{take-at, drop-at}
 use Rattle.days.specs.declared.Day.{Day}
+use Rattle.days.specs.Days.{day}
+use Rattle.lists.specs.Count.{All}
 use Rattle.faults.specs.declared.Fault.{Fault}
 use Rattle.calendar.specs.declared.Date.{Date}
 use Rattle.calendar.specs.declared.YearlyDate.{YearlyDate}
@@ -13,9 +17,13 @@ use Rattle.calendar.specs.declared.WhichDate.{WhichDate}
 use Rattle.calendar.specs.declared.WhichDate.the-variants as which-date
 use Rattle.calendar.specs.declared.WhichDay.{WhichDay}
 use Rattle.calendar.specs.declared.WhichDay.the-variants as which-day
+use Rattle.calendar.specs.declared.Listed.{Listed}
 use Rattle.calendar.specs.declared.Listed.the-variants as listed
-use Rattle.calendar.specs.Yearly.{yearlyDays}
-use Rattle.calendar.proofs.Answers.{day-and-back, date-and-back, listed-front, refused-kept}
+use Rattle.calendar.specs.Numbers.{dateOf, lastDay}
+use Rattle.calendar.specs.Yearly.{years, noEdition, leapDay, onLeapDay, yearlyDays, gaps, YearGap, LeapGap}
+use Rattle.calendar.specs.Said.{refused, listedSays}
+use Rattle.calendar.proofs.Answers.{day-and-back, date-and-back, yearly-no-edition, listed-front, listed-exists, refused-kept, answers-agree}
+use Rattle.calendar.proofs.Gaps.{edition-2-gaps, edition-1-leap-gaps, edition-2-every-year}
 use Rattle.calendar.proofs.Texts.{dateWriting-is}
 use Rattle.calendar.proofs.RoundTrip.{date-read-exists, date-written-back}
 use Rattle.calendar.proofs.Date.from_day.Reads as Date-from-day
@@ -47,19 +55,52 @@ text-there-and-back κs μs text d e f r h g =
 
 -- ---- Yearly tests
 
-module _ (κs : Lfts 1) (t : YearlyDate) (first last : Day) (list : _) (e : _) where
+module _ (κs : Lfts 1) (t : YearlyDate) (ed : ℕ) (first last : Day) (list : _) (e : _) where
   -- the places that count as listed hold exactly the days on which the test falls, rising; the later places are as they were
-  pub yearly-places : (n : ℕ) → yearly.Learnt κs (t, (first, (last, (list, tt)))) (listed.Days n) e
-      → (take n (e .1 .1 .1 .0 .now) ≡ yearlyDays t (first .0) (last .0)) × (drop n (e .1 .1 .1 .0 .now) ≡ drop n (list .now))
+  pub yearly-places : (n : ℕ) → yearly.Learnt κs (t, (ed, (first, (last, (list, tt))))) (listed.Days n) e
+      → (take n (e .1 .1 .1 .1 .0 .now) ≡ yearlyDays ed t (first .0) (last .0)) × (drop n (e .1 .1 .1 .1 .0 .now) ≡ drop n (list .now))
   yearly-places n h =
-      let days = yearlyDays t (first .0) (last .0) in
-      let front = listed-front t (first .0) (last .0) (list .now) n (sym (h .0)) in
+      let days = yearlyDays ed t (first .0) (last .0) in
+      let front = listed-front ed t (first .0) (last .0) (list .now) n (sym (h .0)) in
       let after = h .1 ∙ front .1 in (
         ap (take n) after ∙ take-at days (drop n (list .now)) n (sym (front .0)),
         ap (drop n) after ∙ drop-at days (drop n (list .now)) n (sym (front .0)),
       )
 
   -- a refusal leaves the list as it was
-  pub yearly-refusal-keeps : (f : Fault) (at : ℕ) → yearly.Learnt κs (t, (first, (last, (list, tt)))) (listed.Refused f at) e
-      → e .1 .1 .1 .0 .now ≡ list .now
-  yearly-refusal-keeps f at h = h .1 ∙ refused-kept t (first .0) (last .0) (list .now) f at (sym (h .0))
+  pub yearly-refusal-keeps : (f : Fault) (at : ℕ) → yearly.Learnt κs (t, (ed, (first, (last, (list, tt))))) (listed.Refused f at) e
+      → e .1 .1 .1 .1 .0 .now ≡ list .now
+  yearly-refusal-keeps f at h = h .1 ∙ refused-kept ed t (first .0) (last .0) (list .now) f at (sym (h .0))
+
+  -- 11 for an edition that is neither 1 nor 2, whatever the dates and the room
+  pub yearly-eleven : (r : Listed) → noEdition ed ≡ true → yearly.Learnt κs (t, (ed, (first, (last, (list, tt))))) r e
+      → (listedSays r ≡ refused 11 0) × (e .1 .1 .1 .1 .0 .now ≡ list .now)
+  yearly-eleven r other h =
+      let no = yearly-no-edition ed t (first .0) (last .0) (list .now) other in
+      (ap listedSays (h .0 ∙ no .0), h .1 ∙ no .1)
+
+module _ (κs : Lfts 1) (t : YearlyDate) (first last : Day) (list : _) (e : _) (n : ℕ) where
+  -- the days that were listed by edition 2 are 365 or 366 apart
+  pub yearly-gaps : yearly.Learnt κs (t, (2, (first, (last, (list, tt))))) (listed.Days n) e
+      → All YearGap (gaps (take n (e .1 .1 .1 .1 .0 .now)))
+  yearly-gaps h = rw (yearly-places κs t 2 first last list e n h .0) (edition-2-gaps t (first .0) (last .0))
+
+  -- those of 29 February by edition 1 are 1,461 or 2,921 apart
+  pub yearly-leap-gaps : yearly.Learnt κs (leapDay, (1, (first, (last, (list, tt))))) (listed.Days n) e
+      → All LeapGap (gaps (take n (e .1 .1 .1 .1 .0 .now)))
+  yearly-leap-gaps h = rw (yearly-places κs leapDay 1 first last list e n h .0) (edition-1-leap-gaps (first .0) (last .0))
+
+  -- all days of an edition 2 test: one in each year
+  pub yearly-every-year : yearly.Learnt κs (t, (2, (day 0, (day lastDay, (list, tt))))) (listed.Days n) e
+      → map (λ k. dateOf k .year) (take n (e .1 .1 .1 .1 .0 .now)) ≡ years
+  yearly-every-year h =
+      let places = yearly-places κs t 2 (day 0) (day lastDay) list e n h .0 in
+      rw places (edition-2-every-year t (listed-exists 2 t 0 lastDay (list .now) n (sym (h .0))))
+
+-- of every other date the two editions answer the same, and leave the same in the same list
+pub yearly-editions-agree : (κs : Lfts 1) (t : YearlyDate) (first last : Day) (list : _) (e f : _) (r s : Listed) → onLeapDay t ≡ false
+    → yearly.Learnt κs (t, (1, (first, (last, (list, tt))))) r e → yearly.Learnt κs (t, (2, (first, (last, (list, tt))))) s f
+    → (r ≡ s) × (e .1 .1 .1 .1 .0 .now ≡ f .1 .1 .1 .1 .0 .now)
+yearly-editions-agree κs t first last list e f r s other h k =
+    let same = answers-agree t other (first .0) (last .0) (list .now) in
+    (h .0 ∙ same .0 ∙ sym (k .0), h .1 ∙ same .1 ∙ sym (k .1))

@@ -19,6 +19,7 @@ use Rattle.calendar.specs.declared.WhichDate.{WhichDate}
 use Rattle.calendar.specs.declared.WhichDay.{WhichDay}
 use Rattle.calendar.specs.declared.WhichWeekday.{WhichWeekday}
 use Rattle.calendar.specs.declared.WhichYearly.{WhichYearly}
+use Rattle.calendar.specs.declared.WhichEdition.{WhichEdition}
 use Rattle.calendar.specs.declared.Listed.{Listed}
 use Rattle.calendar.specs.declared.DateText.{DateText}
 use Rattle.calendar.specs.declared.YearlyText.{YearlyText}
@@ -36,6 +37,7 @@ use Rattle.calendar.proofs.date_read.Reads as date-read
 use Rattle.calendar.proofs.day_read.Reads as day-read
 use Rattle.calendar.proofs.date_text.Reads as date-text
 use Rattle.calendar.proofs.yearly_read.Reads as yearly-read
+use Rattle.calendar.proofs.edition_read.Reads as edition-read
 use Rattle.calendar.proofs.yearly_text.Reads as yearly-text
 use mathlib.Core.List.{List}
 use Rattle.days.specs.declared.Length.{Length}
@@ -101,7 +103,7 @@ pub one-Date-weekday : (κs : Lfts 0) (a : _) (e f : _) (r s : WhichWeekday) →
 one-Date-weekday κs a e f r s h k = h ∙ sym k
 
 pub one-yearly : (κs : Lfts 1) (a : _) (e f : _) (r s : Listed) → yearly.Learnt κs a r e → yearly.Learnt κs a s f
-    → (r ≡ s) × (e .1 .1 .1 .0 .now ≡ f .1 .1 .1 .0 .now)
+    → (r ≡ s) × (e .1 .1 .1 .1 .0 .now ≡ f .1 .1 .1 .1 .0 .now)
 one-yearly κs a e f r s h k = (h .0 ∙ sym (k .0), h .1 ∙ sym (k .1))
 
 pub one-date-read : (κs : Lfts 1) (a : _) (e f : _) (r s : WhichDate) → date-read.Learnt κs a r e → date-read.Learnt κs a s f
@@ -118,6 +120,10 @@ one-date-text κs a e f r s h k = h ∙ sym k
 pub one-yearly-read : (κs : Lfts 1) (a : _) (e f : _) (r s : WhichYearly) → yearly-read.Learnt κs a r e → yearly-read.Learnt κs a s f
     → (r ≡ s) × (e .0 .now ≡ f .0 .now)
 one-yearly-read κs a e f r s h k = (h .0 ∙ sym (k .0), h .1 ∙ sym (k .1))
+
+pub one-edition-read : (κs : Lfts 1) (a : _) (e f : _) (r s : WhichEdition) → edition-read.Learnt κs a r e → edition-read.Learnt κs a s f
+    → (r ≡ s) × (e .0 .now ≡ f .0 .now)
+one-edition-read κs a e f r s h k = (h .0 ∙ sym (k .0), h .1 ∙ sym (k .1))
 
 pub one-yearly-text : (κs : Lfts 0) (a : _) (e f : _) (r s : YearlyText) → yearly-text.Learnt κs a r e → yearly-text.Learnt κs a s f → r ≡ s
 one-yearly-text κs a e f r s h k = h ∙ sym k

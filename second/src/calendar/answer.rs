@@ -11,6 +11,7 @@ pub struct Calendar {
 }
 
 const NO_SUCH_DATE: &str = "refused 10 line 0\n";
+const NO_SUCH_EDITION: &str = "refused 11 line 0\n";
 
 impl Calendar {
     pub fn new() -> Calendar {
@@ -30,7 +31,9 @@ impl Calendar {
         let lines = match words {
             [word, text] if word == "date" => self.date(text),
             [word, text] if word == "day" => self.day(text),
-            [word, on, first, last] if word == "yearly" => self.yearly(on, first, last),
+            [word, on, edition, first, last] if word == "yearly" => {
+                self.yearly(on, edition, first, last)
+            }
             _ => None,
         };
         lines.unwrap_or_else(|| NO_SUCH_DATE.to_string())
@@ -46,13 +49,25 @@ impl Calendar {
         Some(line(sheet))
     }
 
-    /// Edition 1: the sheets between the two that show the month and the day.
-    fn yearly(&self, on: &str, first: &str, last: &str) -> Option<String> {
+    fn yearly(&self, on: &str, edition: &str, first: &str, last: &str) -> Option<String> {
+        if edition != "1" && edition != "2" {
+            return Some(NO_SUCH_EDITION.to_string());
+        }
         self.sheets.iter().find(|sheet| sheet.yearly_text() == on)?;
         let (first, last) = (*self.by_text.get(first)?, *self.by_text.get(last)?);
-        let between = self.sheets.iter().take(last + 1).skip(first);
-        let falls = between.filter(|sheet| sheet.yearly_text() == on);
-        Some(falls.map(line).collect())
+        let days = first..(last + 1).max(first);
+        let falls = days.filter(|day| self.falls(on, edition, *day));
+        Some(falls.map(|day| line(&self.sheets[day])).collect())
+    }
+
+    /// Edition 1: the sheet shows the month and the day. Edition 2 does a test of 29 February on a 28 February that the 1st of March follows.
+    pub fn falls(&self, on: &str, edition: &str, day: usize) -> bool {
+        let shows = |day: usize, text: &str| match self.sheets.get(day) {
+            Some(sheet) => sheet.yearly_text() == text,
+            None => false,
+        };
+        let moved = edition == "2" && on == "02-29";
+        shows(day, on) || moved && shows(day, "02-28") && shows(day + 1, "03-01")
     }
 }
 

@@ -1,4 +1,4 @@
-//! The calendar of document 02, W-203, by tearing off one sheet after the other from 1 January 2000 on.
+//! The calendar of document 02, W-203 and W-206, by tearing off one sheet after the other from 1 January 2000 on.
 //! Nothing is computed from a date or a day number: every answer is looked up among the sheets.
 
 pub mod answer;

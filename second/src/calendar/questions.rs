@@ -25,6 +25,8 @@ const BAD_DATES: [&str; 16] = [
 const BAD_YEARLY: [&str; 9] = [
     "02-30", "13-01", "00-01", "01-00", "04-31", "2-29", "02-9", "0229", "ab-cd",
 ];
+/// An edition is one digit, 1 or 2.
+const BAD_EDITIONS: [&str; 8] = ["0", "3", "9", "a", "", "01", "12", "-1"];
 const BAD_DAYS: [&str; 8] = [
     "146097",
     "0366",
@@ -61,12 +63,13 @@ pub fn question(calendar: &Calendar, chance: &mut Chance) -> Vec<String> {
 /// Mostly with the days in order. Texts of dates are in order as the dates are.
 fn yearly_question(calendar: &Calendar, chance: &mut Chance) -> Vec<String> {
     let on = yearly(calendar, chance);
+    let edition = edition(chance);
     let mut days = [date(calendar, chance), date(calendar, chance)];
     if !chance.one_in(8) {
         days.sort();
     }
     let [first, last] = days;
-    vec!["yearly".to_string(), on, first, last]
+    vec!["yearly".to_string(), on, edition, first, last]
 }
 
 fn date(calendar: &Calendar, chance: &mut Chance) -> String {
@@ -84,6 +87,13 @@ fn day(calendar: &Calendar, chance: &mut Chance) -> String {
         return chance.pick(&BAD_DAYS).to_string();
     }
     chance.index(calendar.sheets.len()).to_string()
+}
+
+fn edition(chance: &mut Chance) -> String {
+    if chance.one_in(8) {
+        return chance.pick(&BAD_EDITIONS).to_string();
+    }
+    chance.pick(&["1", "2"]).to_string()
 }
 
 fn yearly(calendar: &Calendar, chance: &mut Chance) -> String {

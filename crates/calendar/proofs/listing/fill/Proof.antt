@@ -12,10 +12,11 @@ use Rattle.calendar.proofs.listing.fill.Statement.{statement}
 use Rattle.calendar.proofs.listing.fill.Tie as tie
 
 abbrev Inv-loop : tie.InvT-loop
-Inv-loop on first last list₀ end k₀ at₀ list k at = (k ≤ 400) × Stored (yearlyDays on first last) (leftFrom on first last k) list₀ list at
+Inv-loop on edition first last list₀ end k₀ at₀ list k at =
+    (k ≤ 400) × Stored (yearlyDays edition on first last) (leftFrom edition on first last k) list₀ list at
 
 abbrev μ-loop : tie.MeasureT-loop
-μ-loop on first last list₀ end k₀ at₀ list k at = end + 1 - k
+μ-loop on edition first last list₀ end k₀ at₀ list k at = end + 1 - k
 
 in-year-requires : tie.Need-in-year-requires Inv-loop μ-loop
 in-year-requires c κs = c .before .pre .0 .1
@@ -27,7 +28,7 @@ loop-holds : tie.Need-loop-holds Inv-loop μ-loop
 loop-holds c =
     let g = c .before .before .before .args in
     let year = c .in-year2 .ensures in
-    (omega (arith, year .last), stored-start _ _ (g .list .now) (left-start (g .on) (g .first) (g .last) _ _ year))
+    (omega (arith, year .last), stored-start _ _ (g .list .now) (left-start (g .edition) (g .on) (g .first) (g .last) _ _ year))
 
 fall-in-requires : tie.Need-fall-in-requires Inv-loop μ-loop
 fall-in-requires c κs = omega (arith, c .before .before .before .in-year .ensures .last)
@@ -37,16 +38,17 @@ abbrev later : (c : tie.After-fall-in Inv-loop μ-loop) → List ℕ
 later c =
     let at = c .before .before in
     let g = at .before .before .before .before .args in
-    leftFrom (g .on) (g .first) (g .last) (at .loop .k + 1)
+    leftFrom (g .edition) (g .on) (g .first) (g .last) (at .loop .k + 1)
 
 -- what is left, with the year's day in front
 parts : (c : tie.After-fall-in Inv-loop μ-loop) → let at = c .before .before in let g = at .before .before .before .before .args in
-    leftFrom (g .on) (g .first) (g .last) (at .loop .k) ≡ fallDays (c .fall-in .result) ++ later c
+    leftFrom (g .edition) (g .on) (g .first) (g .last) (at .loop .k) ≡ fallDays (c .fall-in .result) ++ later c
 parts c =
     let at = c .before .before in
     let g = at .before .before .before .before .args in
     let last = at .before .before .in-year .ensures .last in
-    left-next (g .on) (g .first) (g .last) (at .loop .k) (omega arith) ∙ ap (λ days. days ++ later c) (sym (c .fall-in .ensures))
+    left-next (g .edition) (g .on) (g .first) (g .last) (at .loop .k) (omega arith)
+    ∙ ap (λ days. days ++ later c) (sym (c .fall-in .ensures))
 
 room : (c : tie.After-fall-in Inv-loop μ-loop) → let at = c .before .before in
     at .loop .at + length (fallDays (c .fall-in .result)) ≤ length (at .loop .list)
@@ -80,7 +82,7 @@ returns c =
     let at = c .before in
     let g = at .before .before .before .before .args in
     stored-end _ _ _ _ _ (at .loop .inv .1)
-    (left-end (g .on) (g .first) (g .last) _ _ (at .loop .k) (at .before .before .in-year .ensures) (c .loop-test .left))
+    (left-end (g .edition) (g .on) (g .first) (g .last) _ _ (at .loop .k) (at .before .before .in-year .ensures) (c .loop-test .left))
 
 pub fill-spec : {M : Type 1} → statement M
 fill-spec =
