@@ -17,6 +17,7 @@ typedef struct { uint32_t n, a, run; String s[10]; } Plan;
 uint64_t entry_multiple(size_t n, const uint32_t *numbers, size_t count);
 uint64_t entry_check(size_t n, const uint32_t *numbers, size_t count);
 uint64_t entry_verdict(size_t n, const uint32_t *numbers, size_t count);
+uint64_t entry_quick(size_t n, const uint32_t *numbers, size_t count);
 uint64_t entry_search(size_t n, const uint32_t *numbers, size_t count);
 
 static uint32_t gcd(uint32_t a, uint32_t b) { while (b) { uint32_t r = a % b; a = b; b = r; } return a; }
@@ -131,6 +132,46 @@ static void clocked(const char *name, const Plan *p, int searching) {
         best[2] / best[0], best[1] * 1e3, best[2] / best[1], said[0] == said[2] && said[1] == said[2] ? "same" : "DIFFERENT");
 }
 
+// The quick verdict by its definition: a pair counts where some string's count is larger than one interval earlier, with the blocking held.
+static uint32_t count_at(const String *s, uint32_t l, uint32_t b) { return s->x ? l < b ? 0 : jobs(s, l - b) : jobs(s, l); }
+
+static uint64_t peer_quick(const Plan *p) {
+    if (!lawful(p)) return 0;
+    uint32_t h = multiple(p), load = 0, first = p->s[0].d, last = 0, pairs = 0;
+    for (uint32_t i = 0; i < p->n; i++) {
+        const String *s = &p->s[i];
+        load += hold(p, s) * (h / s->t);
+        if (s->d < first) first = s->d;
+        if (s->d > last) last = s->d;
+    }
+    if (h < load) return 1;
+    for (uint32_t l = 1; l < last + h; l++)
+        for (uint32_t b = 0; b <= limit(p, first, last, l); b++) {
+            int grows = 0;
+            for (uint32_t i = 0; i < p->n; i++) grows |= count_at(&p->s[i], l - 1, b) < count_at(&p->s[i], l, b);
+            pairs += grows;
+            if (grows && l < demand(p, l, b)) return (uint64_t)pairs * 4 + 2;
+        }
+    return (uint64_t)pairs * 4 + 3;
+}
+
+// the quick verdict beside the full one, ours both; small plans many times in a row
+static void clocked_quick(const char *name, const Plan *p, int times) {
+    uint32_t v[43];
+    numbers_of(p, v);
+    double best[2] = {1e9, 1e9};
+    uint64_t said[2] = {0};
+    for (int round = 0; round < 15; round++)
+        for (int who = 0; who < 2; who++) {
+            double start = now();
+            for (int k = 0; k < times; k++) said[who] = who ? entry_quick(p->n, v, 43) : entry_verdict(p->n, v, 43);
+            double spent = (now() - start) / times;
+            if (spent < best[who]) best[who] = spent;
+        }
+    printf("%-30s quick %8.4f ms  full %8.4f (ratio %5.3f)  H %u, pairs %lu of %lu  %s\n", name, best[1] * 1e3, best[0] * 1e3, best[1] / best[0],
+        multiple(p), said[1] / 4, said[0] / 4, said[1] == peer_quick(p) && said[0] % 4 == said[1] % 4 ? "same" : "DIFFERENT");
+}
+
 // a check is too short for the clock: 1,000 in a row. Both sides make a plan of the numbers
 enum { CHECKS = 1000 };
 
@@ -193,7 +234,7 @@ static void random_plans(int count) {
         }
         numbers_of(&p, v);
         uint64_t a = peer_verdict(&p), b = entry_verdict(p.n, v, 43);
-        bad += a != b || peer_search(&p) != entry_search(p.n, v, 43);
+        bad += a != b || peer_search(&p) != entry_search(p.n, v, 43) || peer_quick(&p) != entry_quick(p.n, v, 43);
         kinds[a % 4]++;
     }
     printf("%d random plans: %d differ (refused %d, overload %d, fail %d, pass %d)\n", count, bad, kinds[0], kinds[1], kinds[2], kinds[3]);
@@ -227,5 +268,20 @@ int main(void) {
     Plan worked = {10, 5, 1000, {{1000, 400, 1000, 0}, {768, 60, 391, 0}, {1000, 60, 392, 0}, {1000, 60, 393, 0}, {1000, 60, 394, 0}, {1000, 60, 395, 0},
         {960, 60, 396, 0}, {960, 60, 397, 0}, {960, 60, 398, 0}, {960, 60, 399, 0}}};
     clocked("search, none by work alone", &worked, 1);
+    // steps on most days: ten short periods
+    Plan dense = {10, 0, 1000, {{7, 1, 7, 0}, {9, 1, 9, 0}, {11, 1, 11, 1}, {16, 1, 16, 0}, {20, 1, 20, 1}, {22, 1, 22, 0}, {24, 1, 24, 0}, {28, 1, 28, 1},
+        {30, 1, 30, 0}, {33, 1, 33, 0}}};
+    // the page's periods
+    Plan page = {4, 1, 1000, {{7, 1, 7, 0}, {30, 2, 20, 1}, {90, 5, 60, 0}, {365, 10, 300, 0}}};
+    Plan first = {2, 1, 20, {{10, 3, 5, 1}, {10, 5, 10, 0}}};
+    Plan fails = {3, 5, 20, {{100, 3, 6, 0}, {100, 1, 12, 1}, {100, 2, 50, 0}}};
+    Plan daily = {1, 0, 20, {{1, 1, 1, 0}}};
+    clocked_quick("quick, 590,000 pairs", &blocked, 1);
+    clocked_quick("quick, no taker", &kept, 1);
+    clocked_quick("quick, steps on most days", &dense, 1);
+    clocked_quick("quick, periods 7 30 90 365", &page, 1);
+    clocked_quick("quick, P1", &first, 1000);
+    clocked_quick("quick, P5", &fails, 1000);
+    clocked_quick("quick, P10", &daily, 1000);
     return 0;
 }

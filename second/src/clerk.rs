@@ -1,11 +1,11 @@
-//! One batch of the clerk: making its files, asking to save them, and comparing what is written.
+//! One batch of the clerk: making its files, asking about them, and comparing what is written.
 
 use crate::chance::Chance;
 use crate::complaints;
-use crate::edges::pages;
-use crate::mix::{make, KINDS};
-use crate::options::Comparison;
-use crate::saving::{into_page, saved, written, Saved};
+use crate::mix::KINDS;
+use crate::options::{Comparison, Subject};
+use crate::questions;
+use crate::saving::written;
 use crate::stop::Stop;
 use crate::tally::Tally;
 use std::env;
@@ -31,6 +31,7 @@ struct Question {
 pub fn compare_batch(
     job: &Comparison,
     clerk: &Path,
+    subject: Subject,
     folder: &Path,
     files: Range<u64>,
 ) -> Result<Tally, Stop> {
@@ -41,7 +42,7 @@ pub fn compare_batch(
     let begin = Instant::now();
     let mut questions = Vec::new();
     for file in files.clone() {
-        questions.extend(prepare(job, folder, file, &mut tally)?);
+        questions.extend(prepare(job, subject, folder, file, &mut tally)?);
     }
     tally.own = begin.elapsed();
     let begin = Instant::now();
@@ -64,40 +65,33 @@ fn path(folder: &Path, file: u64) -> PathBuf {
     folder.join(name(file))
 }
 
-/// Makes and writes one file, and asks about it alone and in pages. A lawful file is the one text of its plan.
+/// Makes and writes one file, and asks about it.
 fn prepare(
     job: &Comparison,
+    subject: Subject,
     folder: &Path,
     file: u64,
     tally: &mut Tally,
 ) -> Result<Vec<Question>, Stop> {
-    let made = make(job.seed, file);
+    let made = questions::file(subject, job.seed, file);
     let kind = KINDS[made.kind].name;
-    fs::write(path(folder, file), &made.text)?;
-    let whole = saved(&made.text);
-    if whole.as_ref().map_or(false, |text| *text != made.text) {
-        let what = "a plan has another text";
-        return Err(Stop::found(job, file, kind, &path(folder, file), what, ""));
-    }
+    let path = path(folder, file);
+    fs::write(&path, &made.text)?;
     tally.count_file(made.kind);
-    let mut ask = |command: String, answer: Saved| {
-        tally.count_saved(&answer);
+    // a sequence of its own, so that the questions do not follow from how the file was made
+    let mut chance = Chance::new(!job.seed, file);
+    let asked = questions::about(subject, &mut chance, &made.text, &name(file))
+        .map_err(|what| Stop::found(job, file, kind, &path, what, ""))?;
+    let question = |one: questions::Asked| {
+        tally.count_saved(&one.answer);
         Question {
             file,
             kind,
-            command,
-            answer: written(answer),
+            command: one.command,
+            answer: written(one.answer),
         }
     };
-    let name = name(file);
-    // a sequence of its own, so that the pages do not follow from how the file was made
-    let mut chance = Chance::new(!job.seed, file);
-    let mut questions = vec![ask(format!("save {name}"), whole.clone())];
-    questions.extend(pages(&mut chance, &whole).into_iter().map(|page| {
-        let command = format!("save {name} {} {}", page.size, page.place);
-        ask(command, into_page(&whole, page))
-    }));
-    Ok(questions)
+    Ok(asked.into_iter().map(question).collect())
 }
 
 /// Many questions to a start.

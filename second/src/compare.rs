@@ -70,7 +70,7 @@ fn work(job: &Comparison, folder: &Path, board: &Board) {
         let files = first..job.files.min(first + job.batch);
         let compared = match &job.program {
             Program::Desk(desk) => batch::compare_batch(job, desk, folder, files),
-            Program::Clerk(clerk) => clerk::compare_batch(job, clerk, folder, files),
+            Program::Clerk(clerk, about) => clerk::compare_batch(job, clerk, *about, folder, files),
         };
         match compared {
             Ok(tally) => board.results().tally.add(&tally),

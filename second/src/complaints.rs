@@ -5,7 +5,7 @@ use crate::stop::Stop;
 use std::path::Path;
 
 /// The words of a start, and what has to be said. There is no file of these names.
-const COMPLAINTS: [(&[&str], &str); 12] = [
+const COMPLAINTS: [(&[&str], &str); 15] = [
     (&[], "no word; clerk help lists them"),
     (&["xyz"], "no word xyz; clerk help lists them"),
     (&["xyz", "x.plan"], "no word xyz; clerk help lists them"),
@@ -29,6 +29,9 @@ const COMPLAINTS: [(&[&str], &str); 12] = [
         &["save", "x.plan", "9", "18446744073709551616"],
         "18446744073709551616 is no place in a page: 0 or more",
     ),
+    (&["quick"], "quick FILE"),
+    (&["quick", "x.plan", "7"], "quick FILE"),
+    (&["quick", "x.plan"], "cannot read x.plan"),
     (&["each", "x"], "cannot read x"),
 ];
 

@@ -12,6 +12,7 @@ mod faults;
 mod mix;
 mod options;
 mod plans;
+mod questions;
 mod rules;
 mod saving;
 mod selftest;

@@ -79,6 +79,33 @@ pub fn make(seed: u64, file: u64) -> Made {
     Made { kind, text }
 }
 
+/// Kinds at the border between pass and fail, as often as they stand here.
+const AT_THE_BORDER: [&str; 10] = [
+    "border",
+    "border",
+    "border",
+    "border",
+    "border",
+    "load about H",
+    "choice of permissions",
+    "permissions matter",
+    "equal deadlines",
+    "late fail",
+];
+
+/// The file of this number under this seed, most often at the border; one in twenty is of any kind.
+pub fn make_at_the_border(seed: u64, file: u64) -> Made {
+    if file % 20 == 19 {
+        return make(seed, file);
+    }
+    let mut chance = Chance::new(seed, file);
+    let name = chance.pick(&AT_THE_BORDER);
+    let named = KINDS.iter().position(|kind| kind.name == name);
+    let kind = named.expect("every kind at the border is in the table");
+    let text = (KINDS[kind].make)(&mut chance, file);
+    Made { kind, text }
+}
+
 fn kind_and_turn(file: u64) -> (usize, u64) {
     let mut place = file * STRIDE % ROUND;
     let mut at = 0;

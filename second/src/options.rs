@@ -6,7 +6,7 @@ use std::str::FromStr;
 
 pub const USAGE: &str =
     "usage: second --desk PATH [--files N] [--seed S] [--batch B] [--keep DIR] [--tally]
-       second --clerk PATH [--files N] [--seed S] [--batch B] [--keep DIR] [--tally]
+       second --clerk PATH [--about save|quick] [--files N] [--seed S] [--batch B] [--keep DIR] [--tally]
        second --answer FILE
        second --calendar
        second --dates [--ask CLERK] [--questions N] [--seed S]
@@ -23,7 +23,28 @@ pub enum Task {
 /// The program that is compared with this one.
 pub enum Program {
     Desk(PathBuf),
-    Clerk(PathBuf),
+    Clerk(PathBuf, Subject),
+}
+
+/// What the clerk is asked about.
+#[derive(Clone, Copy)]
+pub enum Subject {
+    /// Plans written back.
+    Save,
+    /// Quick verdicts.
+    Quick,
+}
+
+impl FromStr for Subject {
+    type Err = ();
+
+    fn from_str(word: &str) -> Result<Subject, ()> {
+        match word {
+            "save" => Ok(Subject::Save),
+            "quick" => Ok(Subject::Quick),
+            _ => Err(()),
+        }
+    }
 }
 
 pub struct Comparison {
@@ -47,7 +68,7 @@ impl Comparison {
 
 /// Reads the arguments; nothing if they ask for no task or have a word too many.
 pub fn task(mut words: impl Iterator<Item = String>) -> Option<Task> {
-    let mut program = None;
+    let (mut desk, mut clerk, mut about) = (None, None, Subject::Save);
     let (mut files, mut seed, mut batch) = (50_000, 1, 200);
     let (mut keep, mut tally) = (None, false);
     while let Some(word) = words.next() {
@@ -56,8 +77,9 @@ pub fn task(mut words: impl Iterator<Item = String>) -> Option<Task> {
             "--selftest" => return Some(Task::Selftest),
             "--calendar" => return Some(Task::Calendar),
             "--dates" => return asked(words).map(Task::Dates),
-            "--desk" => program = Some(Program::Desk(value(&mut words)?)),
-            "--clerk" => program = Some(Program::Clerk(value(&mut words)?)),
+            "--desk" => desk = Some(value(&mut words)?),
+            "--clerk" => clerk = Some(value(&mut words)?),
+            "--about" => about = value(&mut words)?,
             "--files" => files = value(&mut words)?,
             "--seed" => seed = value(&mut words)?,
             "--batch" => batch = value(&mut words)?,
@@ -69,8 +91,13 @@ pub fn task(mut words: impl Iterator<Item = String>) -> Option<Task> {
     if files == 0 || batch == 0 {
         return None;
     }
+    let program = match (desk, clerk) {
+        (Some(desk), None) => Program::Desk(desk),
+        (None, Some(clerk)) => Program::Clerk(clerk, about),
+        _ => return None,
+    };
     Some(Task::Compare(Comparison {
-        program: program?,
+        program,
         files,
         seed,
         batch,

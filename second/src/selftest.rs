@@ -4,6 +4,7 @@ use crate::calendar::answer::Calendar;
 use crate::rules::answer::Answer;
 use crate::rules::frames::{read, Refusal};
 use crate::rules::plan::{BatteryString, Plan, Release};
+use crate::rules::quick::quick;
 use crate::rules::rule::{verdict, Verdict};
 use crate::rules::run::{run, Outcome};
 use crate::rules::search::search;
@@ -14,6 +15,7 @@ use crate::writing;
 pub fn wrong_cases() -> Vec<&'static str> {
     let cases = [
         verdicts(),
+        quick_verdicts(),
         searches(),
         runs(),
         readings(),
@@ -56,16 +58,20 @@ fn verdict_with(plan: &Plan, set: u32) -> Option<Verdict> {
     Some(verdict(&plan.with_set(set), plan.cycle()?))
 }
 
+fn pass(pairs: u64) -> Option<Verdict> {
+    Some(Verdict::Pass { pairs })
+}
+
+fn fail(interval: u64, blocking: u64, demand: u64, pairs: u64) -> Option<Verdict> {
+    Some(Verdict::Fail {
+        interval,
+        blocking,
+        demand,
+        pairs,
+    })
+}
+
 fn verdicts() -> Cases {
-    let pass = |pairs| Some(Verdict::Pass { pairs });
-    let fail = |interval, blocking, demand, pairs| {
-        Some(Verdict::Fail {
-            interval,
-            blocking,
-            demand,
-            pairs,
-        })
-    };
     let single = plan(&[(2, 2, 2)], 1);
     let daily = plan(&[(1, 1, 1)], 0);
     vec![
@@ -79,6 +85,27 @@ fn verdicts() -> Cases {
         ),
         ("P9 set 0", verdict_with(&single, 0) == pass(3)),
         ("P10", verdict_with(&daily, 0) == pass(1)),
+    ]
+}
+
+/// The counts were found by hand: the days on which a count steps, for each blocking.
+fn quick_verdicts() -> Cases {
+    let quick_with = |plan: &Plan, set| plan.cycle().map(|cycle| quick(&plan.with_set(set), cycle));
+    let single = plan(&[(2, 2, 2)], 1);
+    let over = Some(Verdict::Overload);
+    vec![
+        ("quick P1", quick_with(&two_strings(), 1) == pass(7)),
+        ("quick P2", quick_with(&two_strings(), 3) == pass(7)),
+        (
+            "quick P3",
+            quick_with(&two_strings(), 0) == fail(5, 3, 6, 4),
+        ),
+        (
+            "quick P5",
+            quick_with(&three_strings(), 2) == fail(6, 4, 7, 5),
+        ),
+        ("quick P9 set 1", quick_with(&single, 1) == over),
+        ("quick P9 set 0", quick_with(&single, 0) == pass(1)),
     ]
 }
 

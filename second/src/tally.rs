@@ -13,7 +13,7 @@ pub struct Tally {
     kinds: [u64; KINDS.len()],
     /// By refusal number; the first is not used.
     refused: [u64; 10],
-    /// Texts and pages that the clerk has to write.
+    /// Texts, pages and lines that the clerk has to write.
     saved: u64,
     overload: u64,
     fail: u64,
@@ -122,7 +122,7 @@ impl fmt::Display for Tally {
             writeln!(out, "{count:7} refused {number}")?;
         }
         if self.saved > 0 {
-            writeln!(out, "{:7} saved", self.saved)?;
+            writeln!(out, "{:7} written", self.saved)?;
         } else {
             self.list_answers(out)?;
         }

@@ -5,6 +5,7 @@ mod dates;
 mod each;
 mod files;
 mod plans;
+mod quick;
 mod save;
 mod say;
 mod words;

@@ -20,7 +20,7 @@ use Rattle.rules.specs.declared.Verdict.the-variants.{Overload, Fail, Pass}
 use Rattle.lists.specs.Count.{upFrom, firstOf}
 use Rattle.rules.specs.Plan.{multipleOf, dMax}
 use Rattle.rules.specs.Demand.{blockLimit, demand, overloaded}
-use Rattle.rules.specs.Verdict.{Pair, pairsAt, allPairs, broken, firstBroken, compared, judged, verdictOf}
+use Rattle.rules.specs.Verdict.{Pair, pairsAt, allPairs, broken, firstBroken, compared, judged, verdictOver}
 
 abbrev pub pair : ℕ → ℕ → Pair
 pair l b = record { l = l; b = b }
@@ -54,15 +54,16 @@ unbroken-holds p q e = ltb-false (q .l) (demand p (q .l) (q .b)) e
 
 -- ---- The scan
 
-pub verdictOf-overload : (p : Plan) → overloaded p ≡ true → verdictOf p ≡ Overload
-unfolding verdictOf
-verdictOf-overload p t = rw t
+module _ (p : Plan) (qs : List Pair) where
+  pub verdictOver-overload : overloaded p ≡ true → verdictOver p qs ≡ Overload
+  unfolding verdictOver
+  verdictOver-overload t = rw t
 
-pub verdictOf-scan : (p : Plan) → overloaded p ≡ false → verdictOf p ≡ scanFrom p 0 (allPairs p)
-unfolding verdictOf scanFrom
-verdictOf-scan p e =
-    let from-none : 0 + length (compared p (allPairs p)) ≡ length (compared p (allPairs p)) = omega arith in
-    rw (e, from-none)
+  pub verdictOver-scan : overloaded p ≡ false → verdictOver p qs ≡ scanFrom p 0 qs
+  unfolding verdictOver scanFrom
+  verdictOver-scan e =
+      let from-none : 0 + length (compared p qs) ≡ length (compared p qs) = omega arith in
+      rw (e, from-none)
 
 pub scanFrom-end : (p : Plan) (k : ℕ) → scanFrom p k [] ≡ Pass k
 unfolding scanFrom judged firstOf compared

@@ -15,10 +15,10 @@ use Rattle.rules.specs.declared.Plan.{Plan}
 use Rattle.rules.specs.declared.Verdict.the-variants.{Overload, Fail, Pass}
 use Rattle.rules.specs.Plan.{multipleOf, dMax}
 use Rattle.rules.specs.Demand.{blockLimit, demand, Passes, overloaded}
-use Rattle.rules.specs.Verdict.{Pair, allPairs, broken, firstBroken, compared, judged, verdictOf, isPass}
+use Rattle.rules.specs.Verdict.{Pair, allPairs, broken, firstBroken, compared, judged, verdictOf, verdictOver, isPass}
 use Rattle.lists.proofs.Lists.{by-bool, true-not-false}
 use Rattle.laws.proofs.Lawful.{LawfulPlan}
-use Rattle.horizon.proofs.Pairs.{pair, broken-no, broken-over, unbroken-holds, scanFrom, verdictOf-overload, verdictOf-scan}
+use Rattle.horizon.proofs.Pairs.{pair, broken-no, broken-over, unbroken-holds, scanFrom, verdictOver-overload, verdictOver-scan}
 use Rattle.horizon.proofs.Range.{overload-at-period, range-suffices}
 use Rattle.horizon.proofs.PairList.{Within, Before, all-pairs, pairs-all, pairs-rising}
 use Rattle.lists.proofs.FirstOf.{firstOf-none, firstOf-passes, firstOf-in, firstOf-least}
@@ -60,17 +60,17 @@ judged-fail p (some q) pairs l b d k h =
 module _ (p : Plan) where
   pub pass-not-overloaded : isPass (verdictOf p) ≡ true → overloaded p ≡ false
   pass-not-overloaded h =
-      by-bool (overloaded p) (λ t. absurd (overload-no-pass (sym (ap isPass (verdictOf-overload p t)) ∙ h))) (λ e. e)
+      by-bool (overloaded p) (λ t. absurd (overload-no-pass (sym (ap isPass (verdictOver-overload p (allPairs p) t)) ∙ h))) (λ e. e)
 
   pub pass-none-broken : isPass (verdictOf p) ≡ true → firstBroken p (allPairs p) ≡ none
-  unfolding verdictOf
+  unfolding verdictOver
   pass-none-broken h =
       let light = pass-not-overloaded h in
       judged-pass p (firstBroken p (allPairs p)) (length (compared p (allPairs p))) (rw light at h)
 
   -- a pass counts all pairs
   pub pass-count : isPass (verdictOf p) ≡ true → verdictOf p ≡ Pass (length (allPairs p))
-  unfolding verdictOf judged
+  unfolding verdictOver judged
   pass-count h =
       let light = pass-not-overloaded h in
       let none-is = pass-none-broken h in
@@ -87,7 +87,7 @@ module _ (p : Plan) (ok : LawfulPlan p) where
       whole = pairs-all p (λ q. broken p q ≡ false) (firstOf-none (broken p) (allPairs p) .0 (pass-none-broken p h))
 
   pub passes-pass : Passes p → isPass (verdictOf p) ≡ true
-  unfolding verdictOf judged isPass
+  unfolding verdictOver judged isPass
   passes-pass rule =
       let light : overloaded p ≡ false =
       by-bool (overloaded p)
@@ -142,7 +142,7 @@ module _ (p : Plan) where
           (λ e. unbroken-holds p (pair m c) e)
 
   pub fail-not-overloaded : (l b d : Length) (k : ℕ) → verdictOf p ≡ Fail l b d k → overloaded p ≡ false
-  fail-not-overloaded l b d k h = by-bool (overloaded p) (λ t. absurd (no-fail (sym (verdictOf-overload p t) ∙ h))) (λ e. e)
+  fail-not-overloaded l b d k h = by-bool (overloaded p) (λ t. absurd (no-fail (sym (verdictOver-overload p (allPairs p) t) ∙ h))) (λ e. e)
     where
       no-fail : Overload ≡ Fail l b d k → ⊥
       no-fail e =
@@ -153,7 +153,7 @@ module _ (p : Plan) where
   pub fail-names :
       (l b d : Length) (k : ℕ) → verdictOf p ≡ Fail l b d k
       → FirstBreak p (l .0) (b .0) × (d ≡ days (demand p (l .0) (b .0))) × (k ≡ length (compared p (allPairs p)))
-  unfolding verdictOf
+  unfolding verdictOver
   fail-names l b d k h =
       let light = fail-not-overloaded l b d k h in
       let parts = judged-fail p (firstBroken p (allPairs p)) (length (compared p (allPairs p))) l b d k (rw light at h) in
@@ -184,7 +184,7 @@ module _ (p : Plan) where
   pub break-fails :
       (l b : ℕ) → overloaded p ≡ false → FirstBreak p l b
       → verdictOf p ≡ Fail (days l) (days b) (days (demand p l b)) (length (compared p (allPairs p)))
-  unfolding verdictOf judged
+  unfolding verdictOver judged
   break-fails l b light first =
       let at = found (firstBroken p (allPairs p)) refl in
       rw (light, at)
@@ -203,7 +203,7 @@ module _ (p : Plan) where
 
   -- the verdict is Overload exactly where the plan is overloaded
   pub overload-exactly : (verdictOf p ≡ Overload) ↔ (overloaded p ≡ true)
-  overload-exactly = (overload-only, verdictOf-overload p)
+  overload-exactly = (overload-only, verdictOver-overload p (allPairs p))
     where
       not-judged : (first : Option Pair) (k : ℕ) → judged p first k ≡ Overload → ⊥
       not-judged none k h = unfold judged in
@@ -218,4 +218,4 @@ module _ (p : Plan) where
           by-bool (overloaded p) (λ t. t) (λ e.
           absurd
           (not-judged (firstBroken p (allPairs p)) (0 + length (compared p (allPairs p)))
-          (unfold scanFrom in (sym (verdictOf-scan p e) ∙ h))))
+          (unfold scanFrom in (sym (verdictOver-scan p (allPairs p) e) ∙ h))))

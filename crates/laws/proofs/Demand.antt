@@ -3,7 +3,7 @@ use Prim.Native.Nat.{ℕ, suc, _+_, _-_, _*_, _≤_, _<_, min}
 use mathlib.Core.Path.{_≡_, sym, ap, _∙_}
 use mathlib.Core.Bool.{_&&_}
 use native.Mathlib.Omega.{arith}
-use native.Mathlib.Decide.{ℕ-discrete}
+use native.Mathlib.Decide.{decLe, ℕ-discrete}
 use native.Mathlib.Nat.{mul-one, mul-zero, mul-le-mul}
 use borrow.Author.Tests.{lt-ltb, le-ltb, le-leb, eq-eqb, ne-eqb}
 use lib.Dec.{leb, ltb}
@@ -87,3 +87,11 @@ blockerHold-late p l s h = rw (le-ltb l (s .d .0) h)
 -- a job that blocks has used a day at most before the window
 pub blockerHold-hold : (p : Plan) (l : ℕ) (s : BatteryString) → l < s .d .0 → holdOf p s ≤ suc (blockerHold p l s)
 blockerHold-hold p l s h = omega (arith, blockerHold-early p l s h)
+
+-- a longer interval has no longer blocker
+pub blockerHold-falls : (p : Plan) (l : ℕ) (s : BatteryString) → blockerHold p (suc l) s ≤ blockerHold p l s
+blockerHold-falls p l s =
+    elim (decLe (s .d .0) (suc l)) [
+      | yes late ↦ omega (arith, blockerHold-late p (suc l) s late)
+      | no early ↦ omega (arith, blockerHold-early p (suc l) s (omega arith), blockerHold-early p l s (omega arith))
+    ]

@@ -3,7 +3,7 @@ use Prim.Native.Nat.{ℕ, suc, _+_, _-_, _*_, _/_, _%_, _≤_, _<_}
 use mathlib.Core.Path.{_≡_, ap, _∙_}
 use native.Mathlib.Omega.{arith}
 use native.Mathlib.Decide.{decLe}
-use native.Mathlib.Nat.{div-add-mod', le-div-iff-mul-le, add-mul-div-right, div-mul-le-self}
+use native.Mathlib.Nat.{div-add-mod', le-div-iff-mul-le, add-mul-div-right, div-mul-le-self, mul-le-mul, le-refl, suc-mul}
 use borrow.Author.Tests.{lt-ltb, le-ltb}
 use Rattle.rules.specs.declared.BatteryString.{BatteryString}
 use Rattle.rules.specs.Demand.{jobs}
@@ -54,3 +54,33 @@ jobs-period s h w t whole long =
     let grown : (w + h - s .d .0) / s .t .0 ≡ (w - s .d .0) / s .t .0 + h / s .t .0 =
     ap (λ n. n / s .t .0) split ∙ add-mul-div-right (w - s .d .0) (h / s .t .0) t in
     omega (arith, jobs-from s (w + h) (omega arith), jobs-from s w long)
+
+-- ---- Steps: the count in l days stays until jobs × T + D days, and is one more there
+
+-- a window that is too short for one job more
+jobs-below : (s : BatteryString) (k w : ℕ) → 1 ≤ s .t .0 → w < k * s .t .0 + s .d .0 → jobs s w ≤ k
+jobs-below s k w t h =
+    elim (decLe (jobs s w) k) [
+      | yes few ↦ few
+      | no many ↦
+          elim (decLe (s .d .0) w) [
+            | yes long ↦
+                let more : k ≤ jobs s w - 1 = omega arith in
+                let days : k * s .t .0 ≤ (jobs s w - 1) * s .t .0 = mul-le-mul more (le-refl (s .t .0)) in
+                let over : ⊥ = omega (arith, jobs-last s w t long) in
+                absurd over
+            | no short ↦ omega (arith, jobs-short s w (omega arith))
+          ]
+    ]
+
+pub jobs-step-after : (s : BatteryString) (l : ℕ) → 1 ≤ s .t .0 → l < jobs s l * s .t .0 + s .d .0
+jobs-step-after s l t =
+    elim (decLe (jobs s l * s .t .0 + s .d .0) l) [ yes over ↦ omega (arith, jobs-window s (jobs s l) l t over) | no under ↦ omega arith ]
+
+pub jobs-until : (s : BatteryString) (l w : ℕ) → 1 ≤ s .t .0 → l ≤ w → w < jobs s l * s .t .0 + s .d .0 → jobs s w ≡ jobs s l
+jobs-until s l w t h k = omega (arith, jobs-below s (jobs s l) w t k, jobs-mono s l w t h)
+
+pub jobs-at-step : (s : BatteryString) (l w : ℕ) → 1 ≤ s .t .0 → w ≡ jobs s l * s .t .0 + s .d .0 → jobs s w ≡ jobs s l + 1
+jobs-at-step s l w t e =
+    let few = jobs-below s (suc (jobs s l)) w t (omega (arith, suc-mul (jobs s l) (s .t .0))) in
+    omega (arith, jobs-window s (jobs s l) w t (omega arith))

@@ -11,10 +11,11 @@ use parts::outcome_line;
 use parts::refused_line;
 use parts::verdict_line;
 use rules::Answer;
+use rules::Verdict;
 ghost use mathlib.Core.Path.{_≡_};
 ghost use Prim.Native.Nat.{_≤_};
 ghost use lib.ListN.{length};
-ghost use Rattle.rules.specs.Lines.{linesFor};
+ghost use Rattle.rules.specs.Lines.{linesFor, verdictLine};
 ghost use Rattle.lines.specs.Pages.{pageOf};
 
 // Text and what is left of the page: the first `len` bytes are the text; zeros stand behind it.
@@ -40,4 +41,12 @@ pub fn written(a: Answer) -> Page
             outcome_line(second, outcome)
         }
     }
+}
+
+// The line of a verdict alone.
+pub fn verdict_written(v: Verdict) -> Page
+    ensures exact { λ r. ⌜ r ≡ pageOf (verdictLine v) ⌝ }
+    ensures within { λ r. ⌜ r .len ≤ length (r .bytes) ⌝ }
+{
+    verdict_line(blank(), v)
 }

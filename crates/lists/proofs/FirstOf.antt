@@ -1,15 +1,15 @@
 -- Laws of the first of a list that passes a test: there is none exactly where none passes; one that is found passes, is of the list,
--- and in a rising list none that passes comes before it.
+-- and in a rising list none that passes comes before it. What a search keeps of the list does not matter, as long as it keeps that one.
 use Prim.Native.Nat.{ℕ}
-use mathlib.Core.Path.{_≡_, refl, sym, _∙_}
+use mathlib.Core.Path.{_≡_, refl, sym, ap, _∙_}
 use mathlib.Core.Logic.{_⊎_, inl, inr, _↔_}
 use mathlib.Core.Bool.{Bool, true, false}
 use mathlib.Core.List.{List, [], _∷_}
 use mathlib.Core.Option.{none, some}
 use native.Mathlib.Omega.{arith}
-use Rattle.lists.specs.Count.{firstOf}
+use Rattle.lists.specs.Count.{firstOf, keep}
 use Rattle.lists.proofs.Lists.{All, all-map, by-bool, true-not-false}
-use Rattle.lists.proofs.Order.{Rising}
+use Rattle.lists.proofs.Order.{Rising, keep-yes, keep-no}
 
 module _ {A : Type 0} (f : A → Bool) where
   none-some : (x : A) → none ≡ some x → ⊥
@@ -75,3 +75,20 @@ module _ {A : Type 0} (f : A → Bool) where
       let later = all-map (R y) (λ z. f z ≡ true → (x ≡ z) ⊎ R x z) (λ z after u. inr (rw same at after)) xs (rise .0) in
       ((λ u. inl (sym same)), later))
       (λ e. ((λ u. absurd (true-not-false (sym u ∙ e))), firstOf-least R xs x (rise .1) (sym (firstOf-later y xs e) ∙ h)))
+
+  -- among those that are kept it is the same, if it is kept itself
+  pub firstOf-keep :
+      (g : A → Bool) (xs : List A) → ((x : A) → firstOf f xs ≡ some x → g x ≡ true) → firstOf f (keep g xs) ≡ firstOf f xs
+  unfolding keep
+  firstOf-keep g [] kept = refl
+  firstOf-keep g (y ∷ xs) kept =
+      by-bool (f y)
+      (λ t.
+      let here = firstOf-here y xs t in
+      ap (firstOf f) (keep-yes g y xs (kept y here)) ∙ firstOf-here y (keep g xs) t ∙ sym here)
+      (λ e.
+      let later = firstOf-later y xs e in
+      let rest = firstOf-keep g xs (λ x h. kept x (later ∙ h)) in
+      by-bool (g y)
+      (λ t. ap (firstOf f) (keep-yes g y xs t) ∙ firstOf-later y (keep g xs) e ∙ rest ∙ sym later)
+      (λ u. ap (firstOf f) (keep-no g y xs u) ∙ rest ∙ sym later))

@@ -8,7 +8,7 @@ use native.Mathlib.Omega.{arith}
 use native.Mathlib.Decide.{decLe}
 use native.Mathlib.Nat.{not-suc-le-zero, le-of-suc-le-suc, le-refl}
 use lib.ListN.{length, getD, take, set}
-use Rattle.lists.specs.Count.{sumOf, largest, smallest, smallestWith, every}
+use Rattle.lists.specs.Count.{sumOf, largest, smallest, smallestWith, every, any}
 pub use Rattle.lists.specs.Count.{All}
 
 -- ---- Tests
@@ -65,12 +65,25 @@ module _ {ℓ} {A : Type ℓ} where
   abbrev pub Some : (A → Type 0) → List A → A → Type 0
   Some P xs z = (i : ℕ) × (i < length xs) × P (getD xs i z)
 
-  -- ---- every
+  -- ---- every and any
 
   pub every-all : (f : A → Bool) (xs : List A) → every f xs ≡ true → All (λ x. f x ≡ true) xs
   unfolding every
   every-all f [] h = tt
   every-all f (x ∷ xs) h = by-bool (f x) (λ t. (t, every-all f xs (rw t at h))) (λ e. absurd (true-not-false (sym h ∙ rw e)))
+
+  -- one that passes is enough
+  pub any-at : (f : A → Bool) (xs : List A) (z : A) (i : ℕ) → i < length xs → f (getD xs i z) ≡ true → any f xs ≡ true
+  unfolding any
+  any-at f [] z i h t = absurd (not-suc-le-zero h)
+  any-at f (x ∷ xs) z zero h t = rw t
+  any-at f (x ∷ xs) z (suc i) h t = by-bool (f x) (λ u. rw u) (λ e. rw e (any-at f xs z i (le-of-suc-le-suc h) t))
+
+  -- where not any passes, every one fails
+  pub any-none : (f : A → Bool) (xs : List A) → any f xs ≡ false → All (λ x. f x ≡ false) xs
+  unfolding any
+  any-none f [] h = tt
+  any-none f (x ∷ xs) h = by-bool (f x) (λ t. absurd (true-not-false (sym (rw t) ∙ h))) (λ e. (e, any-none f xs (rw e at h)))
 
   -- ---- sumOf
 
@@ -96,6 +109,20 @@ module _ {ℓ} {A : Type ℓ} where
   sumOf-add f g (x ∷ xs) =
       let rest = sumOf-add f g xs in
       omega arith
+
+  -- no smaller anywhere, and larger where a test that holds somewhere holds
+  pub sumOf-less : (f g : A → ℕ) (t : A → Bool) (xs : List A) → All (λ x. f x ≤ g x) xs → All (λ x. t x ≡ true → f x < g x) xs
+      → any t xs ≡ true → sumOf f xs < sumOf g xs
+  unfolding sumOf any
+  sumOf-less f g t [] h k some = absurd (true-not-false (sym some))
+  sumOf-less f g t (x ∷ xs) h k some =
+      by-bool (t x)
+      (λ here.
+      let first = k .0 here in
+      omega (arith, sumOf-le f g xs (h .1)))
+      (λ away.
+      let first = h .0 in
+      omega (arith, sumOf-less f g t xs (h .1) (k .1) (rw away at some)))
 
   pub sumOf-take-suc : (f : A → ℕ) (xs : List A) (z : A) (i : ℕ) → i < length xs
       → sumOf f (take (suc i) xs) ≡ sumOf f (take i xs) + f (getD xs i z)
@@ -135,6 +162,14 @@ module _ {ℓ} {A : Type ℓ} where
       let first = h .0 in
       omega arith
 
+  pub largest-mono : (f g : A → ℕ) (xs : List A) → All (λ x. f x ≤ g x) xs → largest f xs ≤ largest g xs
+  unfolding largest
+  largest-mono f g [] h = zero-le
+  largest-mono f g (x ∷ xs) h =
+      let rest = largest-mono f g xs (h .1) in
+      let first = h .0 in
+      omega arith
+
   -- a largest above a bound is reached somewhere
   pub largest-some : (f : A → ℕ) (m : ℕ) (xs : List A) (z : A) → m < largest f xs → Some (λ x. m < f x) xs z
   unfolding largest
@@ -161,6 +196,32 @@ module _ {ℓ} {A : Type ℓ} where
     omega arith,
     all-map (λ y. smallestWith f m xs ≤ f y) (λ y. min (f x) (smallestWith f m xs) ≤ f y) (λ y h. omega arith) xs (smallestWith-all f m xs),
   )
+
+  -- a smallest is above what all are above, and where it is below m it is reached somewhere
+  pub smallestWith-above : (f : A → ℕ) (m k : ℕ) (xs : List A) → k < m → All (λ x. k < f x) xs → k < smallestWith f m xs
+  unfolding smallestWith
+  smallestWith-above f m k [] h all = h
+  smallestWith-above f m k (x ∷ xs) h all =
+      let rest = smallestWith-above f m k xs h (all .1) in
+      let first = all .0 in
+      omega arith
+
+  pub smallestWith-some : (f : A → ℕ) (m : ℕ) (xs : List A) (z : A) → smallestWith f m xs < m → Some (λ x. f x ≡ smallestWith f m xs) xs z
+  unfolding smallestWith
+  smallestWith-some f m [] z h = absurd (omega arith)
+  smallestWith-some f m (x ∷ xs) z h =
+      elim (decLe (f x) (smallestWith f m xs)) [
+        | yes here ↦ (zero, omega arith, omega arith)
+        | no away ↦
+            let same : smallestWith f m xs ≡ min (f x) (smallestWith f m xs) = omega arith in
+            let there = smallestWith-some f m xs z (omega arith) in
+            (suc (there .0), omega (arith, there .1), there .2 ∙ same)
+      ]
+
+  pub smallest-above : (f : A → ℕ) (k : ℕ) (xs : List A) → 0 < length xs → All (λ x. k < f x) xs → k < smallest f xs
+  unfolding smallest
+  smallest-above f k [] h all = absurd (not-suc-le-zero h)
+  smallest-above f k (x ∷ xs) h all = smallestWith-above f (f x) k xs (all .0) (all .1)
 
   pub smallest-le : (f : A → ℕ) (xs : List A) → All (λ x. smallest f xs ≤ f x) xs
   unfolding smallest

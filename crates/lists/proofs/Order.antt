@@ -53,6 +53,13 @@ module _ {ℓ} {A : Type ℓ} where
   unfolding keep
   keep-no f x xs e = rw e
 
+  pub keep-append : (f : A → Bool) (xs ys : List A) → keep f (xs ++ ys) ≡ keep f xs ++ keep f ys
+  unfolding keep
+  keep-append f [] ys = refl
+  keep-append f (x ∷ xs) ys =
+      let rest = keep-append f xs ys in
+      by-bool (f x) (λ t. rw t (ap (λ zs. x ∷ zs) rest)) (λ e. rw e rest)
+
   pub all-keep : (P : A → Type 0) (f : A → Bool) (xs : List A) → All (λ x. f x ≡ true → P x) xs → All P (keep f xs)
   unfolding keep
   all-keep P f [] h = tt

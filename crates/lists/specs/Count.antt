@@ -3,6 +3,7 @@
 --     largest f xs          the largest f of xs, 0 of none
 --     smallest f xs         the smallest f of xs, 0 of none
 --     every f xs            all of xs pass f
+--     any f xs              one of xs at least passes f
 --     All P xs              every one of xs has P
 --     Member x xs           x stands somewhere in xs
 --     keep f xs             those of xs that pass f, in their order
@@ -46,13 +47,21 @@ module _ {ℓ} {A : Type ℓ} where
       let rest = every f xs in
       cond (f x) rest false
 
+  unfoldable pub any : (A → Bool) → List A → Bool
+  any f [] = false
+  any f (x ∷ xs) =
+      let rest = any f xs in
+      cond (f x) true rest
+
   abbrev pub All : (A → Type 0) → List A → Type 0
   All P [] = Unit {0}
   All P (x ∷ xs) = P x × All P xs
 
   unfoldable pub keep : (A → Bool) → List A → List A
   keep f [] = []
-  keep f (x ∷ xs) = cond (f x) (x ∷ keep f xs) (keep f xs)
+  keep f (x ∷ xs) =
+      let rest = keep f xs in
+      cond (f x) (x ∷ rest) rest
 
   unfoldable pub countOf : (A → Bool) → List A → ℕ
   countOf f [] = 0

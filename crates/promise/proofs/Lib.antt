@@ -1,8 +1,8 @@
--- The user's demands, of what the code answered. UserWords: demand 2. ReadLawful, NeverMisses: demand 3. OneText: reading and writing undo
--- each other. ThreeLines: what a file's answer
--- can hold.
--- ShutOut, OnlyOne: what the contracts rule out. EquationSeven: what the source printed.
+-- The user's demands, of what the code answered. UserWords: demand 2. QuickAgrees: both engines say the same. ReadLawful, NeverMisses:
+-- demand 3. OneText: reading and writing undo each other. ThreeLines: what a file's answer can hold. ShutOut, OnlyOne: what the contracts
+-- rule out. EquationSeven: what the source printed.
 pub mod UserWords
+pub mod QuickAgrees
 pub mod ReadLawful
 pub mod NeverMisses
 pub mod ThreeLines

@@ -64,9 +64,12 @@ use Rattle.writing.specs.declared.Saved.{Saved}
 use Rattle.writing.proofs.write.Reads as write
 use Rattle.verdict.proofs.verdict.Reads as verdict
 use Rattle.verdict.proofs.verdict_with.Reads as verdict-with
+use Rattle.verdict.proofs.quick.Reads as quick
+use Rattle.verdict.proofs.quick_with.Reads as quick-with
 use Rattle.verdict.proofs.search.Reads as search-takers
 use Rattle.run.proofs.run.Reads as run
 use Rattle.lines.proofs.written.Reads as written
+use Rattle.lines.proofs.verdict_written.Reads as verdict-written
 use Rattle.lines.proofs.date_line.Reads as date-line
 use Rattle.lines.proofs.day_line.Reads as day-line
 use Rattle.answers.proofs.answer.Reads as answer
@@ -195,6 +198,12 @@ one-verdict κs a e f r s h k = h ∙ sym k
 pub one-verdict-with : (κs : Lfts 0) (a : _) (e f : _) (r s : Verdict) → verdict-with.Learnt κs a r e → verdict-with.Learnt κs a s f → r ≡ s
 one-verdict-with κs a e f r s h k = h ∙ sym k
 
+pub one-quick : (κs : Lfts 0) (a : _) (e f : _) (r s : Verdict) → quick.Learnt κs a r e → quick.Learnt κs a s f → r ≡ s
+one-quick κs a e f r s h k = h ∙ sym k
+
+pub one-quick-with : (κs : Lfts 0) (a : _) (e f : _) (r s : Verdict) → quick-with.Learnt κs a r e → quick-with.Learnt κs a s f → r ≡ s
+one-quick-with κs a e f r s h k = h ∙ sym k
+
 pub one-search : (κs : Lfts 0) (a : _) (e f : _) (r s : Assign) → search-takers.Learnt κs a r e → search-takers.Learnt κs a s f → r ≡ s
 one-search κs a e f r s h k = h ∙ sym k
 
@@ -205,6 +214,10 @@ one-run κs a e f r s h k = h ∙ sym k
 -- lines
 pub one-written : (κs : Lfts 0) (a : _) (e f : _) (r s : Page) → written.Learnt κs a r e → written.Learnt κs a s f → r ≡ s
 one-written κs a e f r s h k = h .0 ∙ sym (k .0)
+
+pub one-verdict-written : (κs : Lfts 0) (a : _) (e f : _) (r s : Page) → verdict-written.Learnt κs a r e → verdict-written.Learnt κs a s f
+    → r ≡ s
+one-verdict-written κs a e f r s h k = h .0 ∙ sym (k .0)
 
 pub one-date-line : (κs : Lfts 1) (a : _) (e f : _) (r s : Page) → date-line.Learnt κs a r e → date-line.Learnt κs a s f
     → (r ≡ s) × (e .0 .now ≡ f .0 .now)

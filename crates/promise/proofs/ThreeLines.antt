@@ -20,7 +20,7 @@ use Rattle.rules.specs.declared.Outcome.{Outcome}
 use Rattle.rules.specs.declared.Answer.{Answer}
 use Rattle.rules.specs.declared.Answer.the-variants.{Answered}
 use Rattle.rules.specs.Demand.{overloaded}
-use Rattle.rules.specs.Verdict.{Pair, allPairs, firstBroken, compared, judged, verdictOf}
+use Rattle.rules.specs.Verdict.{Pair, allPairs, firstBroken, compared, judged, verdictOver, verdictOf}
 use Rattle.rules.specs.Search.{setPasses, ordered, assigned, searchOf}
 use Rattle.rules.specs.Release.{releasesOf}
 use Rattle.rules.specs.Run.{missDay, runOf}
@@ -50,7 +50,7 @@ overload-answers (n, (at, h)) =
     omega arith
 
 verdictOf-answers : (p : Plan) → Refuses (verdictSays (verdictOf p)) → ⊥
-unfolding verdictOf
+unfolding verdictOver
 verdictOf-answers p refuses =
     by-bool (overloaded p)
     (λ t. overload-answers (rw t at refuses))

@@ -15,7 +15,7 @@ use Rattle.rules.specs.declared.Releases.{Releases}
 use Rattle.lists.specs.Count.{sumOf, largest, smallest, smallestWith, every, keep, countOf, upFrom, leastFrom, firstOf}
 use Rattle.rules.specs.Plan.{noString, stringLawful, commonMultiple, multipleOf, dMin, dMax}
 use Rattle.rules.specs.Demand.{movingCost, holdOf, jobs, blockerHold, blockLimit, need, demand, load, overloaded}
-use Rattle.rules.specs.Verdict.{pairsAt, allPairs, broken, compared, judged, verdictOf, isPass}
+use Rattle.rules.specs.Verdict.{pairsAt, allPairs, broken, compared, judged, verdictOver, isPass}
 use Rattle.rules.specs.Search.{permit, withSet, setPasses, setsOf, ordered, searchOf}
 use Rattle.rules.specs.Release.{noRelease, tooClose, outOfOrder, releaseLawful, unlawfulFrom, firstUnlawful}
 use Rattle.rules.specs.Run.{chosen, lateAt, newSlot, joinFrom, joined, holder, payer, taken, nextUp, given, useOf, spent, morning, stateAt, useOn, lateOn, history, daysOf, missDay, runOf}
@@ -158,7 +158,7 @@ unfolding
     sumOf largest smallest smallestWith every keep countOf upFrom leastFrom
     stringLawful commonMultiple multipleOf dMin dMax
     movingCost holdOf jobs blockerHold blockLimit need demand load overloaded
-    pairsAt allPairs broken firstOf compared judged verdictOf isPass
+    pairsAt allPairs broken firstOf compared judged verdictOver isPass
     permit withSet setPasses setsOf ordered searchOf
     tooClose outOfOrder releaseLawful unlawfulFrom firstUnlawful
     chosen lateAt newSlot joinFrom joined holder payer taken nextUp given useOf spent morning stateAt useOn lateOn history daysOf missDay

@@ -4,7 +4,8 @@
 --     broken p q            the demand at the pair q exceeds its interval
 --     firstBroken p qs      the first of qs that is broken
 --     compared p qs         qs up to and including the first broken one, all of them where none is
---     verdictOf p           the verdict on a lawful plan
+--     verdictOver p qs      the verdict on a lawful plan by the pairs qs: overload first, then the first broken one
+--     verdictOf p           the verdict on a lawful plan: by all pairs
 use Prim.Native.Nat.{ℕ, suc, _+_, _-_}
 use mathlib.Core.Bool.{Bool, true, false, cond}
 use mathlib.Core.List.{List, [], _∷_, map, flatMap}
@@ -46,10 +47,13 @@ unfoldable pub judged : Plan → Option Pair → ℕ → Verdict
 judged p none k = Pass k
 judged p (some q) k = Fail (days (q .l)) (days (q .b)) (days (demand p (q .l) (q .b))) k
 
-unfoldable pub verdictOf : Plan → Verdict
-verdictOf p =
-    let rule = judged p (firstBroken p (allPairs p)) (length (compared p (allPairs p))) in
+unfoldable pub verdictOver : Plan → List Pair → Verdict
+verdictOver p qs =
+    let rule = judged p (firstBroken p qs) (length (compared p qs)) in
     cond (overloaded p) Overload rule
+
+abbrev pub verdictOf : Plan → Verdict
+verdictOf p = verdictOver p (allPairs p)
 
 unfoldable pub isPass : Verdict → Bool
 isPass (Refused f at) = false

@@ -4,7 +4,7 @@ use mathlib.Core.Path.{_≡_, ap, _∙_}
 use mathlib.Core.List.{List, [], _∷_}
 use native.Mathlib.Omega.{arith}
 use native.Mathlib.Decide.{decLe, ℕ-discrete}
-use native.Mathlib.Nat.{mul-le-mul, zero-mul, mul-suc, div-le-self}
+use native.Mathlib.Nat.{mul-le-mul, le-refl, zero-mul, mul-suc, div-le-self}
 use borrow.Author.Tests.{eq-eqb, ne-eqb}
 use lib.ListN.{length, length-take}
 use Rattle.rules.specs.declared.BatteryString.{BatteryString}
@@ -12,8 +12,8 @@ use Rattle.rules.specs.declared.Plan.{Plan}
 use Rattle.lists.specs.Count.{sumOf}
 use Rattle.rules.specs.Plan.{stringsOf}
 use Rattle.rules.specs.Demand.{movingCost, holdOf, jobs, need, demand}
-use Rattle.lists.proofs.Lists.{All, all-map, sumOf-eq, sumOf-add}
-use Rattle.laws.proofs.Jobs.{jobs-short, jobs-from, jobs-zero}
+use Rattle.lists.proofs.Lists.{All, all-map, sumOf-le, sumOf-eq, sumOf-add}
+use Rattle.laws.proofs.Jobs.{jobs-short, jobs-from, jobs-zero, jobs-mono}
 use Rattle.laws.proofs.Lawful.{LawfulString, LawfulPlan, PlanString, plan-strings}
 use Rattle.lists.proofs.Order.{sumOf-zero}
 use Rattle.laws.proofs.Demand.{holdOf-le, holdOf-other, need-taker, need-keeper}
@@ -98,6 +98,23 @@ askedBy-le p x w ok k =
     (all-map (PlanString p) (λ s. askedOf p x w s ≤ 202000000) (λ s one. askedOf-le p x w s one k) (stringsOf p) (plan-strings p ok)) in
     let few = ok .nMax in
     omega (arith, most, length-take (p .n) (p .strings))
+
+-- more days never ask for less
+pub askedBy-mono : (p : Plan) (x v w : ℕ) → LawfulPlan p → v ≤ w → askedBy p x v ≤ askedBy p x w
+unfolding askedBy
+askedBy-mono p x v w ok h =
+    sumOf-le (askedOf p x v) (askedOf p x w) (stringsOf p)
+    (all-map LawfulString (λ s. askedOf p x v s ≤ askedOf p x w s) (λ s lawful. more s lawful) (stringsOf p) (ok .each))
+  where
+    more : (s : BatteryString) → LawfulString s → askedOf p x v s ≤ askedOf p x w s
+    more s lawful =
+        elim (ℕ-discrete (s .x) x) [
+          | yes e ↦
+              let jobs-more : jobs s v * holdOf p s ≤ jobs s w * holdOf p s =
+              mul-le-mul (jobs-mono s v w (lawful .tPos) h) (le-refl (holdOf p s)) in
+              omega (arith, askedOf-yes p x v s e, askedOf-yes p x w s e)
+          | no e ↦ omega (arith, askedOf-no p x v s e, askedOf-no p x w s e)
+        ]
 
 -- no job fits no day
 pub askedBy-none : (p : Plan) (x : ℕ) → LawfulPlan p → askedBy p x 0 ≡ 0

@@ -3,5 +3,9 @@ pub mod Asked
 pub mod StringSums
 pub mod Blocking
 pub mod Rows
+pub mod Stepping
+pub mod KeptRows
+pub mod Looking
+pub mod Onward
 pub mod Permit
 pub mod Readiness

@@ -1,13 +1,17 @@
-// The verdict on a plan and the search for permissions. No caller is trusted to have checked anything: each entry checks first.
+// The verdict on a plan, full and quick, and the search for permissions. No caller is trusted to have checked anything: each entry
+// checks first.
 mod demand;
+mod growing;
 mod limits;
 mod pairs;
 mod permissions;
+mod steps;
 
 use bounds::multiple;
 use bounds::plan_check;
 use bounds::set_check;
 use faults::Checked;
+use growing::quickly_judged;
 use pairs::judged;
 use permissions::first_set;
 use permissions::with_set;
@@ -16,6 +20,7 @@ use rules::Plan;
 use rules::Verdict;
 ghost use mathlib.Core.Path.{_≡_};
 ghost use Rattle.rules.specs.Refusal.{verdictAnswer, setAnswer, searchAnswer};
+ghost use Rattle.growth.specs.Quick.{quickAnswer, quickSetAnswer};
 
 // The verdict on a plan with the permissions it carries.
 pub fn verdict(p: Plan) -> Verdict
@@ -35,6 +40,28 @@ pub fn verdict_with(p: Plan, set: u32) -> Verdict
     let checked = set_check(p, set);
     match checked {
         Checked::Lawful => judged(with_set(p, set), multiple(p)),
+        Checked::Refused { fault, at } => Verdict::Refused { fault, at },
+    }
+}
+
+// The quick verdict on a plan with the permissions it carries.
+pub fn quick(p: Plan) -> Verdict
+    ensures exact { λ r. ⌜ r ≡ quickAnswer p ⌝ }
+{
+    let checked = plan_check(p);
+    match checked {
+        Checked::Lawful => quickly_judged(p, multiple(p)),
+        Checked::Refused { fault, at } => Verdict::Refused { fault, at },
+    }
+}
+
+// The quick verdict on a plan with the permission set given.
+pub fn quick_with(p: Plan, set: u32) -> Verdict
+    ensures exact { λ r. ⌜ r ≡ quickSetAnswer p set ⌝ }
+{
+    let checked = set_check(p, set);
+    match checked {
+        Checked::Lawful => quickly_judged(with_set(p, set), multiple(p)),
         Checked::Refused { fault, at } => Verdict::Refused { fault, at },
     }
 }

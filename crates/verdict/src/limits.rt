@@ -10,7 +10,7 @@ ghost use Rattle.rules.specs.Demand.{holdOf, blockerHold, blockLimit, load};
 ghost use Rattle.laws.proofs.Lawful.{PlanString};
 ghost use Rattle.verdict.specs.Asked.{Ready};
 
-fn smaller(a: u32, b: u32) -> u32
+pub(crate) fn smaller(a: u32, b: u32) -> u32
     ensures { λ r. ⌜ r ≡ min a b ⌝ }
 {
     if a < b { a } else { b }

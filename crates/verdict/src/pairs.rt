@@ -10,12 +10,12 @@ use rules::Verdict;
 ghost use mathlib.Core.Path.{_≡_};
 ghost use lib.ListN.{replicate};
 ghost use Rattle.rules.specs.Plan.{multipleOf};
-ghost use Rattle.rules.specs.Verdict.{allPairs, verdictOf, isPass};
+ghost use Rattle.rules.specs.Verdict.{allPairs, verdictOf};
 ghost use Rattle.horizon.proofs.Pairs.{scanFrom};
 ghost use Rattle.verdict.specs.Asked.{Ready};
 
 // What the takers ask within each of 1,024 numbers of days, before any is known.
-fn none_known() -> [u32; 1024]
+pub(crate) fn none_known() -> [u32; 1024]
     ensures { λ r. ⌜ r ≡ replicate 1024 0 ⌝ }
 {
     [0u32; 1024]
@@ -73,24 +73,4 @@ pub(crate) fn judged(p: Plan, h: u32) -> Verdict
         return Verdict::Overload;
     }
     scan(p, h)
-}
-
-// Whether the plan passes.
-pub(crate) fn passes(p: Plan, h: u32) -> bool
-    requires { ⌜ Ready p ⌝ }
-    requires { ⌜ h ≡ multipleOf p ⌝ }
-    ensures { λ r. ⌜ r ≡ isPass (verdictOf p) ⌝ }
-{
-    let v = judged(p, h);
-    match v {
-        Verdict::Pass { pairs: _ } => true,
-        Verdict::Fail {
-            interval: _,
-            blocking: _,
-            demand: _,
-            pairs: _,
-        } => false,
-        Verdict::Overload => false,
-        Verdict::Refused { fault: _, at: _ } => false,
-    }
 }

@@ -1,6 +1,8 @@
 // The search: sets with fewer ones first, among equals the smaller number first; the first that passes is the answer.
-use super::demand::work_within;
-use super::pairs::passes;
+use super::growing::passes;
+use super::steps::advance;
+use super::steps::parts_of;
+use super::steps::steps_after;
 use rules::Assign;
 use rules::BatteryString;
 use rules::Plan;
@@ -43,20 +45,28 @@ pub(crate) fn with_set(p: Plan, set: u32) -> Plan
     Plan { n, a, run, strings }
 }
 
-// Whether the work alone, with no moving and no blocking, breaks the rule within h days: then no set passes.
+// Whether the work alone, with no moving and no blocking, breaks the rule within h days, from step to step: then no set passes.
 fn too_much_work(p: Plan, h: u32) -> bool
     requires { ⌜ Ready p ⌝ }
     requires { ⌜ h ≡ multipleOf p ⌝ }
     ensures { λ r. ⌜ (r ≡ true → (m : ℕ) → setPasses p m ≡ false) ⌝ }
 {
     let alone = with_set(p, 0);
+    let parts = parts_of(alone);
+    let every = parts.every;
+    let keeps = parts.keeps;
+    let takes = parts.takes;
+    let mut next = steps_after(alone, 0);
+    let end = h + 1;
+    let mut keepers: u32 = 0;
     let mut l: u32 = 1;
-    while l <= h {
-        let work = work_within(alone, l);
-        if l < work.keepers {
+    while l < end {
+        let step = advance(alone, l, end, &every, &keeps, &takes, &mut next);
+        keepers += step.keepers;
+        if l < keepers {
             return true;
         }
-        l += 1;
+        l = step.soonest;
     }
     false
 }

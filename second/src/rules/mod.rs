@@ -1,8 +1,9 @@
-//! Document 01, written down once more in the plainest way.
+//! Documents 01 and 02, written down once more in the plainest way.
 
 pub mod answer;
 pub mod frames;
 pub mod plan;
+pub mod quick;
 pub mod rule;
 pub mod run;
 pub mod search;

@@ -46,7 +46,7 @@ pub fn passes(plan: &Plan, cycle: Length) -> bool {
 }
 
 /// The days of the bank that all strings together may ask for in one cycle.
-fn load(plan: &Plan, cycle: Length) -> Length {
+pub fn load(plan: &Plan, cycle: Length) -> Length {
     plan.strings
         .iter()
         .map(|string| plan.hold(string) * (cycle / string.t))
@@ -54,7 +54,7 @@ fn load(plan: &Plan, cycle: Length) -> Length {
 }
 
 /// B at an interval: how long a job due after it can stand in the way.
-fn blocking_limit(plan: &Plan, interval: Length) -> Length {
+pub fn blocking_limit(plan: &Plan, interval: Length) -> Length {
     if interval < plan.smallest_d() {
         return 0;
     }
@@ -68,7 +68,7 @@ fn blocking_limit(plan: &Plan, interval: Length) -> Length {
     longest.map_or(0, |hold| hold.min(interval))
 }
 
-fn demand(plan: &Plan, interval: Length, blocking: Length) -> Length {
+pub fn demand(plan: &Plan, interval: Length, blocking: Length) -> Length {
     let mut demand = blocking;
     for string in &plan.strings {
         demand += if string.x == 1 {
@@ -81,11 +81,22 @@ fn demand(plan: &Plan, interval: Length, blocking: Length) -> Length {
 }
 
 /// The jobs of a string that can be released and due in a window of so many days.
-fn jobs(string: &BatteryString, window: Length) -> u64 {
+pub fn jobs(string: &BatteryString, window: Length) -> u64 {
     if window < string.d {
         0
     } else {
         (window - string.d) / string.t + 1
+    }
+}
+
+impl Verdict {
+    /// Without the count of pairs: what every engine has to agree on.
+    pub fn apart_from_pairs(mut self) -> Verdict {
+        match &mut self {
+            Verdict::Overload => {}
+            Verdict::Fail { pairs, .. } | Verdict::Pass { pairs } => *pairs = 0,
+        }
+        self
     }
 }
 

@@ -5,7 +5,8 @@ use borrow.Author.Needs.{needs}
 use borrow.Author.Tests.{lt-ltb, le-ltb}
 use Rattle.rules.specs.Plan.{multipleOf}
 use Rattle.rules.specs.Demand.{load, overloaded}
-use Rattle.horizon.proofs.Pairs.{verdictOf-overload, verdictOf-scan}
+use Rattle.rules.specs.Verdict.{allPairs}
+use Rattle.horizon.proofs.Pairs.{verdictOver-overload, verdictOver-scan}
 use Rattle.verdict.proofs.pairs.judged.Statement.{statement}
 use Rattle.verdict.proofs.pairs.judged.Tie as tie
 
@@ -17,7 +18,7 @@ unfolding overloaded
 returns c =
     let start = c .before .before in
     let p = start .args .p in
-    sym (verdictOf-overload p (lt-ltb (multipleOf p) (load p) (omega (arith, start .pre .1, c .before .load-over .ensures))))
+    sym (verdictOver-overload p (allPairs p) (lt-ltb (multipleOf p) (load p) (omega (arith, start .pre .1, c .before .load-over .ensures))))
 
 scan-requires : tie.Need-scan-requires
 scan-requires c κs = search needs
@@ -28,7 +29,7 @@ returns-2 c =
     let start = c .before .before .before in
     let p = start .args .p in
     let light = le-ltb (multipleOf p) (load p) (omega (arith, start .pre .1, c .before .before .load-over .ensures)) in
-    c .scan .ensures ∙ sym (verdictOf-scan p light)
+    c .scan .ensures ∙ sym (verdictOver-scan p (allPairs p) light)
 
 pub judged-spec : {M : Type 1} → statement M
 judged-spec = tie.close (tie.spec load-over-requires returns scan-requires returns-2)

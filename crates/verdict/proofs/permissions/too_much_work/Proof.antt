@@ -7,51 +7,111 @@ use Rattle.lists.proofs.Lists.{true-not-false}
 use Rattle.horizon.proofs.Sets.{withSet-lawful}
 use Rattle.horizon.proofs.Alone.{work-alone-breaks}
 use Rattle.verdict.specs.Asked.{Ready, askedBy}
-use Rattle.verdict.proofs.Asked.{demand-parts}
+use Rattle.verdict.specs.Steps.{Due}
+use Rattle.verdict.proofs.Asked.{askedBy-le, askedBy-none, demand-parts}
 use Rattle.verdict.proofs.Permit.{ready-with}
+use Rattle.verdict.proofs.Onward.{Onto, onto-soonest}
 use Rattle.verdict.proofs.permissions.too_much_work.Statement.{statement}
 use Rattle.verdict.proofs.permissions.too_much_work.Tie as tie
 
 abbrev Inv-loop : tie.InvT-loop
-Inv-loop h alone l₀ l = (1 ≤ l) × (l ≤ h + 1)
+Inv-loop h alone every keeps takes next₀ end keepers₀ l₀ next keepers l =
+    (1 ≤ l) × (l ≤ end) × (Due alone (l - 1) next) × (keepers ≡ askedBy alone 0 (l - 1))
 
 abbrev μ-loop : tie.MeasureT-loop
-μ-loop h alone l₀ l = h + 1 - l
+μ-loop h alone every keeps takes next₀ end keepers₀ l₀ next keepers l = end - l
+
+-- what is known at a turn: the plan with nobody permitted, the interval it comes to
+abbrev alone : tie.At-loop Inv-loop μ-loop → tie.After-with-set Inv-loop μ-loop
+alone c = c .before .before .before .before .before .before
+
+abbrev turn : tie.After-advance Inv-loop μ-loop → tie.In-loop Inv-loop μ-loop
+turn c = c .before .before .before .before .before
+
+abbrev at : tie.After-advance Inv-loop μ-loop → tie.At-loop Inv-loop μ-loop
+at c = turn c .before
+
+ready : (c : tie.After-with-set Inv-loop μ-loop) → Ready (c .with-set .result)
+ready c = subst Ready (sym (c .with-set .ensures)) (ready-with (c .before .args .p) 0 (c .before .pre .0))
 
 with-set-requires : tie.Need-with-set-requires Inv-loop μ-loop
 with-set-requires c κs = c .pre .0
 
-loop-holds : tie.Need-loop-holds Inv-loop μ-loop
-loop-holds c = (omega arith, omega arith)
+parts-of-requires : tie.Need-parts-of-requires Inv-loop μ-loop
+parts-of-requires c κs = ready c
 
-work-within-requires : tie.Need-work-within-requires Inv-loop μ-loop
-work-within-requires c κs =
-    let made = c .before .before in
-    let start = made .before in
-    let ready = ready-with (start .args .p) 0 (start .pre .0) in
-    (subst Ready (sym (made .with-set .ensures)) ready, omega (arith, start .pre .1, start .pre .0 .lawful .hMax))
+steps-after-requires : tie.Need-steps-after-requires Inv-loop μ-loop
+steps-after-requires c κs = (ready (c .before .before .before .before), omega arith)
 
-returns : tie.Need-returns Inv-loop μ-loop
-returns c t =
-    let at = c .before .before .before .before in
-    let start = at .before .before in
-    let p = start .args .p in
-    let l = at .loop .l in
-    let work : c .before .before .work-within .result .keepers ≡ askedBy (withSet p 0) 0 l =
-    c .before .before .work-within .ensures .0 ∙ ap (λ q. askedBy q 0 l) (at .before .with-set .ensures) in
-    let parts = demand-parts (withSet p 0) l 0 (withSet-lawful p 0 (start .pre .0 .lawful)) in
-    work-alone-breaks p (start .pre .0 .lawful) l (omega arith) (omega (arith, work, parts))
-
-add-l : tie.Need-add-l Inv-loop μ-loop
-add-l c =
+add-end : tie.Need-add-end Inv-loop μ-loop
+add-end c =
     let start = c .before .before .before .before .before .before in
     omega (arith, start .pre .1, start .pre .0 .lawful .hMax)
 
+loop-holds : tie.Need-loop-holds Inv-loop μ-loop
+loop-holds c = (
+  omega arith,
+  omega arith,
+  c .steps-after .ensures,
+  sym (askedBy-none _ 0 (ready (c .before .before .before .before .before) .lawful)),
+)
+
+-- the interval of a turn is within H
+short : (c : tie.In-loop Inv-loop μ-loop) → c .before .loop .l ≤ 101000
+short c =
+    let start = alone (c .before) .before in
+    omega (arith, start .pre .1, start .pre .0 .lawful .hMax)
+
+advance-requires : tie.Need-advance-requires Inv-loop μ-loop
+advance-requires c κs =
+    let in-turn = c .before .before .before .before in
+    let here = in-turn .before in
+    let parts = here .before .before .before .before .before in
+    (ready (alone here), (here .loop .inv .0, (short in-turn, (parts .parts-of .ensures, here .loop .inv .2))))
+
+-- what is added up is what is asked
+sum :
+    (c : tie.After-advance Inv-loop μ-loop)
+    → at c .loop .keepers + c .advance .result .keepers ≡ askedBy (alone (at c) .with-set .result) 0 (at c .loop .l)
+sum c = omega (arith, at c .loop .inv .3, c .advance .ensures .1 .0)
+
+add-keepers : tie.Need-add-keepers Inv-loop μ-loop
+add-keepers c =
+    let step = c .before in
+    let small = askedBy-le _ 0 (at step .loop .l) (ready (alone (at step)) .lawful) (short (turn step)) in
+    omega (arith, sum step, small)
+
+returns : tie.Need-returns Inv-loop μ-loop
+returns c t =
+    let step = c .before .before in
+    let here = at step in
+    let start = alone here .before in
+    let p = start .args .p in
+    let l = here .loop .l in
+    let work : here .loop .keepers + step .advance .result .keepers ≡ askedBy (withSet p 0) 0 l =
+    sum step ∙ ap (λ q. askedBy q 0 l) (alone here .with-set .ensures) in
+    let parts = demand-parts (withSet p 0) l 0 (withSet-lawful p 0 (start .pre .0 .lawful)) in
+    work-alone-breaks p (start .pre .0 .lawful) l (here .loop .inv .0) (omega (arith, work, parts, c .if1 .taken))
+
+-- where the walk goes on
+onto :
+    (c : tie.After-advance Inv-loop μ-loop)
+    → Onto (alone (at c) .with-set .result) (at c .loop .l) (alone (at c) .before .args .h + 1) (c .advance .result .soonest)
+    (c .advance .last .1 .1 .1 .1 .1 .1 .0)
+onto c =
+    onto-soonest _ (ready (alone (at c))) _ _ _ _ (turn c .loop-test .taken) (c .advance .ensures .1 .1 .1) (c .advance .ensures .0)
+
 loop-less : tie.Need-loop-less Inv-loop μ-loop
-loop-less c = omega arith
+loop-less c = omega (arith, onto (c .before .before) .past, onto (c .before .before) .within)
 
 loop-again : tie.Need-loop-again Inv-loop μ-loop
-loop-again c = (omega arith, omega arith)
+loop-again c =
+    let step = c .before .before in (
+      omega (arith, onto step .past),
+      onto step .within,
+      onto step .due,
+      sum step ∙ sym (onto step .asked 0),
+    )
 
 returns-2 : tie.Need-returns-2 Inv-loop μ-loop
 returns-2 c t = absurd (true-not-false (sym t))
@@ -63,10 +123,13 @@ too-much-work-spec =
     Inv-loop
     μ-loop
     with-set-requires
+    parts-of-requires
+    steps-after-requires
+    add-end
     loop-holds
-    work-within-requires
+    advance-requires
+    add-keepers
     returns
-    add-l
     loop-less
     loop-again
     returns-2)

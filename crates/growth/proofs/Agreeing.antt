@@ -1,0 +1,102 @@
+-- The quick verdict agrees with the full one on every plan, apart from its count of pairs: the first pair that is broken is one at which a
+-- count grows, so both find it.
+use Prim.Native.Nat.{ℕ}
+use mathlib.Core.Path.{_≡_, refl, sym, ap, _∙_}
+use mathlib.Core.Bool.{true}
+use mathlib.Core.List.{List}
+use mathlib.Core.Option.{Option, none, some}
+use lib.ListN.{length}
+use Rattle.rules.specs.declared.Plan.{Plan}
+use Rattle.rules.specs.declared.Verdict.{Verdict}
+use Rattle.rules.specs.declared.Verdict.the-variants.{Refused, Overload, Fail, Pass}
+use Rattle.faults.specs.declared.Checked.{Checked}
+use Rattle.faults.specs.declared.Checked.the-variants as checked
+use Rattle.rules.specs.Plan.{dMin}
+use Rattle.rules.specs.Demand.{blockLimit, overloaded}
+use Rattle.rules.specs.Verdict.{Pair, allPairs, broken, firstBroken, compared, judged, verdictOf, verdictOver, isPass}
+use Rattle.rules.specs.Search.{withSet}
+use Rattle.rules.specs.Refusal.{planCheck, setCheck, onVerdict, verdictAnswer, setAnswer}
+use Rattle.lists.proofs.Lists.{by-bool}
+use Rattle.lists.proofs.FirstOf.{firstOf-keep}
+use Rattle.laws.proofs.Lawful.{LawfulPlan, planCheck-lawful}
+use Rattle.laws.proofs.Answers.{set-plan}
+use Rattle.horizon.specs.FirstBreak.{FirstBreak}
+use Rattle.horizon.proofs.Verdict.{firstBroken-names}
+use Rattle.horizon.proofs.Sets.{withSet-lawful}
+use Rattle.growth.specs.Quick.{grows, quickPairs, quickOf, quickAnswer, quickSetAnswer, apartFromPairs}
+use Rattle.growth.specs.Limit.{FirstBreakUnder}
+use Rattle.growth.proofs.Counts.{early-no-jobs}
+use Rattle.growth.proofs.Growing.{first-grows}
+use Rattle.growth.proofs.BlockingLimit.{limit-fits}
+
+-- ---- The same break
+
+-- the first break that a fail names is the first under the blocking limit
+break-under : (p : Plan) (l b : ℕ) → FirstBreak p l b → FirstBreakUnder (blockLimit p) p l b
+break-under p l b first =
+    record {
+      pos = first .pos;
+      allowed = first .allowed;
+      breaks = first .breaks;
+      shorter = first .shorter;
+      less = first .less;
+    }
+
+pub same-break : (p : Plan) → LawfulPlan p → firstBroken p (quickPairs p) ≡ firstBroken p (allPairs p)
+unfolding quickPairs
+same-break p ok = firstOf-keep (broken p) (grows p) (allPairs p) kept
+  where
+    kept : (q : Pair) → firstBroken p (allPairs p) ≡ some q → grows p q ≡ true
+    kept q h =
+        first-grows p ok (blockLimit p) (dMin p) (early-no-jobs p) (limit-fits p) (q .l) (q .b)
+        (break-under p (q .l) (q .b) (firstBroken-names p (q .l) (q .b) h))
+
+-- ---- The same verdict
+
+-- by lists with the same first broken pair the verdicts are the same, apart from their counts
+module _ (p : Plan) where
+  judged-apart : (first : Option Pair) (k m : ℕ) → apartFromPairs (judged p first k) ≡ apartFromPairs (judged p first m)
+  unfolding judged apartFromPairs
+  judged-apart none k m = refl
+  judged-apart (some q) k m = refl
+
+  verdictOver-apart :
+      (qs rs : List Pair) → firstBroken p qs ≡ firstBroken p rs → apartFromPairs (verdictOver p qs) ≡ apartFromPairs (verdictOver p rs)
+  unfolding verdictOver
+  verdictOver-apart qs rs same =
+      by-bool (overloaded p)
+      (λ t. rw t)
+      (λ e. rw (e, same) (judged-apart (firstBroken p rs) (length (compared p qs)) (length (compared p rs))))
+
+pub quick-agrees : (p : Plan) → LawfulPlan p → apartFromPairs (quickOf p) ≡ apartFromPairs (verdictOf p)
+quick-agrees p ok = verdictOver-apart p (quickPairs p) (allPairs p) (same-break p ok)
+
+-- whether it is a pass does not depend on the count
+isPass-apart : (v : Verdict) → isPass (apartFromPairs v) ≡ isPass v
+unfolding apartFromPairs isPass
+isPass-apart (Refused f at) = refl
+isPass-apart Overload = refl
+isPass-apart (Fail l b d k) = refl
+isPass-apart (Pass k) = refl
+
+-- the quick verdict passes exactly the plans that the full one passes
+pub quick-passes : (p : Plan) → LawfulPlan p → isPass (quickOf p) ≡ isPass (verdictOf p)
+quick-passes p ok = sym (isPass-apart (quickOf p)) ∙ ap isPass (quick-agrees p ok) ∙ isPass-apart (verdictOf p)
+
+-- ---- The same answer, for any input
+
+answers-apart :
+    (c : Checked) (v w : Verdict) → (c ≡ checked.Lawful → apartFromPairs v ≡ apartFromPairs w)
+    → apartFromPairs (onVerdict c v) ≡ apartFromPairs (onVerdict c w)
+answers-apart checked.Lawful v w same = same refl
+answers-apart (checked.Refused f at) v w same = refl
+
+pub quick-answer-agrees : (p : Plan) → apartFromPairs (quickAnswer p) ≡ apartFromPairs (verdictAnswer p)
+unfolding quickAnswer verdictAnswer
+quick-answer-agrees p = answers-apart (planCheck p) (quickOf p) (verdictOf p) (λ h. quick-agrees p (planCheck-lawful p h))
+
+pub quick-set-answer-agrees : (p : Plan) (m : ℕ) → apartFromPairs (quickSetAnswer p m) ≡ apartFromPairs (setAnswer p m)
+unfolding quickSetAnswer setAnswer
+quick-set-answer-agrees p m =
+    answers-apart (setCheck p m) (quickOf (withSet p m)) (verdictOf (withSet p m)) (λ h.
+    quick-agrees (withSet p m) (withSet-lawful p m (planCheck-lawful p (set-plan p m h))))

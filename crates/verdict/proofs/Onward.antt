@@ -1,0 +1,188 @@
+-- From the largest D on nothing blocks, and the walk goes from step to step: at a step a count grows, and between two steps none does.
+use Prim.Native.Nat.{ℕ, _+_, _-_, _≤_, _<_}
+use mathlib.Core.Path.{_≡_, refl, sym, ap, _∙_}
+use mathlib.Core.Bool.{true, false}
+use mathlib.Core.List.{List, [], _∷_, _++_}
+use native.Mathlib.Omega.{arith}
+use native.Mathlib.Decide.{ℕ-discrete}
+use borrow.Author.Tests.{lt-ltb}
+use denote.Enum.Declared.{tagOf}
+use types.Run.{OneOf, miss}
+use lib.Dec.{ltb}
+use lib.ListN.{length, getD}
+use Rattle.days.specs.Days.{days}
+use Rattle.rules.specs.declared.BatteryString.{BatteryString}
+use Rattle.rules.specs.declared.Plan.{Plan}
+use Rattle.rules.specs.declared.Verdict.{Verdict}
+use Rattle.rules.specs.declared.Verdict.the-variants.{Refused, Overload, Fail, Pass}
+use Rattle.rules.proofs.Verdict.{the-type}
+use Rattle.lists.specs.Count.{keep, smallestWith}
+use Rattle.rules.specs.Plan.{stringsOf, noString, dMin, dMax}
+use Rattle.rules.specs.Demand.{jobs, blockLimit, demand}
+use Rattle.rules.specs.Verdict.{Pair}
+use Rattle.lists.proofs.Lists.{all-map, all-at, any-at, largest-ge, largest-some, smallestWith-some, smallest-above, smallest-le}
+use Rattle.laws.proofs.Jobs.{jobs-short, jobs-first}
+use Rattle.laws.proofs.Lawful.{LawfulString, LawfulPlan}
+use Rattle.laws.proofs.Demand.{blockLimit-late}
+use Rattle.horizon.proofs.Pairs.{pair, rowFrom, rows, rows-end, scanFrom, scanFrom-end}
+use Rattle.growth.specs.Quick.{countAt, grows}
+use Rattle.growth.proofs.Counts.{countAt-taker, countAt-keeper}
+use Rattle.verdict.specs.Asked.{Ready, askedBy}
+use Rattle.verdict.specs.Steps.{stepAfter, Due, onward}
+use Rattle.verdict.proofs.Asked.{demand-parts}
+use Rattle.verdict.proofs.StringSums.{strings-count}
+use Rattle.verdict.proofs.Stepping.{step-jobs, step-jobs-more, soonest, soonest-past, soonest-within, soonest-asked, soonest-due}
+use Rattle.verdict.proofs.KeptRows.{kept-row, kept-rows}
+use Rattle.verdict.proofs.Looking.{none-rises, look-good, look-bad, look-end}
+
+-- what has ended is not changed by what is left
+pub onward-ended : (p : Plan) (v : Verdict) (qs : List Pair) → OneOf (0 ∷ (1 ∷ (2 ∷ []))) (tagOf the-type v) → onward p v qs ≡ v
+unfolding onward
+onward-ended p (Refused f at) qs h = refl
+onward-ended p Overload qs h = refl
+onward-ended p (Fail l b d k) qs h = refl
+onward-ended p (Pass k) qs h = absurd (miss (0 ∷ (1 ∷ (2 ∷ []))) 3 tt h)
+
+-- ---- Where a count grows with no blocking
+
+unblocked : (s : BatteryString) (l : ℕ) → LawfulString s → countAt s l 0 ≡ jobs s l
+unblocked s l ok =
+    let all-days : l - 0 ≡ l = omega arith in
+    elim (ℕ-discrete (s .x) 1) [ yes e ↦ countAt-taker s l 0 ok e ∙ ap (jobs s) all-days | no e ↦ countAt-keeper s l 0 e ]
+
+module _ (p : Plan) (ready : Ready p) where
+  lawful-at : (i : ℕ) → i < length (stringsOf p) → LawfulString (getD (stringsOf p) i noString)
+  lawful-at i h = all-at LawfulString (stringsOf p) noString (ready .lawful .each) i h
+
+  grows-at :
+      (i w : ℕ) → i < length (stringsOf p)
+      → jobs (getD (stringsOf p) i noString) (w - 1) < jobs (getD (stringsOf p) i noString) w
+      → grows p (pair w 0) ≡ true
+  unfolding grows
+  grows-at i w h more =
+      let s = getD (stringsOf p) i noString in
+      let counted : countAt s (w - 1) 0 < countAt s w 0 =
+      omega (arith, unblocked s (w - 1) (lawful-at i h), unblocked s w (lawful-at i h)) in
+      any-at (λ s. ltb (countAt s (w - 1) 0) (countAt s w 0)) (stringsOf p) noString i h (lt-ltb _ _ counted)
+
+  dMax-over : (i : ℕ) → i < length (stringsOf p) → getD (stringsOf p) i noString .d .0 ≤ dMax p
+  unfolding dMax
+  dMax-over i h = all-at (λ s. s .d .0 ≤ dMax p) (stringsOf p) noString (largest-ge (λ s. s .d .0) (stringsOf p)) i h
+
+  some-string : 0 < length (stringsOf p)
+  some-string = omega (arith, strings-count p ready, ready .lawful .nPos)
+
+  pub dMin-pos : 1 ≤ dMin p
+  unfolding dMin
+  dMin-pos =
+      smallest-above (λ s. s .d .0) 0 (stringsOf p) some-string
+      (all-map LawfulString (λ s. 0 < s .d .0) (λ s lawful. lawful .dPos) (stringsOf p) (ready .lawful .each))
+
+  pub dMin-dMax : dMin p ≤ dMax p
+  unfolding dMin
+  dMin-dMax =
+      let least : dMin p ≤ getD (stringsOf p) 0 noString .d .0 =
+      all-at (λ s. dMin p ≤ s .d .0) (stringsOf p) noString (smallest-le (λ s. s .d .0) (stringsOf p)) 0 some-string in
+      omega (arith, dMax-over 0 some-string)
+
+  pub dMax-pos : 1 ≤ dMax p
+  dMax-pos = omega (arith, dMin-pos, dMin-dMax)
+
+  -- the largest D is the first step of a string
+  pub dMax-grows : grows p (pair (dMax p) 0) ≡ true
+  unfolding dMax
+  dMax-grows =
+      let found = largest-some (λ s. s .d .0) (dMax p - 1) (stringsOf p) noString (omega (arith, dMax-pos)) in
+      let s = getD (stringsOf p) (found .0) noString in
+      let above = found .2 in
+      grows-at (found .0) (dMax p) (found .1)
+      (omega (arith, jobs-short s (dMax p - 1) above, jobs-first s (dMax p) (dMax-over (found .0) (found .1))))
+
+  -- and so is the soonest step of all
+  pub soonest-grows : (l end : ℕ) → l < end → soonest p ready l end < end → grows p (pair (soonest p ready l end) 0) ≡ true
+  soonest-grows l end h before =
+      let m = soonest p ready l end in
+      let found = smallestWith-some (stepAfter l) end (stringsOf p) noString before in
+      let s = getD (stringsOf p) (found .0) noString in
+      let lawful = lawful-at (found .0) (found .1) in
+      let here : m ≡ stepAfter l s = sym (found .2) in
+      let past = soonest-past p ready l end h in
+      grows-at (found .0) m (found .1)
+      (omega (arith, step-jobs-more s lawful l m here, step-jobs s lawful l (m - 1) (omega arith) (omega arith)))
+
+  -- between two steps none grows
+  pub soonest-still : (l end w : ℕ) → l < w → w < soonest p ready l end → grows p (pair w 0) ≡ false
+  soonest-still l end w low high =
+      let days-left : w - 0 ≡ w = omega arith in
+      let takers : askedBy p 1 w ≡ askedBy p 1 (w - 1) =
+      soonest-asked p ready l end 1 w (omega arith) high ∙ sym (soonest-asked p ready l end 1 (w - 1) (omega arith) (omega arith)) in
+      none-rises p (ready .lawful) w 0 (omega arith)
+      (soonest-asked p ready l end 0 w (omega arith) high ∙ sym (soonest-asked p ready l end 0 (w - 1) (omega arith) (omega arith)))
+      (ap (askedBy p 1) days-left ∙ takers ∙ sym (ap (λ v. askedBy p 1 (v - 1)) days-left))
+
+-- from l the walk goes on at m
+pub record Onto (p : Plan) (l end m : ℕ) (next : List ℕ) : Type 0 where
+  pub past : l < m
+  pub within : m ≤ end
+  pub due : Due p (m - 1) next
+  pub asked : (x : ℕ) → askedBy p x (m - 1) ≡ askedBy p x l
+  pub still : (w : ℕ) → l < w → w < m → grows p (pair w 0) ≡ false
+  pub looked : m < end → grows p (pair m 0) ≡ true
+
+pub onto-soonest :
+    (p : Plan) (ready : Ready p) (l end m : ℕ) (next : List ℕ) → l < end → m ≡ smallestWith (stepAfter l) end (stringsOf p) → Due p l next
+    → Onto p l end m next
+onto-soonest p ready l end m next h e due =
+    let past = soonest-past p ready l end h in
+    rw e (record {
+      past = past;
+      within = soonest-within p ready l end;
+      due = soonest-due p ready l end _ next (omega arith) (omega arith) due;
+      asked = λ x. soonest-asked p ready l end x _ (omega arith) (omega arith);
+      still = soonest-still p ready l end;
+      looked = soonest-grows p ready l end h;
+    })
+
+-- ---- The walk, k pairs compared so far
+
+pub demand-unblocked : (p : Plan) (l : ℕ) → LawfulPlan p → demand p l 0 ≡ askedBy p 0 l + askedBy p 1 l
+demand-unblocked p l ok =
+    let all-days : l - 0 ≡ l = omega arith in
+    let takers = ap (askedBy p 1) all-days in
+    omega (arith, demand-parts p l 0 ok)
+
+module _ (p : Plan) (k l end : ℕ) where
+  -- what is left, and the row of l of it
+  abbrev rest : List Pair
+  rest = keep (grows p) (rows p (l + 1) (end - (l + 1)))
+
+  into-row : l < end → scanFrom p k (keep (grows p) (rows p l (end - l))) ≡ scanFrom p k (keep (grows p) (rowFrom p l 0) ++ rest)
+  into-row h = ap (scanFrom p k) (kept-row p (grows p) l end h)
+
+  pub onward-bad :
+      l < end → grows p (pair l 0) ≡ true → l < demand p l 0
+      → scanFrom p k (keep (grows p) (rows p l (end - l))) ≡ Fail (days l) (days 0) (days (demand p l 0)) (k + 1)
+  onward-bad h looked bad = into-row h ∙ look-bad p k l 0 rest (omega arith) looked bad
+
+  pub onward-good :
+      (m : ℕ) → dMax p ≤ l → l < end → grows p (pair l 0) ≡ true → demand p l 0 ≤ l
+      → l < m → m ≤ end → ((w : ℕ) → l < w → w < m → grows p (pair w 0) ≡ false)
+      → scanFrom p k (keep (grows p) (rows p l (end - l))) ≡ scanFrom p (k + 1) (keep (grows p) (rows p m (end - m)))
+  onward-good m late h looked good low high still =
+      into-row h
+      ∙ look-good p k l 0 rest (omega arith) looked good
+      ∙ look-end p (k + 1) l (0 + 1) rest (omega (arith, blockLimit-late p l late))
+      ∙ ap (scanFrom p (k + 1)) (kept-rows p (grows p) (l + 1) m end (omega arith) high none)
+    where
+      none : (w b : ℕ) → l + 1 ≤ w → w < m → b ≤ blockLimit p w → grows p (pair w b) ≡ false
+      none w b under over held =
+          let no-blocking : b ≡ 0 = omega (arith, blockLimit-late p w (omega arith)) in
+          ap (λ c. grows p (pair w c)) no-blocking ∙ still w (omega arith) over
+
+  pub onward-end : end ≤ l → scanFrom p k (keep (grows p) (rows p l (end - l))) ≡ Pass k
+  unfolding keep
+  onward-end h =
+      let left : end - l ≡ 0 = omega arith in
+      ap (λ m. scanFrom p k (keep (grows p) (rows p l m))) left
+      ∙ ap (λ qs. scanFrom p k (keep (grows p) qs)) (rows-end p l)
+      ∙ scanFrom-end p k

@@ -1,0 +1,311 @@
+-- `verdict::growing::early` meets its contract: the rows below the largest D one after the other, each handing on its count of pairs.
+use Prim.Native.Nat.{ℕ, _+_, _-_, _*_, _≤_, _<_}
+use mathlib.Core.Path.{_≡_, sym, ap, _∙_, subst}
+use mathlib.Core.List.{List}
+use native.Mathlib.Omega.{arith}
+use borrow.Author.Needs.{needs}
+use lib.ListN.{length, getD, set, replicate, length-set, length-replicate, getD-replicate}
+use Rattle.lists.specs.Count.{keep}
+use Rattle.rules.specs.Plan.{multipleOf, dMin, dMax}
+use Rattle.rules.specs.Verdict.{Pair}
+use Rattle.horizon.proofs.Pairs.{rows, scanFrom, allPairs-rows}
+use Rattle.growth.specs.Quick.{grows, quickPairs}
+use Rattle.verdict.specs.Asked.{askedBy}
+use Rattle.verdict.specs.Steps.{Due, Mark, Looked, RowKnown, onward, pairsOf}
+use Rattle.verdict.proofs.Asked.{askedBy-le}
+use Rattle.verdict.proofs.Blocking.{dMax-le}
+use Rattle.verdict.proofs.KeptRows.{kept-row, kept-rows}
+use Rattle.verdict.proofs.Stepping.{asked-early}
+use Rattle.verdict.proofs.Looking.{early-still, mark-early, mark-next, looked-next}
+use Rattle.verdict.proofs.Onward.{onward-ended, dMin-pos, dMin-dMax}
+use Rattle.verdict.proofs.growing.early.Statement.{statement}
+use Rattle.verdict.proofs.growing.early.Tie as tie
+
+abbrev Inv-loop : tie.InvT-loop
+Inv-loop p first last every keeps takes next₀ takers₀ marks₀ keepers₀ asked₀ mark₀ pairs₀ l₀ next takers marks keepers asked mark pairs l =
+    (1 ≤ l)
+    × (l ≤ last)
+    × (pairs ≤ 1001 * l)
+    × (Due p (l - 1) next)
+    × (keepers ≡ askedBy p 0 (l - 1))
+    × (asked ≡ askedBy p 1 (l - 1))
+    × (Mark p l mark)
+    × (length takers ≡ 1024)
+    × (length marks ≡ 1024)
+    × (Looked p l takers marks)
+    × (scanFrom p pairs (keep (grows p) (rows p l (dMax p + multipleOf p - l))) ≡ scanFrom p 0 (quickPairs p))
+
+abbrev μ-loop : tie.MeasureT-loop
+μ-loop p first last every keeps takes next₀ takers₀ marks₀ keepers₀ asked₀ mark₀ pairs₀ l₀ next takers marks keepers asked mark pairs l =
+    last - l
+
+-- what is known at a turn: where it starts, the largest D, the interval it comes to
+abbrev last : tie.At-loop Inv-loop μ-loop → tie.After-largest-d Inv-loop μ-loop
+last c = c .before .before .before .before .before .before .before .before
+
+abbrev start : tie.At-loop Inv-loop μ-loop → tie.Start Inv-loop μ-loop
+start c = last c .before .before
+
+abbrev turn : tie.After-advance Inv-loop μ-loop → tie.In-loop Inv-loop μ-loop
+turn c = c .before .before .before .before .before
+
+abbrev at : tie.After-advance Inv-loop μ-loop → tie.At-loop Inv-loop μ-loop
+at c = turn c .before
+
+abbrev step : tie.After-marked Inv-loop μ-loop → tie.After-advance Inv-loop μ-loop
+step c = c .before .before .before
+
+abbrev marks : tie.After-row Inv-loop μ-loop → tie.After-marked Inv-loop μ-loop
+marks c = c .before .before .before
+
+smallest-d-requires : tie.Need-smallest-d-requires Inv-loop μ-loop
+smallest-d-requires c κs = c .pre
+
+largest-d-requires : tie.Need-largest-d-requires Inv-loop μ-loop
+largest-d-requires c κs = c .before .pre
+
+parts-of-requires : tie.Need-parts-of-requires Inv-loop μ-loop
+parts-of-requires c κs = c .before .before .pre
+
+sub-steps-after : tie.Need-sub-steps-after Inv-loop μ-loop
+sub-steps-after c =
+    let least = c .before .before .before .before .before in
+    omega (arith, least .smallest-d .ensures, dMin-pos (least .before .args .p) (least .before .pre))
+
+steps-after-requires : tie.Need-steps-after-requires Inv-loop μ-loop
+steps-after-requires c κs =
+    let least = c .before .before .before .before .before in
+    let p = least .before .args .p in
+    let ready = least .before .pre in
+    (ready, omega (arith, least .smallest-d .ensures, dMin-dMax p ready, dMax-le p (ready .lawful)))
+
+none-known-requires : tie.Need-none-known-requires Inv-loop μ-loop
+none-known-requires c κs = search needs
+
+none-known-requires-2 : tie.Need-none-known-requires-2 Inv-loop μ-loop
+none-known-requires-2 c κs = search needs
+
+loop-holds : tie.Need-loop-holds Inv-loop μ-loop
+unfolding quickPairs
+loop-holds c =
+    let top = c .before .before .before .before .before .before .before in
+    let p = top .before .before .args .p in
+    let ready = top .before .before .pre in
+    let first = top .before .smallest-d .result in
+    let least : first ≡ dMin p = top .before .smallest-d .ensures in
+    let some = dMin-pos p ready in
+    let low : dMin p ≤ 1000 = omega (arith, dMin-dMax p ready, dMax-le p (ready .lawful)) in
+    let before : (x w : ℕ) → w < first → askedBy p x w ≡ 0 = λ x w h. asked-early p x w (omega arith) in
+    let none : (i : ℕ) (xs : List ℕ) → i ≤ 1000 → xs ≡ replicate 1024 0 → getD xs i 0 ≡ 0 =
+    λ i xs h e. ap (λ ys. getD ys i 0) e ∙ getD-replicate 1024 i 0 0 (omega arith) in
+    let end = dMax p + multipleOf p in
+    let skipped = kept-rows p (grows p) 1 first end (omega arith) (omega (arith, dMin-dMax p ready))
+    (λ w b one below held. early-still p (ready .lawful) w b one (omega arith)) in (
+      omega arith,
+      omega (arith, top .largest-d .ensures, dMin-dMax p ready),
+      omega arith,
+      c .before .before .steps-after .ensures,
+      sym (before 0 (first - 1) (omega arith)),
+      sym (before 1 (first - 1) (omega arith)),
+      mark-early p first (omega arith),
+      ap length (c .before .none-known .ensures) ∙ length-replicate {A = ℕ} 1024 0,
+      ap length (c .none-known2 .ensures) ∙ length-replicate {A = ℕ} 1024 0,
+      record {
+        known = λ w h. none w _ (omega arith) (c .before .none-known .ensures) ∙ sym (before 1 w h);
+        marked = λ j h. subst (Mark p j) (sym (none j _ (omega arith) (c .none-known2 .ensures))) (mark-early p j (omega arith));
+      },
+      ap (scanFrom p 0) (sym skipped) ∙ ap (λ qs. scanFrom p 0 (keep (grows p) qs)) (sym (allPairs-rows p)),
+    )
+
+-- the interval of a turn is below the largest D
+short : (c : tie.In-loop Inv-loop μ-loop) → c .before .loop .l ≤ 999
+short c =
+    let begin = start (c .before) in
+    omega (arith, last (c .before) .largest-d .ensures, dMax-le (begin .args .p) (begin .pre .lawful))
+
+advance-requires : tie.Need-advance-requires Inv-loop μ-loop
+advance-requires c κs =
+    let in-turn = c .before .before .before .before in
+    let here = in-turn .before in
+    let parts = here .before .before .before .before .before .before .before in
+    (start here .pre, (here .loop .inv .0, (omega (arith, short in-turn), (parts .parts-of .ensures, here .loop .inv .3))))
+
+-- what is added up at a turn is what is asked within its interval
+keepers :
+    (c : tie.After-advance Inv-loop μ-loop)
+    → at c .loop .keepers + c .advance .result .keepers ≡ askedBy (start (at c) .args .p) 0 (at c .loop .l)
+keepers c = omega (arith, at c .loop .inv .4, c .advance .ensures .1 .0)
+
+takers :
+    (c : tie.After-advance Inv-loop μ-loop)
+    → at c .loop .asked + c .advance .result .takers ≡ askedBy (start (at c) .args .p) 1 (at c .loop .l)
+takers c = omega (arith, at c .loop .inv .5, c .advance .ensures .1 .1 .0)
+
+small : (c : tie.In-loop Inv-loop μ-loop) (x : ℕ) → askedBy (start (c .before) .args .p) x (c .before .loop .l) ≤ 2020000000
+small c x = askedBy-le (start (c .before) .args .p) x (c .before .loop .l) (start (c .before) .pre .lawful) (omega (arith, short c))
+
+add-keepers : tie.Need-add-keepers Inv-loop μ-loop
+add-keepers c = omega (arith, keepers (c .before), small (turn (c .before)) 0)
+
+add-asked : tie.Need-add-asked Inv-loop μ-loop
+add-asked c = omega (arith, takers (c .before .before), small (turn (c .before .before)) 1)
+
+marked-requires : tie.Need-marked-requires Inv-loop μ-loop
+marked-requires c κs = omega (arith, short (turn (c .before .before)))
+
+cast-at : tie.Need-cast-at Inv-loop μ-loop
+cast-at c = omega (arith, short (turn (step c)))
+
+add-above : tie.Need-add-above Inv-loop μ-loop
+add-above c = omega (arith, short (turn (step c)))
+
+mul-takers : tie.Need-mul-takers Inv-loop μ-loop
+mul-takers c = omega (arith, short (turn (step c)))
+
+array-write-takers : tie.Need-array-write-takers Inv-loop μ-loop
+array-write-takers c = omega (arith, short (turn (step c)))
+
+mul-marks : tie.Need-mul-marks Inv-loop μ-loop
+mul-marks c = omega (arith, short (turn (step c)))
+
+array-write-marks : tie.Need-array-write-marks Inv-loop μ-loop
+array-write-marks c = omega (arith, short (turn (step c)))
+
+-- the mark of this turn
+mark : (c : tie.After-marked Inv-loop μ-loop) → Mark (start (at (step c)) .args .p) (at (step c) .loop .l + 1) (c .marked .result)
+mark c =
+    let loop = at (step c) .loop in
+    let p = start (at (step c)) .args .p in
+    subst (Mark p (loop .l + 1)) (sym (c .marked .ensures))
+    (mark-next p (loop .l) (step c .advance .result .takers) (loop .mark) (step c .advance .ensures .1 .1 .0) (loop .inv .6))
+
+-- and what is looked up from it on
+looked :
+    (c : tie.After-marked Inv-loop μ-loop)
+    → Looked (start (at (step c)) .args .p) (at (step c) .loop .l + 1)
+    (set (at (step c) .loop .takers) (at (step c) .loop .l) (at (step c) .loop .asked + step c .advance .result .takers))
+    (set (at (step c) .loop .marks) (at (step c) .loop .l + 1) (c .marked .result))
+looked c =
+    let loop = at (step c) .loop in
+    looked-next _ (loop .l) _ _ (loop .takers) (loop .marks) (loop .inv .7) (loop .inv .8) (omega (arith, short (turn (step c))))
+    (takers (step c)) (mark c) (loop .inv .9)
+
+row-requires : tie.Need-row-requires Inv-loop μ-loop
+row-requires c κs =
+    let marked = c .before .before in
+    let here = at (step marked) in
+    let known : RowKnown (start here .args .p) (here .loop .l) (here .loop .keepers + step marked .advance .result .keepers)
+    (step marked .advance .result .keepers) _ _ =
+    record {
+      pos = here .loop .inv .0;
+      short = omega (arith, short (turn (step marked)));
+      kept = keepers (step marked);
+      grown = step marked .advance .ensures .1 .0;
+      looked = looked marked;
+    } in
+    (start here .pre, (last here .before .smallest-d .ensures, (last here .largest-d .ensures, (known, here .loop .inv .2))))
+
+enum-known-found : tie.Need-enum-known-found Inv-loop μ-loop
+enum-known-found c = search needs
+
+-- a row and the rows after it
+abbrev rest : (c : tie.After-row Inv-loop μ-loop) → List Pair
+rest c =
+    let here = at (step (marks c)) in
+    let p = start here .args .p in
+    keep (grows p) (rows p (here .loop .l + 1) (dMax p + multipleOf p - (here .loop .l + 1)))
+
+onto :
+    (c : tie.After-row Inv-loop μ-loop)
+    → onward (start (at (step (marks c))) .args .p) (c .row .result) (rest c)
+    ≡ scanFrom (start (at (step (marks c))) .args .p) 0 (quickPairs (start (at (step (marks c))) .args .p))
+onto c =
+    let here = at (step (marks c)) in
+    let loop = here .loop in
+    let p = start here .args .p in
+    let inside = turn (step (marks c)) .loop-test .taken in
+    let below : loop .l < dMax p + multipleOf p = omega (arith, last here .largest-d .ensures) in
+    c .row .ensures .0 (rest c)
+    ∙ sym (ap (scanFrom p (loop .pairs)) (kept-row p (grows p) (loop .l) (dMax p + multipleOf p) below))
+    ∙ loop .inv .10
+
+returns : tie.Need-returns Inv-loop μ-loop
+returns c =
+    let inside = turn (step (marks (c .before))) .loop-test .taken in (
+      onward-ended _ _ _ (c .match .keys2) ∙ sym (onward-ended _ _ _ (c .match .keys2)) ∙ onto (c .before),
+      omega (arith, c .before .row .ensures .1, last (at (step (marks (c .before)))) .largest-d .ensures),
+    )
+
+add-l : tie.Need-add-l Inv-loop μ-loop
+add-l c = omega (arith, short (turn (step (marks (c .before .before .before)))))
+
+loop-less : tie.Need-loop-less Inv-loop μ-loop
+loop-less c = omega (arith, turn (step (marks (c .before .before .before))) .loop-test .taken)
+
+loop-again : tie.Need-loop-again Inv-loop μ-loop
+unfolding onward pairsOf
+loop-again c =
+    let row = c .before .before .before in
+    let marked = marks row in
+    let loop = at (step marked) .loop in
+    let p = start (at (step marked)) .args .p in
+    let inside = turn (step marked) .loop-test .taken in
+    let back : loop .l + 1 - 1 ≡ loop .l = omega arith in
+    let passed = c .before .found .given .1 in (
+      omega arith,
+      omega arith,
+      omega (arith, row .row .ensures .1, ap pairsOf passed),
+      subst (λ l. Due p l (step marked .advance .last .1 .1 .1 .1 .1 .1 .0)) (sym back) (step marked .advance .ensures .0),
+      keepers (step marked) ∙ ap (askedBy p 0) (sym back),
+      takers (step marked) ∙ ap (askedBy p 1) (sym back),
+      mark marked,
+      length-set (loop .takers) (loop .l) _ ∙ loop .inv .7,
+      length-set (loop .marks) (loop .l + 1) _ ∙ loop .inv .8,
+      looked marked,
+      sym (ap (λ v. onward p v (rest row)) passed) ∙ onto row,
+    )
+
+returns-2 : tie.Need-returns-2 Inv-loop μ-loop
+unfolding onward pairsOf
+returns-2 c =
+    let loop = c .before .loop in
+    let p = start (c .before) .args .p in
+    let end : loop .l ≡ dMax p = omega (arith, loop .inv .1, last (c .before) .largest-d .ensures, c .loop-test .left) in
+    let left : dMax p + multipleOf p - loop .l ≡ multipleOf p = omega arith in (
+      ap (λ l. scanFrom p (loop .pairs) (keep (grows p) (rows p l (multipleOf p)))) (sym end)
+          ∙ ap (λ m. scanFrom p (loop .pairs) (keep (grows p) (rows p (loop .l) m))) (sym left)
+          ∙ loop .inv .10,
+      omega (arith, end, loop .inv .2),
+    )
+
+pub early-spec : {M : Type 1} → statement M
+early-spec =
+    tie.close
+    (tie.spec
+    Inv-loop
+    μ-loop
+    smallest-d-requires
+    largest-d-requires
+    parts-of-requires
+    sub-steps-after
+    steps-after-requires
+    none-known-requires
+    none-known-requires-2
+    loop-holds
+    advance-requires
+    add-keepers
+    add-asked
+    marked-requires
+    cast-at
+    add-above
+    mul-takers
+    array-write-takers
+    mul-marks
+    array-write-marks
+    row-requires
+    enum-known-found
+    returns
+    add-l
+    loop-less
+    loop-again
+    returns-2)

@@ -1,0 +1,79 @@
+-- `verdict::quick_with` meets its contract: the check decides, then the quick verdict.
+use mathlib.Core.Path.{_≡_, sym, ap, _∙_, subst}
+use borrow.Author.Needs.{needs}
+use lib.ListN.{length-map}
+use Rattle.faults.specs.declared.Checked.the-variants.{Lawful}
+use Rattle.rules.specs.Plan.{multipleOf}
+use Rattle.growth.specs.Quick.{quickOf}
+use Rattle.rules.specs.Refusal.{setCheck}
+use Rattle.horizon.proofs.Sets.{withSet-multiple}
+use Rattle.verdict.specs.Asked.{Ready}
+use Rattle.verdict.proofs.Permit.{ready-with}
+use Rattle.laws.proofs.Answers.{set-plan}
+use Rattle.growth.proofs.Answers.{quick-set-lawful, quick-set-refused}
+use Rattle.verdict.proofs.Readiness.{ready-plan}
+use Rattle.verdict.proofs.quick_with.Statement.{statement}
+use Rattle.verdict.proofs.quick_with.Tie as tie
+
+set-check-requires : tie.Need-set-check-requires
+set-check-requires c κs = search needs
+
+enum-told : tie.Need-enum-told
+enum-told c = search needs
+
+multiple-requires : tie.Need-multiple-requires
+multiple-requires c κs = search needs
+
+-- what the check said
+lawful : (c : tie.After-enum-told) → setCheck (c .before .before .before .args .p) (c .before .before .before .args .set) ≡ Lawful
+lawful c = sym (c .before .before .set-check .ensures) ∙ c .enum-told .given .1
+
+-- the plan is ready
+ready : (c : tie.After-enum-told) → Ready (c .before .before .before .args .p)
+ready c =
+    let start = c .before .before .before in
+    ready-plan (start .args .p) (set-plan (start .args .p) (start .args .set) (lawful c))
+    (simp length-map at (start .good .0 .1 .1 .1 .1 .1 .0 .1 .0 .1))
+
+with-set-requires : tie.Need-with-set-requires
+with-set-requires c κs = ready c
+
+quickly-judged-requires : tie.Need-quickly-judged-requires
+quickly-judged-requires c κs =
+    let made = c .before in
+    let start = made .before .before .before .before in (
+      subst Ready (sym (made .with-set .ensures)) (ready-with (start .args .p) (start .args .set) (ready (made .before))),
+      c .multiple .ensures ∙ sym (ap multipleOf (made .with-set .ensures) ∙ withSet-multiple (start .args .p) (start .args .set)),
+    )
+
+enum-known-checked : tie.Need-enum-known-checked
+enum-known-checked c = search needs
+
+returns : tie.Need-returns
+returns c =
+    let made = c .before .before in
+    let told = made .before in
+    let start = told .before .before .before in
+    c .quickly-judged .ensures
+    ∙ ap quickOf (made .with-set .ensures)
+    ∙ sym (quick-set-lawful (start .args .p) (start .args .set) (lawful told))
+
+returns-2 : tie.Need-returns-2
+returns-2 c =
+    let known = c .before in
+    let check = known .before .before in
+    let start = check .before in
+    sym (quick-set-refused (start .args .p) (start .args .set) _ _ (sym (check .set-check .ensures) ∙ known .checked .given .1))
+
+pub quick-with-spec : {M : Type 1} → statement M
+quick-with-spec =
+    tie.close
+    (tie.spec
+    set-check-requires
+    enum-told
+    with-set-requires
+    multiple-requires
+    quickly-judged-requires
+    enum-known-checked
+    returns
+    returns-2)

@@ -1,0 +1,77 @@
+//! What the clerk is asked about a file, and what it has to write for it.
+
+use crate::chance::Chance;
+use crate::edges::pages;
+use crate::mix::{make, make_at_the_border, Made};
+use crate::options::Subject;
+use crate::rules::frames::read;
+use crate::rules::plan::Plan;
+use crate::rules::quick::quick;
+use crate::rules::rule::verdict;
+use crate::saving::{into_page, saved, Saved};
+
+/// The words of a command about a file of some name, and its answer.
+pub struct Asked {
+    pub command: String,
+    pub answer: Saved,
+}
+
+/// The file of this number that the subject asks about.
+pub fn file(subject: Subject, seed: u64, file: u64) -> Made {
+    match subject {
+        Subject::Save => make(seed, file),
+        Subject::Quick => make_at_the_border(seed, file),
+    }
+}
+
+/// The questions about a file, or which claim of this program's own it breaks.
+pub fn about(
+    subject: Subject,
+    chance: &mut Chance,
+    text: &[u8],
+    name: &str,
+) -> Result<Vec<Asked>, &'static str> {
+    match subject {
+        Subject::Save => about_saving(chance, text, name),
+        Subject::Quick => about_quick_verdicts(text, name),
+    }
+}
+
+/// Alone and in pages. A lawful file is the one text of its plan.
+fn about_saving(chance: &mut Chance, text: &[u8], name: &str) -> Result<Vec<Asked>, &'static str> {
+    let whole = saved(text);
+    if whole.as_ref().map_or(false, |written| written != text) {
+        return Err("a plan has another text");
+    }
+    let mut asked = vec![Asked {
+        command: format!("save {name}"),
+        answer: whole.clone(),
+    }];
+    asked.extend(pages(chance, &whole).into_iter().map(|page| Asked {
+        command: format!("save {name} {} {}", page.size, page.place),
+        answer: into_page(&whole, page),
+    }));
+    Ok(asked)
+}
+
+/// The two engines agree on all but the count of pairs.
+fn about_quick_verdicts(text: &[u8], name: &str) -> Result<Vec<Asked>, &'static str> {
+    let plan = read(text);
+    if plan.as_ref().map_or(false, |plan| !engines_agree(plan)) {
+        return Err("the quick verdict is another");
+    }
+    let line = |plan: Plan| format!("{}\n", quick(&plan, cycle(&plan))).into_bytes();
+    Ok(vec![Asked {
+        command: format!("quick {name}"),
+        answer: plan.map(line),
+    }])
+}
+
+fn engines_agree(plan: &Plan) -> bool {
+    let (quick, full) = (quick(plan, cycle(plan)), verdict(plan, cycle(plan)));
+    quick.apart_from_pairs() == full.apart_from_pairs()
+}
+
+fn cycle(plan: &Plan) -> u64 {
+    plan.cycle().expect("a plan that was read has H in bounds")
+}
