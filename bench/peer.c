@@ -1,4 +1,4 @@
-// A plain C peer of the plan's check, the verdict and the search (document 01), and a clock for them.
+// A plain C peer of the plan's check, the verdict and the search (document 01, and 02's W-205), and a clock for them.
 // It declares what it uses of the C library itself: the kit's compiler builds it for x86-64 on any machine, without headers.
 typedef unsigned int uint32_t;
 typedef unsigned long uint64_t;
@@ -53,7 +53,7 @@ static uint32_t demand(const Plan *p, uint32_t l, uint32_t b) {
 static uint32_t limit(const Plan *p, uint32_t first, uint32_t last, uint32_t l) {
     if (l < first || l >= last) return 0;
     uint32_t most = 0;
-    for (uint32_t i = 0; i < p->n; i++) if (l < p->s[i].d && hold(p, &p->s[i]) > most) most = hold(p, &p->s[i]);
+    for (uint32_t i = 0; i < p->n; i++) if (l < p->s[i].d && hold(p, &p->s[i]) - 1 > most) most = hold(p, &p->s[i]) - 1;
     return l < most ? l : most;
 }
 

@@ -1,4 +1,4 @@
-//! The plans whose answers document 01 gives, and the dates of document 02.
+//! The plans whose answers document 01 gives, with document 02's blocking limit (W-205), and its dates.
 
 use crate::calendar::answer::Calendar;
 use crate::rules::answer::Answer;
@@ -75,8 +75,8 @@ fn verdicts() -> Cases {
     let single = plan(&[(2, 2, 2)], 1);
     let daily = plan(&[(1, 1, 1)], 0);
     vec![
-        ("P1", verdict_with(&two_strings(), 1) == pass(44)),
-        ("P2", verdict_with(&two_strings(), 3) == pass(48)),
+        ("P1", verdict_with(&two_strings(), 1) == pass(39)),
+        ("P2", verdict_with(&two_strings(), 3) == pass(44)),
         ("P3", verdict_with(&two_strings(), 0) == fail(5, 3, 6, 8)),
         ("P5", verdict_with(&three_strings(), 2) == fail(6, 4, 7, 10)),
         (
@@ -114,9 +114,10 @@ fn searches() -> Cases {
     let example_2 = plan(&[(7, 1, 2), (6, 1, 4), (7, 2, 6)], 1);
     let example_3 = plan(&[(10, 1, 3), (3, 1, 3), (5, 2, 5)], 1);
     vec![
-        ("P4", found(&example_2) == Some(3)),
+        ("P4", found(&example_2) == Some(0)),
         ("P7", found(&three_strings()) == Some(0)),
-        ("P8", found(&example_3) == Some(1)),
+        ("P8", found(&example_3) == Some(0)),
+        ("P1's strings", found(&two_strings()) == Some(1)),
     ]
 }
 
@@ -133,7 +134,7 @@ const SAMPLE: &[u8] = b"010102000100000014\n0201000a00030005\n0200000a0005000a\n
     0302000000000005\n0301000000010003\n";
 
 fn readings() -> Cases {
-    const ANSWER: &str = "verdict pass pairs 44\nassign 1\nrun clean work 8 move 1 idle 11\n";
+    const ANSWER: &str = "verdict pass pairs 39\nassign 1\nrun clean work 8 move 1 idle 11\n";
     let periods = |periods: &[u64]| {
         let strings: Vec<_> = periods.iter().map(|t| (*t, 1, *t)).collect();
         let text = writing::text(&plan(&strings, 0));

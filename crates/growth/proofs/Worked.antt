@@ -24,8 +24,8 @@ row p m a = record { plan = p; set = m; said = a }
 
 unfoldable pub table : List Row
 table =
-    row two 1 (pass 7)  -- P1, of 44 pairs
-    ∷ row two 3 (pass 7)  -- P2, of 48
+    row two 1 (pass 7)  -- P1, of 39 pairs
+    ∷ row two 3 (pass 7)  -- P2, of 44
     ∷ row two 0 (fail 5 3 6 4)  -- P3, of 8
     ∷ row five 2 (fail 6 4 7 5)  -- P5, of 10
     ∷ row nine 1 (overload 0)  -- P9

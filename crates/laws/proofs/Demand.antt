@@ -76,7 +76,7 @@ pub blockLimit-between : (p : Plan) (l : ℕ) → dMin p ≤ l → l < dMax p �
 unfolding blockLimit
 blockLimit-between p l h k = rw (le-leb (dMin p) l h, lt-ltb l (dMax p) k)
 
-pub blockerHold-early : (p : Plan) (l : ℕ) (s : BatteryString) → l < s .d .0 → blockerHold p l s ≡ holdOf p s
+pub blockerHold-early : (p : Plan) (l : ℕ) (s : BatteryString) → l < s .d .0 → blockerHold p l s ≡ holdOf p s - 1
 unfolding blockerHold
 blockerHold-early p l s h = rw (lt-ltb l (s .d .0) h)
 
@@ -84,7 +84,7 @@ pub blockerHold-late : (p : Plan) (l : ℕ) (s : BatteryString) → s .d .0 ≤ 
 unfolding blockerHold
 blockerHold-late p l s h = rw (le-ltb l (s .d .0) h)
 
--- a job that blocks has used a day at most before the window
+-- what is left of a job that has already worked a day
 pub blockerHold-hold : (p : Plan) (l : ℕ) (s : BatteryString) → l < s .d .0 → holdOf p s ≤ suc (blockerHold p l s)
 blockerHold-hold p l s h = omega (arith, blockerHold-early p l s h)
 

@@ -1,6 +1,6 @@
 -- The user's demands, of what the code answered. UserWords: demand 2. QuickAgrees: both engines say the same. ReadLawful, NeverMisses:
 -- demand 3. OneText: reading and writing undo each other. ThreeLines: what a file's answer can hold. ShutOut, OnlyOne: what the contracts
--- rule out. EquationSeven: what the source printed.
+-- rule out.
 pub mod UserWords
 pub mod QuickAgrees
 pub mod ReadLawful
@@ -10,4 +10,3 @@ pub mod OneText
 pub mod ShutOut
 pub mod Dates
 pub mod OnlyOne
-pub mod EquationSeven

@@ -23,7 +23,7 @@ use Rattle.rules.specs.Refusal.{onVerdict, onAssign, onOutcome, planCheck, setC
 use Rattle.rules.specs.Text.{readingOf}
 use Rattle.rules.specs.Answer.{answered, answerOf}
 use Rattle.rules.specs.Said.{Said, lawful, fail, pass, takers, clean, checkedSays, verdictSays, assignSays, outcomeSays}
-use Rattle.rules.proofs.Worked.{table, row, release, releases, two, eight, level, sample, worked}
+use Rattle.rules.proofs.Worked.{table, row, release, releases, two, level, sample, worked}
 use Rattle.rules.proofs.Worked as page
 use Rattle.laws.proofs.Says.{says-lawful}
 use Rattle.sets.proofs.Permissions.{set-is-plan}
@@ -44,7 +44,7 @@ at : (i : ℕ)
     (page.Answer.written [])
 at i = ap (λ rows. getD rows i (page.Answer.written [])) worked
 
-p1-with : verdictSays (setAnswer two 1) ≡ pass 44
+p1-with : verdictSays (setAnswer two 1) ≡ pass 39
 unfolding table row page.answered
 p1-with =
     let e = at 0 in
@@ -56,10 +56,11 @@ p3-with =
     let e = at 3 in
     cc
 
-p8 : assignSays (searchAnswer eight) ≡ takers 1
+-- the search for P1's strings
+p1-search : assignSays (searchAnswer two) ≡ takers 1
 unfolding table row page.answered
-p8 =
-    let e = at 8 in
+p1-search =
+    let e = at 18 in
     cc
 
 abbrev list : Releases
@@ -110,14 +111,14 @@ clean-not-refused w m i (n, (at, h)) = never (cc)
 
 p1-set : setCheck two 1 ≡ Lawful
 unfolding setAnswer
-p1-set = set-was-lawful (setCheck two 1) _ (pass 44) p1-with (pass-not-refused 44)
+p1-set = set-was-lawful (setCheck two 1) _ (pass 39) p1-with (pass-not-refused 39)
 
 p3-set : setCheck two 0 ≡ Lawful
 unfolding setAnswer
 p3-set = set-was-lawful (setCheck two 0) _ (fail 5 3 6 8) p3-with (fail-not-refused 5 3 6 8)
 
 -- the same plans with the set in their X
-p1 : verdictSays (verdictAnswer (withSet two 1)) ≡ pass 44
+p1 : verdictSays (verdictAnswer (withSet two 1)) ≡ pass 39
 p1 = ap verdictSays (sym (set-is-plan two 1 p1-set)) ∙ p1-with
 
 p3 : verdictSays (verdictAnswer (withSet two 0)) ≡ fail 5 3 6 8
@@ -125,15 +126,15 @@ p3 = ap verdictSays (sym (set-is-plan two 0 p3-set)) ∙ p3-with
 
 p1-lawful : planCheck (withSet two 1) ≡ Lawful
 unfolding verdictAnswer
-p1-lawful = set-was-lawful (planCheck (withSet two 1)) _ (pass 44) p1 (pass-not-refused 44)
+p1-lawful = set-was-lawful (planCheck (withSet two 1)) _ (pass 39) p1 (pass-not-refused 39)
 
 p3-lawful : planCheck (withSet two 0) ≡ Lawful
 unfolding verdictAnswer
 p3-lawful = set-was-lawful (planCheck (withSet two 0)) _ (fail 5 3 6 8) p3 (fail-not-refused 5 3 6 8)
 
-p8-lawful : planCheck eight ≡ Lawful
+two-lawful : planCheck two ≡ Lawful
 unfolding searchAnswer
-p8-lawful = assign-was-lawful (planCheck eight) _ (takers 1) p8 (takers-not-refused 1)
+two-lawful = assign-was-lawful (planCheck two) _ (takers 1) p1-search (takers-not-refused 1)
 
 run-lawful : runCheck (withSet level 2) list ≡ Lawful
 unfolding runAnswer
@@ -150,7 +151,7 @@ module _ (κs : Lfts 0) (program : Plan → Verdict) (after : Plan → _) (meets
     -- refuses every plan
     pub verdict-refusing-all : ((p : Plan) → Refuses (verdictSays (program p))) → ⊥
     verdict-refusing-all wrong =
-        pass-not-refused 44 (subst Refuses (ap verdictSays (meets (withSet two 1)) ∙ p1) (wrong (withSet two 1)))
+        pass-not-refused 39 (subst Refuses (ap verdictSays (meets (withSet two 1)) ∙ p1) (wrong (withSet two 1)))
 
     -- says pass of every lawful plan, whatever it does with the others
     pub verdict-passing-all : ((p : Plan) → planCheck p ≡ Lawful → SaysPass (verdictSays (program p))) → ⊥
@@ -162,7 +163,7 @@ module _ (κs : Lfts 0) (program : Plan → Verdict) (after : Plan → _) (meets
     -- fails every lawful plan
     pub verdict-failing-all : ((p : Plan) → planCheck p ≡ Lawful → SaysFail (verdictSays (program p))) → ⊥
     verdict-failing-all wrong =
-        pass-no-fail 44 (verdictSays (program (withSet two 1))) (ap verdictSays (meets (withSet two 1)) ∙ p1)
+        pass-no-fail 39 (verdictSays (program (withSet two 1))) (ap verdictSays (meets (withSet two 1)) ∙ p1)
         (wrong (withSet two 1) p1-lawful)
 
     -- gives no pair count but the defined one, of any lawful plan
@@ -178,7 +179,7 @@ module _ (κs : Lfts 0) (program : Plan → Verdict) (after : Plan → _) (meets
 module _ (κs : Lfts 0) (program : Plan → ℕ → Verdict) (after : Plan → ℕ → _)
     (meets : (p : Plan) (m : ℕ) → verdict-with.Learnt κs (p, (m, tt)) (program p m) (after p m)) where
   pub with-refusing-all : ((p : Plan) (m : ℕ) → Refuses (verdictSays (program p m))) → ⊥
-  with-refusing-all wrong = pass-not-refused 44 (subst Refuses (ap verdictSays (meets two 1) ∙ p1-with) (wrong two 1))
+  with-refusing-all wrong = pass-not-refused 39 (subst Refuses (ap verdictSays (meets two 1) ∙ p1-with) (wrong two 1))
 
   pub with-passing-all : ((p : Plan) (m : ℕ) → setCheck p m ≡ Lawful → SaysPass (verdictSays (program p m))) → ⊥
   with-passing-all wrong =
@@ -188,19 +189,19 @@ module _ (κs : Lfts 0) (program : Plan → ℕ → Verdict) (after : Plan → �
 
   pub with-failing-all : ((p : Plan) (m : ℕ) → setCheck p m ≡ Lawful → SaysFail (verdictSays (program p m))) → ⊥
   with-failing-all wrong =
-      pass-no-fail 44 (verdictSays (program two 1)) (ap verdictSays (meets two 1) ∙ p1-with) (wrong two 1 p1-set)
+      pass-no-fail 39 (verdictSays (program two 1)) (ap verdictSays (meets two 1) ∙ p1-with) (wrong two 1 p1-set)
 
 -- ---- `search`
 
 module _ (κs : Lfts 0) (program : Plan → Assign) (after : Plan → _)
     (meets : (p : Plan) → search-takers.Learnt κs (p, tt) (program p) (after p)) where
   pub search-refusing-all : ((p : Plan) → Refuses (assignSays (program p))) → ⊥
-  search-refusing-all wrong = takers-not-refused 1 (subst Refuses (ap assignSays (meets eight) ∙ p8) (wrong eight))
+  search-refusing-all wrong = takers-not-refused 1 (subst Refuses (ap assignSays (meets two) ∙ p1-search) (wrong two))
 
   -- answers set 0 for every lawful plan
   pub search-nobody-takes : ((p : Plan) → planCheck p ≡ Lawful → assignSays (program p) ≡ takers 0) → ⊥
   search-nobody-takes wrong =
-      let is = sym (wrong eight p8-lawful) ∙ ap assignSays (meets eight) ∙ p8 in
+      let is = sym (wrong two two-lawful) ∙ ap assignSays (meets two) ∙ p1-search in
       never (cc)
 
 -- ---- `run`

@@ -1,3 +1,2 @@
-pub mod Equation7
 pub mod NeverMiss
 pub mod Wrong

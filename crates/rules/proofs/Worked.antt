@@ -1,5 +1,6 @@
--- Document 01's worked plans, P1 to P10, its sample file, and two runs on which planners go wrong: one table, one statement.
--- Each row is a question and the answer that the page gives. `worked` has antt compute every answer from the definitions.
+-- Document 01's worked plans, P1 to P10, its sample file, and two runs on which planners go wrong, with the blocking limit of document 02's
+-- W-205: one table, one statement. Each row is a question and the answer that the page gives. `worked` has antt compute every answer from
+-- the definitions.
 use Prim.Native.Nat.{ℕ, zero, suc, _+_, _/_, _%_, _-_}
 use mathlib.Core.Path.{_≡_, refl}
 use mathlib.Core.Bool.{cond}
@@ -127,20 +128,20 @@ row q a = record { asked = q; said = a }
 
 unfoldable pub table : List Row
 table =
-    row (verdict-with two 1) (says (pass 44))  -- P1
-    ∷ row (verdict-with two 3) (says (pass 48))  -- P2
+    row (verdict-with two 1) (says (pass 39))  -- P1
+    ∷ row (verdict-with two 3) (says (pass 44))  -- P2
     ∷ row (load-with two 3) (load-and-H 10 10)  -- P2: the load is exactly H
     ∷ row (verdict-with two 0) (says (fail 5 3 6 8))  -- P3
-    ∷ row (search three) (says (takers 3))  -- P4
+    ∷ row (search three) (says (takers 0))  -- P4
     ∷ row (verdict-with five 2) (says (fail 6 4 7 10))  -- P5: passes by the source's equation 7
     ∷ row (run-with five 2 (release 0 3 2 ∷ release 1 2 1 ∷ release 2 1 3 ∷ [])) (says (miss 8 1))  -- P6
     ∷ row (search (withSet five 2)) (says (takers 0))  -- P7: P5 as it stands, with set 2
-    ∷ row (search eight) (says (takers 1))  -- P8
+    ∷ row (search eight) (says (takers 0))  -- P8
     ∷ row (verdict-with nine 1) (says (overload 0))  -- P9
     ∷ row (verdict-with nine 0) (says (pass 3))  -- P9
     ∷ row (verdict-with ten 0) (says (pass 1))  -- P10
     ∷ row (read-text sample) (says lawful)
-    ∷ row (file sample) (written (bytesOf "verdict pass pairs 44\nassign 1\nrun clean work 8 move 1 idle 11\n"))
+    ∷ row (file sample) (written (bytesOf "verdict pass pairs 39\nassign 1\nrun clean work 8 move 1 idle 11\n"))
     -- its second string with T 1001
     ∷ row (file (line 18 0x010102000100000014 ++ line 16 0x0201000a00030005 ++ line 16 0x020003e90005000a))
     (written (bytesOf "refused 5 line 3\n"))
@@ -149,6 +150,8 @@ table =
     ∷ row (run-with level 2 (release 0 1 5 ∷ release 1 2 3 ∷ [])) (says (clean 8 0 12))
     -- all releases of a day join before the bank is given: the later one in the list is due first
     ∷ row (run-with two 0 (release 0 2 5 ∷ release 0 1 3 ∷ [])) (says (clean 8 0 12))
+    -- P1's strings: with nobody permitted the plan is P3, which fails
+    ∷ row (search two) (says (takers 1))
     ∷ []
 
 pub worked : map (λ r. answered (r .asked)) table ≡ map (λ r. r .said) table

@@ -1,8 +1,8 @@
--- The demand rule (document 01, "The demand rule").
+-- The demand rule (document 01, "The demand rule"; the blocking limit as document 02, W-205, has it).
 --     movingCost p s        A, the moving days that a job of s pays when it takes the bank
 --     holdOf p s            E, C plus A times X: the longest that a job of s holds the bank
 --     jobs s w              the jobs of s in a window of w days (source, equation 1)
---     blockLimit p l        B, the blocking limit at interval l (source, equation 7, with E for C)
+--     blockLimit p l        B, the blocking limit at interval l (source, equation 7, with E − 1 for C)
 --     need p l b s          what s asks of an interval l with blocking b
 --     demand p l b          the demand at (l, b) (source, equation 9)
 --     Passes p              demand ≤ l for every whole l ≥ 1 and every b ≤ B: no upper end
@@ -25,9 +25,10 @@ holdOf p s = s .c .0 + movingCost p s * s .x
 unfoldable pub jobs : BatteryString → ℕ → ℕ
 jobs s w = cond (ltb w (s .d .0)) 0 ((w - s .d .0) / s .t .0 + 1)
 
--- E counts the moving too: a job that took the bank also holds it while moving. The source's equation 7 has C.
+-- E counts the moving too: a job that took the bank also holds it while moving. The source's equation 7 has C. All releases of a day join
+-- before the bank is given out, so a job that blocks started at least a day earlier: of its E days at most E − 1 are left.
 unfoldable pub blockerHold : Plan → ℕ → BatteryString → ℕ
-blockerHold p l s = cond (ltb l (s .d .0)) (holdOf p s) 0
+blockerHold p l s = cond (ltb l (s .d .0)) (holdOf p s - 1) 0
 
 unfoldable pub blockLimit : Plan → ℕ → ℕ
 blockLimit p l =

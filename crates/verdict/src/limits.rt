@@ -55,13 +55,13 @@ pub(crate) fn largest_d(p: Plan) -> u32
     most
 }
 
-// How long a job of the string may hold the bank against an interval that ends before it is due.
+// How long a job of the string may hold the bank against an interval that ends before it is due. It started a day earlier at the latest.
 fn blocker(p: Plan, l: u32, s: BatteryString) -> u32
     requires { ⌜ PlanString p s ⌝ }
     ensures { λ r. ⌜ r ≡ blockerHold p l s ⌝ }
 {
     if l < s.d.0 {
-        return hold(p, s);
+        return hold(p, s) - 1;
     }
     0
 }

@@ -62,7 +62,7 @@ pub fn blocking_limit(plan: &Plan, interval: Length) -> Length {
         .strings
         .iter()
         .filter(|string| string.d > interval)
-        .map(|string| plan.hold(string))
+        .map(|string| plan.hold(string) - 1)
         .max();
     // Nothing is due later exactly from the largest D on.
     longest.map_or(0, |hold| hold.min(interval))

@@ -1,0 +1,2 @@
+pub mod Blockers
+pub mod Rows
