@@ -11,8 +11,10 @@ int rand(void);
 void srand(unsigned int);
 int clock_gettime(int, struct timespec *);
 
-typedef struct { uint32_t t, c, d, x; } String;
-typedef struct { uint32_t n, a, run; String s[10]; } Plan;
+// a is the string's own moving cost
+typedef struct { uint32_t t, c, d, x, a; } String;
+typedef struct { uint32_t n, run; String s[10]; } Plan;
+enum { NUMBERS = 52 };
 
 uint64_t entry_multiple(size_t n, const uint32_t *numbers, size_t count);
 uint64_t entry_check(size_t n, const uint32_t *numbers, size_t count);
@@ -30,22 +32,22 @@ static uint32_t multiple(const Plan *p) {
 }
 
 static int lawful(const Plan *p) {
-    if (p->n < 1 || p->n > 10 || p->a > 1000 || p->run < 1 || p->run > 1000000) return 0;
+    if (p->n < 1 || p->n > 10 || p->run < 1 || p->run > 1000000) return 0;
     for (uint32_t i = 0; i < p->n; i++) {
         const String *s = &p->s[i];
-        if (s->t < 1 || s->t > 1000 || s->d < 1 || s->d > s->t || s->c < 1 || s->c > s->d || s->x > 1) return 0;
+        if (s->t < 1 || s->t > 1000 || s->d < 1 || s->d > s->t || s->c < 1 || s->c > s->d || s->x > 1 || s->a > 1000) return 0;
     }
     return multiple(p) <= 100000;
 }
 
-static uint32_t hold(const Plan *p, const String *s) { return s->c + p->a * s->x; }
+static uint32_t hold(const String *s) { return s->c + s->a * s->x; }
 static uint32_t jobs(const String *s, uint32_t w) { return w < s->d ? 0 : (w - s->d) / s->t + 1; }
 
 static uint32_t demand(const Plan *p, uint32_t l, uint32_t b) {
     uint32_t sum = b;
     for (uint32_t i = 0; i < p->n; i++) {
         const String *s = &p->s[i];
-        sum += s->x ? jobs(s, l - b) * hold(p, s) : jobs(s, l) * s->c;
+        sum += s->x ? jobs(s, l - b) * hold(s) : jobs(s, l) * s->c;
     }
     return sum;
 }
@@ -53,7 +55,7 @@ static uint32_t demand(const Plan *p, uint32_t l, uint32_t b) {
 static uint32_t limit(const Plan *p, uint32_t first, uint32_t last, uint32_t l) {
     if (l < first || l >= last) return 0;
     uint32_t most = 0;
-    for (uint32_t i = 0; i < p->n; i++) if (l < p->s[i].d && hold(p, &p->s[i]) - 1 > most) most = hold(p, &p->s[i]) - 1;
+    for (uint32_t i = 0; i < p->n; i++) if (l < p->s[i].d && hold(&p->s[i]) - 1 > most) most = hold(&p->s[i]) - 1;
     return l < most ? l : most;
 }
 
@@ -62,7 +64,7 @@ static int hoist;
 
 static uint32_t asked(const Plan *p, uint32_t x, uint32_t w) {
     uint32_t sum = 0;
-    for (uint32_t i = 0; i < p->n; i++) if (p->s[i].x == x) sum += jobs(&p->s[i], w) * hold(p, &p->s[i]);
+    for (uint32_t i = 0; i < p->n; i++) if (p->s[i].x == x) sum += jobs(&p->s[i], w) * hold(&p->s[i]);
     return sum;
 }
 
@@ -70,7 +72,7 @@ static uint64_t judged(const Plan *p, uint32_t h) {
     uint32_t load = 0, first = p->s[0].d, last = 0, pairs = 0;
     for (uint32_t i = 0; i < p->n; i++) {
         const String *s = &p->s[i];
-        load += hold(p, s) * (h / s->t);
+        load += hold(s) * (h / s->t);
         if (s->d < first) first = s->d;
         if (s->d > last) last = s->d;
     }
@@ -109,14 +111,16 @@ static uint64_t peer_search(const Plan *p) {
 }
 
 static void numbers_of(const Plan *p, uint32_t *v) {
-    v[0] = p->n; v[1] = p->a; v[2] = p->run;
-    memcpy(v + 3, p->s, sizeof p->s);
+    v[0] = p->n; v[1] = p->run;
+    memcpy(v + 2, p->s, sizeof p->s);
 }
+
+static void same_cost(Plan *p, uint32_t a) { for (int i = 0; i < 10; i++) p->s[i].a = a; }
 
 static double now(void) { struct timespec t; clock_gettime(CLOCK_PROCESS_CPUTIME_ID, &t); return t.tv_sec + t.tv_nsec * 1e-9; }
 
 static void clocked(const char *name, const Plan *p, int searching) {
-    uint32_t v[43];
+    uint32_t v[NUMBERS];
     numbers_of(p, v);
     double best[3] = {1e9, 1e9, 1e9};
     uint64_t said[3] = {0};
@@ -124,7 +128,7 @@ static void clocked(const char *name, const Plan *p, int searching) {
         for (int who = 0; who < 3; who++) {
             hoist = who == 1;
             double start = now();
-            said[who] = who < 2 ? (searching ? peer_search(p) : peer_verdict(p)) : searching ? entry_search(p->n, v, 43) : entry_verdict(p->n, v, 43);
+            said[who] = who < 2 ? (searching ? peer_search(p) : peer_verdict(p)) : searching ? entry_search(p->n, v, NUMBERS) : entry_verdict(p->n, v, NUMBERS);
             double spent = now() - start;
             if (spent < best[who]) best[who] = spent;
         }
@@ -140,7 +144,7 @@ static uint64_t peer_quick(const Plan *p) {
     uint32_t h = multiple(p), load = 0, first = p->s[0].d, last = 0, pairs = 0;
     for (uint32_t i = 0; i < p->n; i++) {
         const String *s = &p->s[i];
-        load += hold(p, s) * (h / s->t);
+        load += hold(s) * (h / s->t);
         if (s->d < first) first = s->d;
         if (s->d > last) last = s->d;
     }
@@ -157,14 +161,14 @@ static uint64_t peer_quick(const Plan *p) {
 
 // the quick verdict beside the full one, ours both; small plans many times in a row
 static void clocked_quick(const char *name, const Plan *p, int times) {
-    uint32_t v[43];
+    uint32_t v[NUMBERS];
     numbers_of(p, v);
     double best[2] = {1e9, 1e9};
     uint64_t said[2] = {0};
     for (int round = 0; round < 15; round++)
         for (int who = 0; who < 2; who++) {
             double start = now();
-            for (int k = 0; k < times; k++) said[who] = who ? entry_quick(p->n, v, 43) : entry_verdict(p->n, v, 43);
+            for (int k = 0; k < times; k++) said[who] = who ? entry_quick(p->n, v, NUMBERS) : entry_verdict(p->n, v, NUMBERS);
             double spent = (now() - start) / times;
             if (spent < best[who]) best[who] = spent;
         }
@@ -177,16 +181,16 @@ enum { CHECKS = 1000 };
 
 static uint64_t __attribute__((noinline)) peer_check(size_t n, const uint32_t *numbers, size_t count) {
     Plan p;
-    if (count < 43) return 0;
+    if (count < NUMBERS) return 0;
     memcpy(&p, numbers, sizeof p);
     p.n = n;
     return lawful(&p);
 }
 
 static void clocked_check(const char *name, const uint32_t *t) {
-    Plan p = {10, 0, 1000, {{0}}};
-    for (int i = 0; i < 10; i++) p.s[i] = (String){t[i], 1, 1, 0};
-    uint32_t v[43];
+    Plan p = {10, 1000, {{0}}};
+    for (int i = 0; i < 10; i++) p.s[i] = (String){t[i], 1, 1, 0, 0};
+    uint32_t v[NUMBERS];
     numbers_of(&p, v);
     uint64_t (*check[2])(size_t, const uint32_t *, size_t) = {peer_check, entry_check};
     double best[2] = {1e9, 1e9};
@@ -194,12 +198,12 @@ static void clocked_check(const char *name, const uint32_t *t) {
     for (int round = 0; round < 15; round++)
         for (int who = 0; who < 2; who++) {
             double start = now();
-            for (int k = 0; k < CHECKS; k++) said[who] = check[who](p.n, v, 43);
+            for (int k = 0; k < CHECKS; k++) said[who] = check[who](p.n, v, NUMBERS);
             double spent = (now() - start) / CHECKS;
             if (spent < best[who]) best[who] = spent;
         }
     printf("%-30s ours %8.3f us  peer %9.3f (ratio %4.2f)  H %u  %s\n", name, best[1] * 1e6, best[0] * 1e6, best[1] / best[0], multiple(&p),
-        said[0] == said[1] && entry_multiple(p.n, v, 43) == multiple(&p) ? "same" : "DIFFERENT");
+        said[0] == said[1] && entry_multiple(p.n, v, NUMBERS) == multiple(&p) ? "same" : "DIFFERENT");
 }
 
 // periods of any size, 0 among them
@@ -207,7 +211,7 @@ static void random_periods(int count) {
     int bad = 0, found = 0;
     for (int k = 0; k < count; k++) {
         Plan p = {0};
-        uint32_t v[43];
+        uint32_t v[NUMBERS];
         p.n = 1 + rand() % 10;
         for (uint32_t i = 0; i < 10; i++) {
             uint32_t large = (uint32_t)rand() * 2 + rand() % 2, small = (uint32_t)(rand() % 200) >> rand() % 9;
@@ -215,7 +219,7 @@ static void random_periods(int count) {
         }
         numbers_of(&p, v);
         uint32_t h = multiple(&p);
-        bad += h != entry_multiple(p.n, v, 43);
+        bad += h != entry_multiple(p.n, v, NUMBERS);
         found += h <= 100000;
     }
     printf("%d random lists of periods: %d differ (H found for %d)\n", count, bad, found);
@@ -226,15 +230,16 @@ static void random_plans(int count) {
     srand(7);
     for (int k = 0; k < count; k++) {
         Plan p = {0};
-        uint32_t v[43];
-        p.n = 1 + rand() % 4; p.a = rand() % 4; p.run = 20;
+        uint32_t v[NUMBERS];
+        p.n = 1 + rand() % 4; p.run = 20;
         for (uint32_t i = 0; i < 10; i++) {
             String *s = &p.s[i];
             s->t = 1 + rand() % 24; s->d = 1 + rand() % s->t; s->c = 1 + rand() % (1 + s->d / 3); s->x = rand() % 2;
+            s->a = rand() % 4;
         }
         numbers_of(&p, v);
-        uint64_t a = peer_verdict(&p), b = entry_verdict(p.n, v, 43);
-        bad += a != b || peer_search(&p) != entry_search(p.n, v, 43) || peer_quick(&p) != entry_quick(p.n, v, 43);
+        uint64_t a = peer_verdict(&p), b = entry_verdict(p.n, v, NUMBERS);
+        bad += a != b || peer_search(&p) != entry_search(p.n, v, NUMBERS) || peer_quick(&p) != entry_quick(p.n, v, NUMBERS);
         kinds[a % 4]++;
     }
     printf("%d random plans: %d differ (refused %d, overload %d, fail %d, pass %d)\n", count, bad, kinds[0], kinds[1], kinds[2], kinds[3]);
@@ -250,32 +255,37 @@ int main(void) {
     clocked_check("check, 31 remainders", (const uint32_t[]){1, 1, 1, 1, 2, 3, 9, 5, 16, 445});
     clocked_check("check, 43 remainders, H over", (const uint32_t[]){1, 1, 1, 2, 4, 6, 20, 13, 178, 883});
     // a blocker of 900 days, nine short strings that may take the bank
-    Plan blocked = {10, 0, 1000, {{1000, 900, 1000, 0}, {768, 1, 10, 1}, {960, 1, 20, 1}, {640, 1, 30, 1}, {500, 1, 40, 1}, {800, 1, 50, 1},
+    Plan blocked = {10, 1000, {{1000, 900, 1000, 0}, {768, 1, 10, 1}, {960, 1, 20, 1}, {640, 1, 30, 1}, {500, 1, 40, 1}, {800, 1, 50, 1},
         {750, 1, 60, 1}, {600, 1, 70, 1}, {480, 1, 80, 1}, {400, 1, 90, 1}}};
     clocked("verdict, 590,000 pairs", &blocked, 0);
     // nobody may take it: every string asks by the interval alone
-    Plan kept = {10, 0, 1000, {{1000, 90, 1000, 0}, {768, 60, 768, 0}, {960, 90, 960, 0}, {640, 60, 640, 0}, {500, 40, 500, 0}, {800, 70, 800, 0},
+    Plan kept = {10, 1000, {{1000, 90, 1000, 0}, {768, 60, 768, 0}, {960, 90, 960, 0}, {640, 60, 640, 0}, {500, 40, 500, 0}, {800, 70, 800, 0},
         {750, 60, 750, 0}, {600, 50, 600, 0}, {480, 40, 480, 0}, {400, 30, 400, 0}}};
     clocked("verdict, no taker", &kept, 0);
     clocked("search, ends at set 0", &kept, 1);
     clocked("search, ends at set 1022", &blocked, 1);
-    Plan late = {10, 0, 1000, {{1000, 900, 1000, 0}, {768, 1, 768, 0}, {1000, 1, 899, 0}, {1000, 1, 898, 0}, {1000, 1, 897, 0}, {1000, 1, 896, 0},
+    Plan late = {10, 1000, {{1000, 900, 1000, 0}, {768, 1, 768, 0}, {1000, 1, 899, 0}, {1000, 1, 898, 0}, {1000, 1, 897, 0}, {1000, 1, 896, 0},
         {960, 1, 895, 0}, {960, 1, 894, 0}, {960, 1, 893, 0}, {960, 1, 892, 0}}};
     clocked("search, late sets fail late", &late, 1);
-    Plan none = {10, 5, 1000, {{1000, 400, 1000, 0}, {768, 40, 391, 0}, {1000, 40, 392, 0}, {1000, 40, 393, 0}, {1000, 40, 394, 0}, {1000, 40, 395, 0},
+    Plan none = {10, 1000, {{1000, 400, 1000, 0}, {768, 40, 391, 0}, {1000, 40, 392, 0}, {1000, 40, 393, 0}, {1000, 40, 394, 0}, {1000, 40, 395, 0},
         {960, 40, 396, 0}, {960, 40, 397, 0}, {960, 40, 398, 0}, {960, 40, 399, 0}}};
+    same_cost(&none, 5);
     clocked("search, none of 1,024", &none, 1);
-    Plan worked = {10, 5, 1000, {{1000, 400, 1000, 0}, {768, 60, 391, 0}, {1000, 60, 392, 0}, {1000, 60, 393, 0}, {1000, 60, 394, 0}, {1000, 60, 395, 0},
+    Plan worked = {10, 1000, {{1000, 400, 1000, 0}, {768, 60, 391, 0}, {1000, 60, 392, 0}, {1000, 60, 393, 0}, {1000, 60, 394, 0}, {1000, 60, 395, 0},
         {960, 60, 396, 0}, {960, 60, 397, 0}, {960, 60, 398, 0}, {960, 60, 399, 0}}};
+    same_cost(&worked, 5);
     clocked("search, none by work alone", &worked, 1);
     // steps on most days: ten short periods
-    Plan dense = {10, 0, 1000, {{7, 1, 7, 0}, {9, 1, 9, 0}, {11, 1, 11, 1}, {16, 1, 16, 0}, {20, 1, 20, 1}, {22, 1, 22, 0}, {24, 1, 24, 0}, {28, 1, 28, 1},
+    Plan dense = {10, 1000, {{7, 1, 7, 0}, {9, 1, 9, 0}, {11, 1, 11, 1}, {16, 1, 16, 0}, {20, 1, 20, 1}, {22, 1, 22, 0}, {24, 1, 24, 0}, {28, 1, 28, 1},
         {30, 1, 30, 0}, {33, 1, 33, 0}}};
     // the page's periods
-    Plan page = {4, 1, 1000, {{7, 1, 7, 0}, {30, 2, 20, 1}, {90, 5, 60, 0}, {365, 10, 300, 0}}};
-    Plan first = {2, 1, 20, {{10, 3, 5, 1}, {10, 5, 10, 0}}};
-    Plan fails = {3, 5, 20, {{100, 3, 6, 0}, {100, 1, 12, 1}, {100, 2, 50, 0}}};
-    Plan daily = {1, 0, 20, {{1, 1, 1, 0}}};
+    Plan page = {4, 1000, {{7, 1, 7, 0}, {30, 2, 20, 1}, {90, 5, 60, 0}, {365, 10, 300, 0}}};
+    same_cost(&page, 1);
+    Plan first = {2, 20, {{10, 3, 5, 1}, {10, 5, 10, 0}}};
+    same_cost(&first, 1);
+    Plan fails = {3, 20, {{100, 3, 6, 0}, {100, 1, 12, 1}, {100, 2, 50, 0}}};
+    same_cost(&fails, 5);
+    Plan daily = {1, 20, {{1, 1, 1, 0}}};
     clocked_quick("quick, 590,000 pairs", &blocked, 1);
     clocked_quick("quick, no taker", &kept, 1);
     clocked_quick("quick, steps on most days", &dense, 1);

@@ -1,7 +1,7 @@
 //! Which kind of file comes when, and the making of it.
 
 use crate::chance::Chance;
-use crate::faults::{bytes, cuts, lines, long, noise, release_count, several, values};
+use crate::faults::{bytes, cuts, lines, long, noise, release_count, several, values, versions};
 use crate::plans::{border, claim, cycles, extreme, far, load, releases, shaped, strings, takings};
 use crate::rules::plan::Plan;
 use crate::{faults, writing};
@@ -30,7 +30,7 @@ macro_rules! kind {
     };
 }
 
-pub const KINDS: [Kind; 32] = [
+pub const KINDS: [Kind; 33] = [
     kind!("lawful", 148, lawful),
     kind!("permissions matter", 50, permissions_matter),
     kind!("choice of permissions", 20, choices),
@@ -48,15 +48,16 @@ pub const KINDS: [Kind; 32] = [
     kind!("many pairs", 4, many_pairs),
     kind!("heavy search", 1, heavy),
     kind!("H near its bound", 10, cycle_near_bound),
-    kind!("one byte", 272, bytes::one_byte),
+    kind!("one byte", 256, bytes::one_byte),
     kind!("text cut", 20, cuts::text_cut),
     kind!("line cut", 10, cuts::line_cut),
     kind!("line grown", 5, cuts::line_grown),
     kind!("line fault", 25, lines::line_fault),
     kind!("n", 6, values::count),
     kind!("kind or version", 21, values::kind_or_version),
+    kind!("versions mixed", 16, versions::mixed),
     kind!("A or N at bound", 6, values::header_bounds),
-    kind!("X, T, C or D at bound", 14, values::string_bounds),
+    kind!("a string at bound", 14, values::string_bounds),
     kind!("release at bound", 22, faults::releases::one_release),
     kind!("1,000 releases", 9, release_count::many_releases),
     kind!("long text", 3, long::long_text),
@@ -120,7 +121,7 @@ fn kind_and_turn(file: u64) -> (usize, u64) {
 fn filled(chance: &mut Chance, mut plan: Plan) -> Vec<u8> {
     let most = chance.between(0, 30) as usize;
     releases::fill(chance, &mut plan, most);
-    writing::text(&plan)
+    writing::any_text(chance, &plan)
 }
 
 fn lawful(chance: &mut Chance, _: u64) -> Vec<u8> {
@@ -145,11 +146,13 @@ fn equal_deadlines(chance: &mut Chance, _: u64) -> Vec<u8> {
 }
 
 fn payer_waits(chance: &mut Chance, _: u64) -> Vec<u8> {
-    writing::text(&takings::payer_waits(chance))
+    let plan = takings::payer_waits(chance);
+    writing::any_text(chance, &plan)
 }
 
 fn takers_tie(chance: &mut Chance, _: u64) -> Vec<u8> {
-    writing::text(&takings::takers_tie(chance))
+    let plan = takings::takers_tie(chance);
+    writing::any_text(chance, &plan)
 }
 
 /// The last plan that passes and the first that does not, in turn.
@@ -179,7 +182,8 @@ fn largest_load(chance: &mut Chance, _: u64) -> Vec<u8> {
 }
 
 fn pressed(chance: &mut Chance, _: u64) -> Vec<u8> {
-    writing::text(&claim::pressed(chance))
+    let plan = claim::pressed(chance);
+    writing::any_text(chance, &plan)
 }
 
 fn ten_strings(chance: &mut Chance, _: u64) -> Vec<u8> {
@@ -188,7 +192,8 @@ fn ten_strings(chance: &mut Chance, _: u64) -> Vec<u8> {
 }
 
 fn long_run(chance: &mut Chance, _: u64) -> Vec<u8> {
-    writing::text(&far::long_run(chance))
+    let plan = far::long_run(chance);
+    writing::any_text(chance, &plan)
 }
 
 fn late_fail(chance: &mut Chance, _: u64) -> Vec<u8> {
@@ -220,5 +225,5 @@ fn full_list(chance: &mut Chance, _: u64) -> Vec<u8> {
     let mut plan = strings::mixed(chance, 6, 100_000);
     plan.days = chance.between(2_000, 40_000);
     plan.releases = releases::list(chance, &plan, 1_000);
-    writing::text(&plan)
+    writing::any_text(chance, &plan)
 }

@@ -37,11 +37,19 @@ pub fn about(
     }
 }
 
-/// Alone and in pages. A lawful file is the one text of its plan.
+/// Alone and in pages. A lawful file of version 02 is the one text of its plan; the text of any
+/// other one reads to its plan.
 fn about_saving(chance: &mut Chance, text: &[u8], name: &str) -> Result<Vec<Asked>, &'static str> {
     let whole = saved(text);
-    if whole.as_ref().map_or(false, |written| written != text) {
+    let new = text.get(2..4) == Some(b"02");
+    if new && whole.as_ref().map_or(false, |written| written != text) {
         return Err("a plan has another text");
+    }
+    if whole
+        .as_ref()
+        .map_or(false, |written| read(written) != read(text))
+    {
+        return Err("a plan is read as another");
     }
     let mut asked = vec![Asked {
         command: format!("save {name}"),

@@ -19,6 +19,7 @@ pub fn wrong_cases() -> Vec<&'static str> {
         searches(),
         runs(),
         readings(),
+        versions(),
         writings(),
         dates(),
     ]
@@ -36,10 +37,15 @@ type Cases = Vec<(&'static str, bool)>;
 fn plan(strings: &[(u64, u64, u64)], moving: u64) -> Plan {
     let strings = strings
         .iter()
-        .map(|&(t, c, d)| BatteryString { x: 0, t, c, d })
+        .map(|&(t, c, d)| BatteryString {
+            x: 0,
+            t,
+            c,
+            d,
+            moving,
+        })
         .collect();
     Plan {
-        moving,
         days: 20,
         strings,
         releases: Vec::new(),
@@ -126,12 +132,94 @@ fn runs() -> Cases {
     plan.releases = [(0, 3, 2), (1, 2, 1), (2, 1, 3)]
         .map(|(day, place, need)| Release { place, day, need })
         .to_vec();
-    vec![("P6", run(&plan) == Outcome::Miss { day: 8, place: 1 })]
+    let roof = read(ROOF).map(|plan| run(&plan));
+    let for_all = |moving| {
+        read(ROOF).map(|mut plan| {
+            plan.set_moving(moving);
+            run(&plan)
+        })
+    };
+    let clean = |moving| {
+        Ok(Outcome::Clean {
+            work: 13,
+            moving,
+            idle: 7 - moving,
+        })
+    };
+    vec![
+        ("P6", run(&plan) == Outcome::Miss { day: 8, place: 1 }),
+        ("the roof string pays four", roof == clean(5)),
+        ("with one day for all", for_all(1) == clean(2)),
+        (
+            "with four days for all",
+            for_all(4) == Ok(Outcome::Miss { day: 15, place: 1 }),
+        ),
+    ]
 }
+
+/// A version 02 file: the string at place 2 is on the roof, four days away, the others one.
+const ROOF: &[u8] = b"01020300000014\n02010014000200050001\n020100140003000a0004\n\
+    020000280008001e0001\n0303000000000008\n0302000000020003\n03010000000a0002\n";
 
 /// The plan file that the document shows.
 const SAMPLE: &[u8] = b"010102000100000014\n0201000a00030005\n0200000a0005000a\n\
     0302000000000005\n0301000000010003\n";
+
+/// The same in version 02.
+const SAMPLE_02: &[u8] = b"01020200000014\n0201000a000300050001\n0200000a0005000a0001\n\
+    0302000000000005\n0301000000010003\n";
+
+/// A text with its header, and one with its first string line, from the other one.
+fn mixed(text: &[u8], other: &[u8]) -> [Vec<u8>; 2] {
+    let split = |text: &[u8]| -> Vec<Vec<u8>> {
+        let lines = text.split_inclusive(|byte| *byte == b'\n');
+        lines.map(<[u8]>::to_vec).collect()
+    };
+    let (lines, others) = (split(text), split(other));
+    [0, 1].map(|at| {
+        let mut lines = lines.clone();
+        lines[at] = others[at].clone();
+        lines.concat()
+    })
+}
+
+fn versions() -> Cases {
+    let with_byte = |text: &[u8], at: usize, byte: u8| {
+        let mut text = text.to_vec();
+        text[at] = byte;
+        read(&text).map(|_| ())
+    };
+    let refusals = |texts: [Vec<u8>; 2]| texts.map(|text| read(&text).map(|_| ()));
+    let costs = |cost: &[u8]| {
+        let mut text = SAMPLE_02.to_vec();
+        text[31..35].copy_from_slice(cost);
+        read(&text).map(|plan| plan.strings[0].moving)
+    };
+    let old = || read(SAMPLE).map(|plan| plan.common_moving());
+    vec![
+        ("one plan in both versions", read(SAMPLE) == read(SAMPLE_02)),
+        (
+            "the header's cost goes to every string",
+            old() == Ok(Some(1)),
+        ),
+        ("a cost of 1,000", costs(b"03e8") == Ok(1_000)),
+        ("a cost of 1,001", costs(b"03e9") == refused(5, 2)),
+        (
+            "old with a new part",
+            refusals(mixed(SAMPLE, SAMPLE_02)) == [refused(3, 2), refused(3, 2)],
+        ),
+        (
+            "new with an old part",
+            refusals(mixed(SAMPLE_02, SAMPLE)) == [refused(3, 2), refused(3, 2)],
+        ),
+        ("old named new", with_byte(SAMPLE, 3, b'2') == refused(3, 1)),
+        (
+            "new named old",
+            with_byte(SAMPLE_02, 3, b'1') == refused(3, 1),
+        ),
+        ("version 03", with_byte(SAMPLE_02, 3, b'3') == refused(3, 1)),
+    ]
+}
 
 fn readings() -> Cases {
     const ANSWER: &str = "verdict pass pairs 39\nassign 1\nrun clean work 8 move 1 idle 11\n";
@@ -160,14 +248,21 @@ fn writings() -> Cases {
     let whole = saved(SAMPLE);
     let page = |size, place| written(into_page(&whole, Page { size, place }));
     let no_room = b"refused 9 line 0\n".to_vec();
-    let amid = [b"...", SAMPLE, b".."].concat();
+    let amid = [b"...", SAMPLE_02, b".."].concat();
     vec![
-        ("the sample written back", whole == Ok(SAMPLE.to_vec())),
-        ("a page that fits exactly", page(87, 0) == SAMPLE),
-        ("a page one byte too short", page(86, 0) == no_room),
-        ("a text amid its page", page(92, 3) == amid),
-        ("a place at the page's end", page(87, 87) == no_room),
-        ("a place beyond the page's end", page(87, 88) == no_room),
+        (
+            "the sample written as version 02",
+            whole == Ok(SAMPLE_02.to_vec()),
+        ),
+        (
+            "version 02 written back",
+            saved(SAMPLE_02) == Ok(SAMPLE_02.to_vec()),
+        ),
+        ("a page that fits exactly", page(91, 0) == SAMPLE_02),
+        ("a page one byte too short", page(90, 0) == no_room),
+        ("a text amid its page", page(96, 3) == amid),
+        ("a place at the page's end", page(91, 91) == no_room),
+        ("a place beyond the page's end", page(91, 92) == no_room),
         (
             "a refused file in a page",
             into_page(&saved(b""), Page { size: 0, place: 1 }) == refused(3, 1),

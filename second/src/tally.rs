@@ -10,7 +10,8 @@ use std::time::Duration;
 
 #[derive(Default)]
 pub struct Tally {
-    kinds: [u64; KINDS.len()],
+    /// By place in the table; empty where no file has been counted.
+    kinds: Vec<u64>,
     /// By refusal number; the first is not used.
     refused: [u64; 10],
     /// Texts, pages and lines that the clerk has to write.
@@ -31,6 +32,7 @@ pub struct Tally {
 
 impl Tally {
     pub fn count_file(&mut self, kind: usize) {
+        self.kinds.resize(KINDS.len(), 0);
         self.kinds[kind] += 1;
     }
 
@@ -71,6 +73,7 @@ impl Tally {
     }
 
     pub fn add(&mut self, other: &Tally) {
+        self.kinds.resize(KINDS.len(), 0);
         add_each(&mut self.kinds, &other.kinds);
         add_each(&mut self.refused, &other.refused);
         self.overload += other.overload;
@@ -115,7 +118,7 @@ fn add_each(sums: &mut [u64], more: &[u64]) {
 
 impl fmt::Display for Tally {
     fn fmt(&self, out: &mut fmt::Formatter) -> fmt::Result {
-        for (kind, count) in KINDS.iter().zip(self.kinds) {
+        for (kind, count) in KINDS.iter().zip(&self.kinds) {
             writeln!(out, "{count:7} {}", kind.name)?;
         }
         for (number, count) in self.refused.iter().enumerate().skip(1) {

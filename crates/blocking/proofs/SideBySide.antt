@@ -18,8 +18,8 @@ use Rattle.rules.specs.Demand.{movingCost, holdOf, jobs, need, demand, load, ov
 use Rattle.rules.specs.Search.{permit, withSet}
 use Rattle.rules.specs.Release.{tooClose, outOfOrder, releaseLawful, unlawfulFrom, firstUnlawful}
 use Rattle.rules.specs.Run.{chosen, lateAt, newSlot, joinFrom, joined, holder, payer, taken, nextUp, given, useOf, spent, morning, stateAt, useOn, lateOn, history, daysOf, missDay, runOf}
-use Rattle.rules.specs.Refusal.{countCheck, numbersCheck, stringsCheck, multipleCheck, planCheck, releasesCheck, runCheck, runAnswer}
-use Rattle.rules.proofs.Worked.{string, plan, release, releases, two, three, five}
+use Rattle.rules.specs.Refusal.{countCheck, runLengthCheck, stringsCheck, multipleCheck, planCheck, releasesCheck, runCheck, runAnswer}
+use Rattle.rules.proofs.Worked.{string, paying, planOf, plan, release, releases, two, three, five}
 use Rattle.laws.proofs.Lawful.{LawfulPlan, planCheck-lawful}
 use Rattle.blocking.specs.Blockers.{Blocker, work, holdLess, daysBy, limitBy}
 use Rattle.blocking.specs.Rows.{Ruling, passes, fails, Truly, Row, Stands}
@@ -87,13 +87,13 @@ stated r =
 
 computed : map seen table ≡ map stated table
 unfolding
-    seen stated row table p1 p5 tight string plan release releases two three five
+    seen stated row table p1 p5 tight string paying planOf plan release releases two three five
     sumOf largest smallest smallestWith every countOf upFrom leastFrom
     stringLawful commonMultiple multipleOf dMin dMax movingCost holdOf jobs need demand load overloaded permit withSet
     work holdLess daysBy limitBy keepsAt keeps ruling
     tooClose outOfOrder releaseLawful unlawfulFrom firstUnlawful
     chosen lateAt newSlot joinFrom joined holder payer taken nextUp given useOf spent morning stateAt useOn lateOn history daysOf missDay
-    runOf countCheck numbersCheck stringsCheck multipleCheck planCheck releasesCheck runCheck runAnswer
+    runOf countCheck runLengthCheck stringsCheck multipleCheck planCheck releasesCheck runCheck runAnswer
 computed = refl
 
 -- ---- What it means

@@ -15,7 +15,7 @@ pub use strings::string_lawful;
 use strings::strings_check;
 ghost use mathlib.Core.Path.{_≡_};
 ghost use Rattle.rules.specs.Plan.{stringsOf};
-ghost use Rattle.rules.specs.Refusal.{headCheck, stringsCheck, multipleCheck, planCheck, setCheck, runCheck};
+ghost use Rattle.rules.specs.Refusal.{headCheck, costCheck, stringsCheck, multipleCheck, planCheck, setCheck, runCheck};
 ghost use Rattle.faults.specs.Checks.{then};
 
 fn refused(fault: Fault, at: usize) -> Checked
@@ -24,9 +24,9 @@ fn refused(fault: Fault, at: usize) -> Checked
     Checked::Refused { fault, at }
 }
 
-// n, then A and N; a fault is reported at `at`.
-pub fn head_check(at: usize, n: usize, a: Length, run: Length) -> Checked
-    ensures exact { λ r. ⌜ r ≡ headCheck at n (a .0) (run .0) ⌝ }
+// n, then N; a fault is reported at `at`.
+pub fn head_check(at: usize, n: usize, run: Length) -> Checked
+    ensures exact { λ r. ⌜ r ≡ headCheck at n (run .0) ⌝ }
 {
     if n < 1 {
         return refused(Fault::StringCount, at);
@@ -34,13 +34,20 @@ pub fn head_check(at: usize, n: usize, a: Length, run: Length) -> Checked
     if 10 < n {
         return refused(Fault::StringCount, at);
     }
-    if 1000 < a.0 {
-        return refused(Fault::OutOfBounds, at);
-    }
     if run.0 < 1 {
         return refused(Fault::OutOfBounds, at);
     }
     if 1000000 < run.0 {
+        return refused(Fault::OutOfBounds, at);
+    }
+    Checked::Lawful
+}
+
+// A moving cost that is said for the whole plan; a fault is reported at `at`.
+pub fn cost_check(at: usize, a: Length) -> Checked
+    ensures exact { λ r. ⌜ r ≡ costCheck at (a .0) ⌝ }
+{
+    if 1000 < a.0 {
         return refused(Fault::OutOfBounds, at);
     }
     Checked::Lawful
@@ -71,18 +78,18 @@ fn body_check(p: Plan) -> Checked
 pub fn plan_check(p: Plan) -> Checked
     ensures exact { λ r. ⌜ r ≡ planCheck p ⌝ }
 {
-    let head = head_check(0, p.n, p.a, p.run);
+    let head = head_check(0, p.n, p.run);
     match head {
         Checked::Lawful => body_check(p),
         Checked::Refused { fault, at } => refused(fault, at),
     }
 }
 
-// The same with a permission set, which is looked at straight after A and N.
+// The same with a permission set, which is looked at straight after N.
 pub fn set_check(p: Plan, set: u32) -> Checked
     ensures exact { λ r. ⌜ r ≡ setCheck p set ⌝ }
 {
-    let head = head_check(0, p.n, p.a, p.run);
+    let head = head_check(0, p.n, p.run);
     match head {
         Checked::Lawful => {
             let n = p.n;

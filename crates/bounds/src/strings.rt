@@ -8,7 +8,7 @@ ghost use Prim.Native.Nat.{min};
 ghost use Rattle.rules.specs.Plan.{stringsOf, stringLawful};
 ghost use Rattle.rules.specs.Refusal.{stringsCheck};
 
-// Whether T, D, C and X are within their bounds.
+// Whether T, D, C, X and the moving cost are within their bounds.
 pub fn string_lawful(s: BatteryString) -> bool
     ensures exact { λ r. ⌜ r ≡ stringLawful s ⌝ }
 {
@@ -16,6 +16,7 @@ pub fn string_lawful(s: BatteryString) -> bool
     let d = s.d.0;
     let c = s.c.0;
     let x = s.x;
+    let a = s.a.0;
     if t < 1 {
         return false;
     }
@@ -35,6 +36,9 @@ pub fn string_lawful(s: BatteryString) -> bool
         return false;
     }
     if 1 < x {
+        return false;
+    }
+    if 1000 < a {
         return false;
     }
     true

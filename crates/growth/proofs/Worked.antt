@@ -9,9 +9,9 @@ use Rattle.rules.specs.Plan.{stringLawful, commonMultiple, multipleOf, dMin, dM
 use Rattle.rules.specs.Demand.{movingCost, holdOf, jobs, blockerHold, blockLimit, need, demand, load, overloaded}
 use Rattle.rules.specs.Verdict.{pairsAt, allPairs, broken, compared, judged, verdictOver}
 use Rattle.rules.specs.Search.{permit, withSet}
-use Rattle.rules.specs.Refusal.{countCheck, numbersCheck, stringsCheck, multipleCheck, setCheck}
+use Rattle.rules.specs.Refusal.{countCheck, runLengthCheck, stringsCheck, multipleCheck, setCheck}
 use Rattle.rules.specs.Said.{Said, refused, overload, fail, pass, verdictSays}
-use Rattle.rules.proofs.Worked.{string, plan, two, five, nine, ten}
+use Rattle.rules.proofs.Worked.{string, paying, planOf, plan, two, five, nine, ten}
 use Rattle.growth.specs.Quick.{jobsLeft, countAt, grows, quickPairs, quickSetAnswer}
 
 pub record Row : Type 0 where
@@ -36,11 +36,11 @@ table =
 
 pub worked : map (λ r. verdictSays (quickSetAnswer (r .plan) (r .set))) table ≡ map (λ r. r .said) table
 unfolding
-    row table string plan two five nine ten flatMap
+    row table string paying planOf plan two five nine ten flatMap
     sumOf largest smallest smallestWith every any keep upFrom leastFrom firstOf
     stringLawful commonMultiple multipleOf dMin dMax
     movingCost holdOf jobs blockerHold blockLimit need demand load overloaded
     pairsAt allPairs broken compared judged verdictOver
-    permit withSet countCheck numbersCheck stringsCheck multipleCheck setCheck
+    permit withSet countCheck runLengthCheck stringsCheck multipleCheck setCheck
     jobsLeft countAt grows quickPairs quickSetAnswer
 worked = refl

@@ -1,4 +1,4 @@
--- A plan with a permission set: T, C and D stay, so a lawful plan stays lawful, with the same H.
+-- A plan with a permission set: all but X stays, so a lawful plan stays lawful, with the same H.
 --     permitted s x         the string s with permission x
 use Prim.Native.Nat.{ℕ, zero, suc, _/_, _%_, _≤_}
 use mathlib.Core.Path.{_≡_, refl, ap, _∙_, fun-ext}
@@ -17,7 +17,7 @@ use Rattle.lists.proofs.Lists.{All}
 use Rattle.laws.proofs.Lawful.{LawfulString, LawfulPlan, multipleOf-pos, multipleOf-common, multipleOf-least, commonMultiple-whole}
 
 abbrev pub permitted : BatteryString → ℕ → BatteryString
-permitted s x = record { t = s .t; c = s .c; d = s .d; x = x }
+permitted s x = record { t = s .t; c = s .c; d = s .d; x = x; a = s .a }
 
 -- ---- Strings with permissions
 
@@ -68,7 +68,16 @@ module _ (p : Plan) (m : ℕ) where
 
   permitted-lawful : (s : BatteryString) (x : ℕ) → x ≤ 1 → LawfulString s → LawfulString (permitted s x)
   permitted-lawful s x h ok =
-      record { tPos = ok .tPos; tMax = ok .tMax; dPos = ok .dPos; dMax = ok .dMax; cPos = ok .cPos; cMax = ok .cMax; xMax = h }
+      record {
+        tPos = ok .tPos;
+        tMax = ok .tMax;
+        dPos = ok .dPos;
+        dMax = ok .dMax;
+        cPos = ok .cPos;
+        cMax = ok .cMax;
+        xMax = h;
+        aMax = ok .aMax;
+      }
 
   -- a lawful plan is lawful with any set
   pub withSet-lawful : LawfulPlan p → LawfulPlan (withSet p m)
@@ -78,7 +87,6 @@ module _ (p : Plan) (m : ℕ) where
       record {
         nPos = ok .nPos;
         nMax = ok .nMax;
-        aMax = ok .aMax;
         runPos = ok .runPos;
         runMax = ok .runMax;
         each = rw withSet-strings (permit-all LawfulString LawfulString permitted-lawful m (stringsOf p) (ok .each));

@@ -48,7 +48,7 @@ search-refused p f at h = rw h
 pub set-plan : (p : Plan) (m : ℕ) → setCheck p m ≡ Lawful → planCheck p ≡ Lawful
 unfolding setCheck planCheck
 set-plan p m h =
-    let head = headCheck 0 (p .n) (p .a .0) (p .run .0) in
+    let head = headCheck 0 (p .n) (p .run .0) in
     let strings = then (stringsCheck 1 (stringsOf p)) (multipleCheck 0 p) in
     let few = refuseIf (leb (2 ^ p .n) m) OutOfBounds 0 in
     let rest = then-second head (then few strings) h in

@@ -1,7 +1,7 @@
 -- What the checks of a plan give where they find no fault.
 use Prim.Native.Nat.{ℕ, suc, _%_, _≤_, _<_, zero-le}
 use mathlib.Core.Path.{_≡_}
-use mathlib.Core.Bool.{true, false, _&&_}
+use mathlib.Core.Bool.{true, false, not, _&&_}
 use mathlib.Core.List.{List, [], _∷_}
 use native.Mathlib.Omega.{arith}
 use borrow.Author.Tests.{ltb-false, eqb-true, not-false, lt-ltb, le-ltb}
@@ -10,67 +10,64 @@ use Rattle.rules.specs.declared.BatteryString.{BatteryString}
 use Rattle.rules.specs.declared.Plan.{Plan}
 use Rattle.faults.specs.declared.Fault.the-variants.{StringCount, OutOfBounds, MultipleOver}
 use Rattle.faults.specs.declared.Checked.the-variants.{Lawful, Refused}
-use Rattle.rules.specs.Plan.{stringsOf, noString, stringLawful, commonMultiple, multipleOf}
+use Rattle.rules.specs.Plan.{stringsOf, noString, costLawful, stringLawful, commonMultiple, multipleOf}
 use Rattle.rules.specs.Demand.{movingCost}
 use Rattle.faults.specs.Checks.{inBounds, then}
 use Rattle.faults.proofs.Checks.{refused-not-lawful, then-first, then-second, refuseIf-not}
 use Rattle.faults.proofs.Checks.{inBounds-low, inBounds-high, inBounds-yes, inBounds-not}
-use Rattle.rules.specs.Refusal.{countCheck, numbersCheck, headCheck, stringsCheck, multipleCheck, planCheck}
+use Rattle.rules.specs.Refusal.{countCheck, runLengthCheck, headCheck, costCheck, stringsCheck, multipleCheck, planCheck}
 use Rattle.lists.proofs.Lists.{All, all-map, every-all, by-bool, and-left, and-right}
 use Rattle.lists.proofs.Least.{leastFrom-low, leastFrom-passes, leastFrom-before, leastFrom-unique, leastFrom-none}
 pub use Rattle.laws.specs.Lawful.{LawfulString, LawfulPlan, PlanString}
 
--- ---- n, A and N
+-- ---- n and N
 
-pub record LawfulHead (n a run : ℕ) : Type 0 where
+pub record LawfulHead (n run : ℕ) : Type 0 where
   pub nPos : 1 ≤ n
   pub nMax : n ≤ 10
-  pub aMax : a ≤ 1000
   pub runPos : 1 ≤ run
   pub runMax : run ≤ 1000000
 
 -- what the check says does not depend on the place it reports at
-module _ (at n a run : ℕ) where
-  pub headCheck-lawful : headCheck at n a run ≡ Lawful → LawfulHead n a run
-  unfolding countCheck numbersCheck
+module _ (at n run : ℕ) where
+  pub headCheck-lawful : headCheck at n run ≡ Lawful → LawfulHead n run
+  unfolding countCheck runLengthCheck
   headCheck-lawful h =
-      let A = inBounds 0 a 1000 in
-      let N = inBounds 1 run 1000000 in
-      let count = not-false _ (refuseIf-not _ _ _ (then-first (countCheck at n) (numbersCheck at a run) h)) in
-      let numbers = not-false _ (refuseIf-not _ _ _ (then-second (countCheck at n) (numbersCheck at a run) h)) in
+      let count = not-false _ (refuseIf-not _ _ _ (then-first (countCheck at n) (runLengthCheck at run) h)) in
+      let length = not-false _ (refuseIf-not _ _ _ (then-second (countCheck at n) (runLengthCheck at run) h)) in
       record {
         nPos = inBounds-low 1 n 10 count;
         nMax = inBounds-high 1 n 10 count;
-        aMax = inBounds-high 0 a 1000 (and-left A N numbers);
-        runPos = inBounds-low 1 run 1000000 (and-right A N numbers);
-        runMax = inBounds-high 1 run 1000000 (and-right A N numbers);
+        runPos = inBounds-low 1 run 1000000 length;
+        runMax = inBounds-high 1 run 1000000 length;
       }
 
-  pub headCheck-good : LawfulHead n a run → headCheck at n a run ≡ Lawful
-  unfolding countCheck numbersCheck
-  headCheck-good h =
-      rw (
-        inBounds-yes 1 n 10 (h .nPos) (h .nMax),
-        inBounds-yes 0 a 1000 zero-le (h .aMax),
-        inBounds-yes 1 run 1000000 (h .runPos) (h .runMax),
-      )
+  pub headCheck-good : LawfulHead n run → headCheck at n run ≡ Lawful
+  unfolding countCheck runLengthCheck
+  headCheck-good h = rw (inBounds-yes 1 n 10 (h .nPos) (h .nMax), inBounds-yes 1 run 1000000 (h .runPos) (h .runMax))
 
-  pub headCheck-count : (1 ≤ n → n ≤ 10 → ⊥) → headCheck at n a run ≡ Refused StringCount at
+  pub headCheck-count : (1 ≤ n → n ≤ 10 → ⊥) → headCheck at n run ≡ Refused StringCount at
   unfolding countCheck
   headCheck-count out = rw (inBounds-not 1 n 10 out)
 
-  pub headCheck-numbers : 1 ≤ n → n ≤ 10 → (a ≤ 1000 → 1 ≤ run → run ≤ 1000000 → ⊥) → headCheck at n a run ≡ Refused OutOfBounds at
-  unfolding countCheck numbersCheck
-  headCheck-numbers low high out =
-      let A = inBounds 0 a 1000 in
-      let N = inBounds 1 run 1000000 in
-      rw (inBounds-yes 1 n 10 low high)
-      (by-bool (A && N)
-      (λ t.
-      absurd
-      (out (inBounds-high 0 a 1000 (and-left A N t)) (inBounds-low 1 run 1000000 (and-right A N t))
-      (inBounds-high 1 run 1000000 (and-right A N t))))
-      (λ e. rw e))
+  pub headCheck-run : 1 ≤ n → n ≤ 10 → (1 ≤ run → run ≤ 1000000 → ⊥) → headCheck at n run ≡ Refused OutOfBounds at
+  unfolding countCheck runLengthCheck
+  headCheck-run low high out = rw (inBounds-yes 1 n 10 low high, inBounds-not 1 run 1000000 out)
+
+-- ---- A moving cost that is said for the whole plan
+
+module _ (at a : ℕ) where
+  pub costCheck-lawful : costCheck at a ≡ Lawful → a ≤ 1000
+  unfolding costCheck
+  costCheck-lawful h = inBounds-high 0 a 1000 (not-false (costLawful a) (refuseIf-not (not (costLawful a)) OutOfBounds at h))
+
+  pub costCheck-good : a ≤ 1000 → costCheck at a ≡ Lawful
+  unfolding costCheck
+  costCheck-good h = rw (inBounds-yes 0 a 1000 zero-le h)
+
+  pub costCheck-over : 1000 < a → costCheck at a ≡ Refused OutOfBounds at
+  unfolding costCheck
+  costCheck-over h = rw (inBounds-not 0 a 1000 (λ low high. omega arith))
 
 -- ---- A string
 
@@ -81,8 +78,11 @@ stringLawful-is s h =
     let D = inBounds 1 (s .d .0) (s .t .0) in
     let C = inBounds 1 (s .c .0) (s .d .0) in
     let X = inBounds 0 (s .x) 1 in
-    let x = and-right (T && D && C) X h in
-    let tdc = and-left (T && D && C) X h in
+    let A = costLawful (s .a .0) in
+    let a = and-right (T && D && C && X) A h in
+    let tdcx = and-left (T && D && C && X) A h in
+    let x = and-right (T && D && C) X tdcx in
+    let tdc = and-left (T && D && C) X tdcx in
     let c = and-right (T && D) C tdc in
     let td = and-left (T && D) C tdc in
     let d = and-right T D td in
@@ -95,6 +95,7 @@ stringLawful-is s h =
       cPos = inBounds-low 1 (s .c .0) (s .d .0) c;
       cMax = inBounds-high 1 (s .c .0) (s .d .0) c;
       xMax = inBounds-high 0 (s .x) 1 x;
+      aMax = inBounds-high 0 (s .a .0) 1000 a;
     }
 
 pub stringLawful-yes : (s : BatteryString) → LawfulString s → stringLawful s ≡ true
@@ -105,6 +106,7 @@ stringLawful-yes s h =
       inBounds-yes 1 (s .d .0) (s .t .0) (h .dPos) (h .dMax),
       inBounds-yes 1 (s .c .0) (s .d .0) (h .cPos) (h .cMax),
       inBounds-yes 0 (s .x) 1 zero-le (h .xMax),
+      inBounds-yes 0 (s .a .0) 1000 zero-le (h .aMax),
     )
 
 pub stringLawful-not : (s : BatteryString) → (LawfulString s → ⊥) → stringLawful s ≡ false
@@ -122,12 +124,12 @@ stringsCheck-all k (s ∷ ss) h =
 
 pub plan-strings : (p : Plan) → LawfulPlan p → All (PlanString p) (stringsOf p)
 unfolding movingCost
-plan-strings p ok = all-map LawfulString (PlanString p) (λ s h. record { lawful = h; costMax = ok .aMax }) (stringsOf p) (ok .each)
+plan-strings p ok = all-map LawfulString (PlanString p) (λ s h. record { lawful = h; costMax = h .aMax }) (stringsOf p) (ok .each)
 
--- where no string is, nothing is paid that a string would not
-pub noString-cost : (p : Plan) → LawfulPlan p → movingCost p noString ≤ 1000
+-- where no string is, nothing is paid
+pub noString-cost : (p : Plan) → movingCost p noString ≤ 1000
 unfolding movingCost
-noString-cost p ok = ok .aMax
+noString-cost p = omega arith
 
 pub commonMultiple-whole : (ss : List BatteryString) (h : ℕ) → commonMultiple ss h ≡ true → All (λ s. h % s .t .0 ≡ 0) ss
 unfolding commonMultiple
@@ -173,16 +175,15 @@ module _ (at : ℕ) (p : Plan) where
 pub planCheck-lawful : (p : Plan) → planCheck p ≡ Lawful → LawfulPlan p
 unfolding planCheck
 planCheck-lawful p h =
-    let heading = headCheck 0 (p .n) (p .a .0) (p .run .0) in
+    let heading = headCheck 0 (p .n) (p .run .0) in
     let strings = stringsCheck 1 (stringsOf p) in
     let multiple = multipleCheck 0 p in
-    let head = headCheck-lawful 0 (p .n) (p .a .0) (p .run .0) (then-first heading (then strings multiple) h) in
+    let head = headCheck-lawful 0 (p .n) (p .run .0) (then-first heading (then strings multiple) h) in
     let body = then-second heading (then strings multiple) h in
     let high = multipleCheck-small 0 p (then-second strings multiple body) in
     record {
       nPos = head .nPos;
       nMax = head .nMax;
-      aMax = head .aMax;
       runPos = head .runPos;
       runMax = head .runMax;
       each = stringsCheck-all 1 (stringsOf p) (then-first strings multiple body);

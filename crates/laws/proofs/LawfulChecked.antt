@@ -20,8 +20,8 @@ stringsCheck-good k (s ∷ ss) h = rw (stringLawful-yes s (h .0), stringsCheck-g
 pub lawful-checked : (p : Plan) → LawfulPlan p → planCheck p ≡ Lawful
 unfolding planCheck
 lawful-checked p ok =
-    let head : LawfulHead (p .n) (p .a .0) (p .run .0) =
-    record { nPos = ok .nPos; nMax = ok .nMax; aMax = ok .aMax; runPos = ok .runPos; runMax = ok .runMax } in
-    then-lawful (headCheck 0 (p .n) (p .a .0) (p .run .0)) _ (headCheck-good 0 (p .n) (p .a .0) (p .run .0) head)
+    let head : LawfulHead (p .n) (p .run .0) =
+    record { nPos = ok .nPos; nMax = ok .nMax; runPos = ok .runPos; runMax = ok .runMax } in
+    then-lawful (headCheck 0 (p .n) (p .run .0)) _ (headCheck-good 0 (p .n) (p .run .0) head)
     ∙ then-lawful (stringsCheck 1 (stringsOf p)) _ (stringsCheck-good 1 (stringsOf p) (ok .each))
     ∙ multipleCheck-good 0 p (ok .hMax)

@@ -2,6 +2,7 @@
 pub mod Jobs
 pub mod Lawful
 pub mod LawfulChecked
+pub mod Versions
 pub mod Demand
 pub mod Powers
 pub mod Releases

@@ -1,7 +1,6 @@
--- What it is for a string, a plan and a release list to be lawful, as facts about their numbers (document 01, "Bounds on a plan"). The
--- checks find
--- nothing exactly there.
---     LawfulString s        T 1 to 1,000; D 1 to T; C 1 to D; X 0 or 1
+-- What it is for a string, a plan and a release list to be lawful, as facts about their numbers (document 01, "Bounds on a plan"; document
+-- 02, W-207). The checks find nothing exactly there.
+--     LawfulString s        T 1 to 1,000; D 1 to T; C 1 to D; X 0 or 1; a moving cost up to 1,000
 --     LawfulPlan p          the bounds on a plan; H is a common multiple of all T, the least, and at most 100,000
 --     PlanString p s        s is lawful, and its moving cost in the plan p is at most 1,000
 --     LawfulRun p rs        the plan is lawful, and so is each of at most 1,000 releases
@@ -24,11 +23,11 @@ pub record LawfulString (s : BatteryString) : Type 0 where
   pub cPos : 1 ≤ s .c .0
   pub cMax : s .c .0 ≤ s .d .0
   pub xMax : s .x ≤ 1
+  pub aMax : s .a .0 ≤ 1000
 
 pub record LawfulPlan (p : Plan) : Type 0 where
   pub nPos : 1 ≤ p .n
   pub nMax : p .n ≤ 10
-  pub aMax : p .a .0 ≤ 1000
   pub runPos : 1 ≤ p .run .0
   pub runMax : p .run .0 ≤ 1000000
   pub each : All LawfulString (stringsOf p)

@@ -16,11 +16,12 @@ use Rattle.faults.proofs.Checks.{then-first, then-second, refuseIf-not}
 use Rattle.rules.specs.declared.Plan.{Plan}
 use Rattle.rules.specs.declared.Releases.{Releases}
 use Rattle.rules.specs.Refusal.{runCheck}
-use Rattle.rules.specs.Text.{readingOf}
+use Rattle.rules.specs.Layout.{Frames, version02, framesFor}
+use Rattle.rules.specs.Text.{readingIn, readingOf}
 use Rattle.writing.specs.declared.Saved.the-variants.{Text}
 use Rattle.writing.specs.Saved.{savedText, noRoom, patched, saveCheck, onSaved, savedAnswer, savedPage}
 use Rattle.onetext.specs.OneText.{lawfulText}
-use Rattle.onetext.proofs.ReadBack.{reading-what-was-written}
+use Rattle.onetext.proofs.ReadBack.{reading-the-new}
 use Rattle.onetext.proofs.WriteBack.{writing-what-was-read}
 
 or-right : (a b : Bool) → (a || b) ≡ false → b ≡ false
@@ -33,47 +34,51 @@ answered (checked.Refused f at) long len h =
     let z : _≡_ {A = ℕ} 0 1 = cc in
     absurd (omega arith)
 
-module _ (p : Plan) (rs : Releases) (page : List ℕ) (at len : ℕ) (h : savedAnswer p rs page at ≡ Text len) where
-  saved : (saveCheck p rs page at ≡ checked.Lawful) × (length (savedText p rs) ≡ len)
+module _ (v : Frames) (p : Plan) (rs : Releases) (page : List ℕ) (at len : ℕ) (h : savedAnswer v p rs page at ≡ Text len) where
+  saved : (saveCheck v p rs page at ≡ checked.Lawful) × (length (savedText v p rs) ≡ len)
   unfolding savedAnswer
-  saved = answered (saveCheck p rs page at) (length (savedText p rs)) len h
+  saved = answered (saveCheck v p rs page at) (length (savedText v p rs)) len h
 
-  pub text-long : length (savedText p rs) ≡ len
+  pub text-long : length (savedText v p rs) ≡ len
   text-long = saved .1
 
   pub text-lawful : runCheck p rs ≡ checked.Lawful
   unfolding saveCheck
-  text-lawful = then-first (runCheck p rs) (refuseIf (noRoom page at (savedText p rs)) NoRoom 0) (saved .0)
+  text-lawful = then-first (runCheck p rs) (refuseIf (noRoom page at (savedText v p rs)) NoRoom 0) (saved .0)
 
   inside : at ≤ length page
   unfolding saveCheck noRoom
   inside =
-      let room = refuseIf (noRoom page at (savedText p rs)) NoRoom 0 in
+      let room = refuseIf (noRoom page at (savedText v p rs)) NoRoom 0 in
       ltb-false (length page) at
-      (or-right (ltb (length (drop at page)) (length (savedText p rs))) (ltb (length page) at)
-      (refuseIf-not (noRoom page at (savedText p rs)) NoRoom 0 (then-second (runCheck p rs) room (saved .0))))
+      (or-right (ltb (length (drop at page)) (length (savedText v p rs))) (ltb (length page) at)
+      (refuseIf-not (noRoom page at (savedText v p rs)) NoRoom 0 (then-second (runCheck p rs) room (saved .0))))
 
-  pub page-is : savedPage p rs page at ≡ patched page at (savedText p rs)
+  pub page-is : savedPage v p rs page at ≡ patched page at (savedText v p rs)
   unfolding savedPage
   page-is = rw (saved .0)
 
   -- the text stands in the page from the named place on
-  pub text-stands : take len (drop at (savedPage p rs page at)) ≡ savedText p rs
+  pub text-stands : take len (drop at (savedPage v p rs page at)) ≡ savedText v p rs
   text-stands =
-      let text = savedText p rs in
+      let text = savedText v p rs in
       let rest = drop (at + length text) page in
       ap (λ whole. take len (drop at whole)) page-is
       ∙ ap (take len) (drop-at (take at page) (text ++ rest) at (length-take-le at page inside))
       ∙ ap (λ k. take k (text ++ rest)) (sym text-long) ∙ take-append-seam text rest
 
-  -- and reads back to the plan
-  pub reading-the-page : length (p .strings) ≡ 10 → length (rs .list) ≡ 1000
-      → readingOf (take len (drop at (savedPage p rs page at))) ≡ lawfulText p rs
-  reading-the-page ten thousand = ap readingOf text-stands ∙ reading-what-was-written p rs ten thousand text-lawful
+-- a text of version 02 that is written stands in the page and reads back to the plan
+pub reading-the-page : (p : Plan) (rs : Releases) (page : List ℕ) (at len : ℕ) → savedAnswer version02 p rs page at ≡ Text len
+    → length (p .strings) ≡ 10 → length (rs .list) ≡ 1000
+    → readingOf (take len (drop at (savedPage version02 p rs page at))) ≡ lawfulText p rs
+reading-the-page p rs page at len h ten thousand =
+    ap readingOf (text-stands version02 p rs page at len h)
+    ∙ reading-the-new p rs ten thousand (text-lawful version02 p rs page at len h)
 
--- a text that was read and is saved stands in the page byte for byte
-pub saving-what-was-read : (text page : List ℕ) (at len : ℕ) → readingOf text .checked ≡ checked.Lawful
-    → savedAnswer (readingOf text .plan) (readingOf text .releases) page at ≡ Text len
-    → savedPage (readingOf text .plan) (readingOf text .releases) page at ≡ patched page at text
-saving-what-was-read text page at len h saves =
-    page-is (readingOf text .plan) (readingOf text .releases) page at len saves ∙ ap (patched page at) (writing-what-was-read text h)
+-- a text that was read and is saved in its version stands in the page byte for byte
+pub saving-what-was-read : (k : ℕ) (text page : List ℕ) (at len : ℕ) → readingIn (framesFor k) text .checked ≡ checked.Lawful
+    → savedAnswer (framesFor k) (readingIn (framesFor k) text .plan) (readingIn (framesFor k) text .releases) page at ≡ Text len
+    → savedPage (framesFor k) (readingIn (framesFor k) text .plan) (readingIn (framesFor k) text .releases) page at ≡ patched page at text
+saving-what-was-read k text page at len h saves =
+    let read = readingIn (framesFor k) text in
+    page-is (framesFor k) (read .plan) (read .releases) page at len saves ∙ ap (patched page at) (writing-what-was-read k text h)

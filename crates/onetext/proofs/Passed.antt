@@ -1,10 +1,10 @@
--- The lines of a lawful plan and its releases pass every check of the reader.
-use Prim.Native.Nat.{ℕ, suc, _+_, _≤_}
+-- The lines of a lawful plan and its releases pass every check of the reader, in either version.
+use Prim.Native.Nat.{ℕ, suc, _+_, _≤_, _<_}
 use mathlib.Core.Path.{_≡_, refl, ap}
 use mathlib.Core.Bool.{true}
 use mathlib.Core.List.{List, [], _∷_, _++_, map}
 use native.Mathlib.Omega.{arith}
-use borrow.Author.Tests.{le-ltb}
+use borrow.Author.Tests.{le-ltb, eq-eqb}
 use lib.ListN.{length}
 use lib.Seq.{take-at}
 use Rattle.lists.specs.Count.{All, leastFrom}
@@ -15,41 +15,60 @@ use Rattle.rules.specs.declared.Plan.{Plan}
 use Rattle.rules.specs.declared.Release.{Release}
 use Rattle.rules.specs.Plan.{stringsOf, commonMultiple, multipleOf}
 use Rattle.rules.specs.Release.{releaseLawful, unlawfulFrom}
-use Rattle.rules.specs.Layout.{version01}
+use Rattle.rules.specs.Layout.{framesFor}
 use Rattle.rules.specs.Text.{Line, headerCheck, versionCheck, stringLineCheck, stringLinesCheck, releaseLineCheck, releaseLinesCheck}
-use Rattle.laws.specs.Lawful.{LawfulString, LawfulPlan}
-use Rattle.laws.proofs.Lawful.{headCheck-good, stringLawful-yes}
+use Rattle.laws.specs.Lawful.{LawfulPlan}
+use Rattle.laws.proofs.Lawful.{headCheck-good, costCheck-good, stringLawful-yes}
+use Rattle.layouts.proofs.Versions.{by-version}
 use Rattle.writing.specs.Written.{headerSays, stringSays, releaseSays}
 use Rattle.onetext.specs.OneText.{blankPlan}
 use Rattle.onetext.proofs.Framed.{written-lawful}
-use Rattle.onetext.proofs.PlanLines.{headerLine, stringLine, releaseLine, Brief}
-use Rattle.onetext.proofs.PlanLines.{version-said, n-said, a-said, run-said, string-said, release-said}
+use Rattle.onetext.proofs.PlanLines.{headerLine, stringLine, releaseLine, Told, Brief}
+use Rattle.onetext.proofs.PlanLines.{version-said, n-said, a-small, run-said, string-said, release-said}
+
+-- ---- Kinds are bytes
+
+module _ (k : ℕ) where
+  pub header-low : framesFor k .header .kind < 256
+  header-low = by-version (λ v. v .header .kind < 256) (omega arith) (omega arith) k
+
+  pub string-low : framesFor k .string .kind < 256
+  string-low = by-version (λ v. v .string .kind < 256) (omega arith) (omega arith) k
+
+  pub release-low : framesFor k .release .kind < 256
+  release-low = by-version (λ v. v .release .kind < 256) (omega arith) (omega arith) k
 
 -- ---- The header and the strings
 
-pub header-passes : (p : Plan) → LawfulPlan p → headerCheck version01 (headerLine p) ≡ Lawful
+pub header-passes : (k : ℕ) (p : Plan) → LawfulPlan p → headerCheck (framesFor k) (headerLine (framesFor k) p) ≡ Lawful
 unfolding headerCheck versionCheck
-header-passes p ok =
+header-passes k p ok =
+    let v = framesFor k in
     rw (
-      written-lawful (version01 .header) (headerSays 1 p) (omega arith) 1,
-      version-said p ok,
-      n-said p ok,
-      a-said p ok,
-      run-said p ok,
+      written-lawful (v .header) (headerSays (v .version) p) (header-low k) 1,
+      eq-eqb _ (v .version) (version-said p ok k),
+      n-said p ok k,
+      run-said p ok k,
+      headCheck-good 1 (p .n) (p .run .0) (record { nPos = ok .nPos; nMax = ok .nMax; runPos = ok .runPos; runMax = ok .runMax }),
     )
-    (headCheck-good 1 (p .n) (p .a .0) (p .run .0)
-    (record { nPos = ok .nPos; nMax = ok .nMax; aMax = ok .aMax; runPos = ok .runPos; runMax = ok .runMax }))
+    (costCheck-good 1 _ (a-small p ok k))
 
-string-passes : (k : ℕ) (s : BatteryString) → LawfulString s → stringLineCheck version01 k (stringLine s) ≡ Lawful
-unfolding stringLineCheck
-string-passes k s ok =
-    rw (written-lawful (version01 .string) (stringSays s) (omega arith) k, string-said s ok, stringLawful-yes s ok)
+module _ (k : ℕ) (header : Line) where
+  string-passes : (at : ℕ) (s : BatteryString) → Told (framesFor k) header s
+      → stringLineCheck (framesFor k) header at (stringLine (framesFor k) s) ≡ Lawful
+  unfolding stringLineCheck
+  string-passes at s ok =
+      rw (
+        written-lawful (framesFor k .string) (stringSays s) (string-low k) at,
+        string-said s (ok .0) k header (ok .1),
+        stringLawful-yes s (ok .0),
+      )
 
-pub strings-pass : (k : ℕ) (ss : List BatteryString) → All LawfulString ss
-    → (more : List Line) → stringLinesCheck version01 k (length ss) (map stringLine ss ++ more) ≡ Lawful
-unfolding stringLinesCheck
-strings-pass k [] ok more = refl
-strings-pass k (s ∷ ss) ok more = rw (string-passes k s (ok .0)) (strings-pass (suc k) ss (ok .1) more)
+  pub strings-pass : (at : ℕ) (ss : List BatteryString) → All (Told (framesFor k) header) ss → (more : List Line)
+      → stringLinesCheck (framesFor k) header at (length ss) (map (stringLine (framesFor k)) ss ++ more) ≡ Lawful
+  unfolding stringLinesCheck
+  strings-pass at [] ok more = refl
+  strings-pass at (s ∷ ss) ok more = rw (string-passes at s (ok .0)) (strings-pass (suc at) ss (ok .1) more)
 
 -- ---- A plan with no string after its n-th is the same plan
 
@@ -67,27 +86,30 @@ module _ (p : Plan) (many : length (stringsOf p) ≡ p .n) where
 
 -- ---- The releases
 
-module _ (p q : Plan) (same : (seen : List Release) (r : Release) → releaseLawful q seen r ≡ releaseLawful p seen r) where
+module _ (v : ℕ) (p q : Plan) (same : (seen : List Release) (r : Release) → releaseLawful q seen r ≡ releaseLawful p seen r) where
+  abbrev lineOf : Release → Line
+  lineOf r = releaseLine (framesFor v) r
+
   release-passes : (k j : ℕ) (seen : List Release) (r : Release) → Brief r → j ≤ 1000 → releaseLawful p seen r ≡ true
-      → releaseLineCheck version01 q k j seen (releaseLine r) ≡ Lawful
+      → releaseLineCheck (framesFor v) q k j seen (lineOf r) ≡ Lawful
   unfolding releaseLineCheck
   release-passes k j seen r ok few lawful =
       rw (
-        written-lawful (version01 .release) (releaseSays r) (omega arith) k,
+        written-lawful (framesFor v .release) (releaseSays r) (release-low v) k,
         le-ltb 1000 j few,
-        release-said r ok,
+        release-said r ok v,
         same seen r,
         lawful,
       )
 
   pub releases-pass : (k j i : ℕ) (seen rs : List Release) → All Brief rs → j + length rs ≤ 1001 → 1 ≤ i → unlawfulFrom p seen i rs ≡ 0
-      → releaseLinesCheck version01 q k j seen (map releaseLine rs) ≡ Lawful
+      → releaseLinesCheck (framesFor v) q k j seen (map lineOf rs) ≡ Lawful
   unfolding releaseLinesCheck unlawfulFrom
   releases-pass k j i seen [] ok few pos none = refl
   releases-pass k j i seen (r ∷ rs) ok few pos none =
       by-bool (releaseLawful p seen r)
       (λ t.
-      rw (release-passes k j seen r (ok .0) (omega arith) t, release-said r (ok .0))
+      rw (release-passes k j seen r (ok .0) (omega arith) t, release-said r (ok .0) v)
       (releases-pass (suc k) (suc j) (suc i) (r ∷ seen) rs (ok .1) (omega arith) (omega arith) (rw t at none)))
       (λ e.
       let first = rw e at none in

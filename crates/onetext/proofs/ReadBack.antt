@@ -1,13 +1,14 @@
--- Reading what was written: the text of a lawful plan reads back to the plan and its releases.
-use Prim.Native.Nat.{ℕ, _+_, _-_, _≤_, _<_}
+-- Reading what was written, in either version: the text of a lawful plan reads back to the plan and its releases. Version 01 has one moving
+-- cost for all strings, so there they must be alike.
+use Prim.Native.Nat.{ℕ, _+_, _-_, _*_, _≤_, _<_}
 use mathlib.Core.Path.{_≡_, refl, sym, ap, _∙_}
 use mathlib.Core.List.{List, [], _∷_, _++_, map, flatMap, append-assoc}
 use native.Mathlib.Omega.{arith}
 use borrow.Author.Tests.{le-ltb}
 use lib.ListN.{length, take, drop, getD, length-map}
 use lib.Seq.{take-at, drop-at, length-take-le}
-use Rattle.lists.specs.Count.{All}
-use Rattle.lists.proofs.Lists.{all-by, all-map, all-getD}
+use Rattle.lists.specs.Count.{All, any}
+use Rattle.lists.proofs.Lists.{all-by, all-map, all-getD, true-not-false}
 use Rattle.faults.specs.declared.Checked.the-variants.{Lawful}
 use Rattle.rules.specs.declared.BatteryString.{BatteryString}
 use Rattle.rules.specs.declared.Plan.{Plan}
@@ -16,22 +17,25 @@ use Rattle.rules.specs.declared.Releases.{Releases}
 use Rattle.rules.specs.Plan.{stringsOf, stringAt, noString}
 use Rattle.rules.specs.Release.{releasesOf, noRelease, unlawfulFrom, firstUnlawful}
 use Rattle.rules.specs.Refusal.{runCheck}
-use Rattle.rules.specs.Layout.{Field, Layout, version01}
-use Rattle.rules.specs.Text.{Line, linesOf, stringOf, releaseOf, planIn, releasesIn, lawfulReading, readingOf}
+use Rattle.rules.specs.Layout.{Field, Layout, Frames, lineSize, hasField, version02, framesFor}
+use Rattle.rules.specs.Text.{Line, linesOf, stringOf, releaseOf, planIn, releasesIn, lawfulReading, readingIn, framesOf, readingOf}
 use Rattle.rules.specs.Text.{stringLinesCheck, releaseLinesCheck, bodyCheck, linesCheck, textCheck}
 use Rattle.laws.specs.Lawful.{LawfulString, LawfulRun}
 use Rattle.laws.proofs.Lawful.{multipleCheck-good}
 use Rattle.laws.proofs.Releases.{runCheck-lawful}
 use Rattle.laws.proofs.ReleaseList.{release-lawful}
+use Rattle.layouts.proofs.Versions.{number-again, same-release, header-short, string-short, ten-short}
 use Rattle.writing.specs.Written.{headerSays, stringSays, releaseSays, frameBytes, headerText, stringText, releaseText, planText}
 use Rattle.writing.specs.Saved.{savedText}
 use Rattle.writing.proofs.Texts.{flatMap-append}
 use Rattle.writing.proofs.Saving.{saved-long}
-use Rattle.onetext.specs.OneText.{blankPlan, blankReleases, lawfulText}
+use Rattle.onetext.specs.OneText.{blankPlan, blankReleases, lawfulText, Alike}
 use Rattle.onetext.proofs.HexBytes.{frame-digits, all-append}
 use Rattle.onetext.proofs.Ended.{lineBytes, textOf, Ended, Digits, lines-said}
 use Rattle.onetext.proofs.Framed.{lineText-is, written, bytes-small}
-use Rattle.onetext.proofs.PlanLines.{headerLine, stringLine, releaseLine, Brief, n-said, a-said, run-said, string-said, release-said}
+use Rattle.onetext.proofs.PlanLines.{headerLine, stringLine, releaseLine, Told, Brief, strings-told}
+use Rattle.onetext.proofs.PlanLines.{named, n-said, run-said, string-said, release-said}
+use Rattle.onetext.proofs.Passed.{header-low, string-low, release-low}
 use Rattle.onetext.proofs.Passed.{header-passes, strings-pass, releases-pass, blank-multiple, blank-lawful}
 
 -- ---- Lines made of what they say
@@ -56,39 +60,44 @@ written-digits l says low = frame-digits (frameBytes l says) (bytes-small l says
 
 -- ---- The lines of the text
 
-abbrev savedLines : Plan → Releases → List Line
-savedLines p rs = headerLine p ∷ (map stringLine (stringsOf p) ++ map releaseLine (releasesOf rs))
+module _ (k : ℕ) where
+  -- the version that is written
+  abbrev v : Frames
+  v = framesFor k
 
-string-text : (s : BatteryString) → stringText version01 s ≡ lineBytes (stringLine s)
-unfolding stringText
-string-text s = lineText-is (frameBytes (version01 .string) (stringSays s))
+  abbrev savedLines : Plan → Releases → List Line
+  savedLines p rs = headerLine v p ∷ (map (stringLine v) (stringsOf p) ++ map (releaseLine v) (releasesOf rs))
 
-release-text : (r : Release) → releaseText version01 r ≡ lineBytes (releaseLine r)
-unfolding releaseText
-release-text r = lineText-is (frameBytes (version01 .release) (releaseSays r))
+  string-text : (s : BatteryString) → stringText v s ≡ lineBytes (stringLine v s)
+  unfolding stringText
+  string-text s = lineText-is (frameBytes (v .string) (stringSays s))
 
-module _ (p : Plan) (rs : Releases) where
-  all-saved : (P : Line → Type 0) → ((l : Layout) (says : Field → ℕ) → l .kind < 256 → P (written l says)) → All P (savedLines p rs)
-  all-saved P each =
-      let header = each (version01 .header) (headerSays 1 p) (omega arith) in
-      let strings = all-lines stringLine P (λ s. each (version01 .string) (stringSays s) (omega arith)) (stringsOf p) in
-      let releases = all-lines releaseLine P (λ r. each (version01 .release) (releaseSays r) (omega arith)) (releasesOf rs) in
-      (header, all-append P (map stringLine (stringsOf p)) (map releaseLine (releasesOf rs)) strings releases)
+  release-text : (r : Release) → releaseText v r ≡ lineBytes (releaseLine v r)
+  unfolding releaseText
+  release-text r = lineText-is (frameBytes (v .release) (releaseSays r))
 
-  saved-is : savedText p rs ≡ textOf (savedLines p rs)
-  unfolding savedText planText headerText flatMap
-  saved-is =
-      let strings = texts-are stringLine (stringText version01) string-text (stringsOf p) in
-      let releases = texts-are releaseLine (releaseText version01) release-text (releasesOf rs) in
-      append-assoc (headerText version01 p) _ _
-      ∙ rw (lineText-is (frameBytes (version01 .header) (headerSays 1 p)), strings, releases)
-      (ap (λ rest. lineBytes (headerLine p) ++ rest)
-      (sym (flatMap-append lineBytes (map stringLine (stringsOf p)) (map releaseLine (releasesOf rs)))))
+  module _ (p : Plan) (rs : Releases) where
+    all-saved : (P : Line → Type 0) → ((l : Layout) (says : Field → ℕ) → l .kind < 256 → P (written l says)) → All P (savedLines p rs)
+    all-saved P each =
+        let header = each (v .header) (headerSays (v .version) p) (header-low k) in
+        let strings = all-lines (stringLine v) P (λ s. each (v .string) (stringSays s) (string-low k)) (stringsOf p) in
+        let releases = all-lines (releaseLine v) P (λ r. each (v .release) (releaseSays r) (release-low k)) (releasesOf rs) in
+        (header, all-append P (map (stringLine v) (stringsOf p)) (map (releaseLine v) (releasesOf rs)) strings releases)
 
-  lines-saved : linesOf (savedText p rs) ≡ savedLines p rs
-  lines-saved =
-      ap linesOf saved-is
-      ∙ lines-said (savedLines p rs) (all-saved Ended (λ l says low. refl)) (all-saved Digits written-digits)
+    saved-is : savedText v p rs ≡ textOf (savedLines p rs)
+    unfolding savedText planText headerText flatMap
+    saved-is =
+        let strings = texts-are (stringLine v) (stringText v) string-text (stringsOf p) in
+        let releases = texts-are (releaseLine v) (releaseText v) release-text (releasesOf rs) in
+        append-assoc (headerText v p) _ _
+        ∙ rw (lineText-is (frameBytes (v .header) (headerSays (v .version) p)), strings, releases)
+        (ap (λ rest. lineBytes (headerLine v p) ++ rest)
+        (sym (flatMap-append lineBytes (map (stringLine v) (stringsOf p)) (map (releaseLine v) (releasesOf rs)))))
+
+    lines-saved : linesOf (savedText v p rs) ≡ savedLines p rs
+    lines-saved =
+        ap linesOf saved-is
+        ∙ lines-said (savedLines p rs) (all-saved Ended (λ l says low. refl)) (all-saved Digits written-digits)
 
 -- ---- What they say
 
@@ -96,7 +105,7 @@ module _ (p : Plan) (rs : Releases) where
 abbrev Savable : Plan → Releases → Type 0
 Savable p rs = (length (p .strings) ≡ 10) × (length (rs .list) ≡ 1000) × (runCheck p rs ≡ Lawful)
 
-module _ (p : Plan) (rs : Releases) (h : Savable p rs) where
+module _ (k : ℕ) (p : Plan) (rs : Releases) (h : Savable p rs) where
   run-is : LawfulRun p rs
   run-is = runCheck-lawful p rs (h .2)
 
@@ -117,86 +126,108 @@ module _ (p : Plan) (rs : Releases) (h : Savable p rs) where
           (omega arith)
 
       each : (i : ℕ) → i < length (releasesOf rs) → Brief (getD (releasesOf rs) i noRelease)
-      each i k =
-          let ok = release-lawful p (releasesOf rs) (run-is .none-bad) i k in
+      each i low =
+          let ok = release-lawful p (releasesOf rs) (run-is .none-bad) i low in
           record {
             place = omega (arith, ok .placeMax, run-is .plan .nMax);
             day = omega (arith, ok .early, run-is .plan .runMax);
             need = omega (arith, ok .needMax, working (getD (releasesOf rs) i noRelease .place));
           }
 
+  abbrev header : Line
+  header = headerLine (v k) p
+
   abbrev strings : List Line
-  strings = map stringLine (stringsOf p)
+  strings = map (stringLine (v k)) (stringsOf p)
 
   abbrev releases : List Line
-  releases = map releaseLine (releasesOf rs)
+  releases = map (releaseLine (v k)) (releasesOf rs)
 
   strings-first : take (p .n) (strings ++ releases) ≡ strings
-  strings-first = take-at strings releases (p .n) (length-map (stringsOf p) stringLine ∙ strings-many)
+  strings-first = take-at strings releases (p .n) (length-map (stringsOf p) (stringLine (v k)) ∙ strings-many)
 
   releases-then : drop (p .n) (strings ++ releases) ≡ releases
-  releases-then = drop-at strings releases (p .n) (length-map (stringsOf p) stringLine ∙ strings-many)
+  releases-then = drop-at strings releases (p .n) (length-map (stringsOf p) (stringLine (v k)) ∙ strings-many)
 
-  plan-said : planIn version01 (savedLines p rs) ≡ blankPlan p
-  unfolding planIn
-  plan-said =
-      rw (
-        n-said p (run-is .plan),
-        a-said p (run-is .plan),
-        run-said p (run-is .plan),
-        strings-first,
-        said-back stringLine LawfulString (stringOf version01) string-said (stringsOf p) (run-is .plan .each),
-      )
-
-  releases-said : releasesIn version01 (savedLines p rs) ≡ blankReleases rs
+  releases-said : releasesIn (v k) (savedLines k p rs) ≡ blankReleases rs
   unfolding releasesIn
   releases-said =
       rw (
-        n-said p (run-is .plan),
+        n-said p (run-is .plan) k,
         releases-then,
-        said-back releaseLine Brief (releaseOf version01) release-said (releasesOf rs) brief,
+        said-back (releaseLine (v k)) Brief (releaseOf (v k)) (λ r ok. release-said r ok k) (releasesOf rs) brief,
         releases-many,
       )
 
-  -- ---- No check finds a fault
+  -- the text names its version
+  pub written-names : framesOf (linesOf (savedText (v k) p rs)) ≡ v k
+  unfolding framesOf
+  written-names = ap framesOf (lines-saved k p rs) ∙ ap framesFor (named p (run-is .plan) k) ∙ number-again k
 
-  none-unlawful : unlawfulFrom p [] 1 (releasesOf rs) ≡ 0
-  unfolding firstUnlawful
-  none-unlawful = run-is .none-bad
+  module _ (alike : Alike (v k) p) where
+    told : All (Told (v k) header) (stringsOf p)
+    told = strings-told p (run-is .plan) k alike
 
-  strings-all : stringLinesCheck version01 2 (p .n) (strings ++ releases) ≡ Lawful
-  strings-all =
-      ap (λ n. stringLinesCheck version01 2 n (strings ++ releases)) (sym strings-many)
-      ∙ strings-pass 2 (stringsOf p) (run-is .plan .each) releases
+    plan-said : planIn (v k) (savedLines k p rs) ≡ blankPlan p
+    unfolding planIn
+    plan-said =
+        rw (
+          n-said p (run-is .plan) k,
+          run-said p (run-is .plan) k,
+          strings-first,
+          said-back (stringLine (v k)) (Told (v k) header) (stringOf (v k) header) (λ s ok. string-said s (ok .0) k header (ok .1))
+              (stringsOf p) told,
+        )
 
-  releases-all : releaseLinesCheck version01 (blankPlan p) (p .n + 2) 1 [] releases ≡ Lawful
-  releases-all =
-      let few = run-is .few in
-      releases-pass p (blankPlan p) (blank-lawful p strings-many) (p .n + 2) 1 1 [] (releasesOf rs) brief
-      (omega (arith, releases-many)) (omega arith) none-unlawful
+    -- ---- No check finds a fault
 
-  body-lawful : bodyCheck version01 (blankPlan p) (strings ++ releases) ≡ Lawful
-  unfolding bodyCheck
-  body-lawful =
-      let multiple = multipleCheck-good (p .n + 1) (blankPlan p) (rw (blank-multiple p strings-many) (run-is .plan .hMax)) in
-      rw (strings-all, multiple, releases-then) releases-all
+    none-unlawful : unlawfulFrom p [] 1 (releasesOf rs) ≡ 0
+    unfolding firstUnlawful
+    none-unlawful = run-is .none-bad
 
-  lines-lawful : linesCheck version01 (savedLines p rs) ≡ Lawful
-  unfolding linesCheck
-  lines-lawful = rw (header-passes p (run-is .plan), plan-said) body-lawful
+    strings-all : stringLinesCheck (v k) header 2 (p .n) (strings ++ releases) ≡ Lawful
+    strings-all =
+        ap (λ n. stringLinesCheck (v k) header 2 n (strings ++ releases)) (sym strings-many)
+        ∙ strings-pass k header 2 (stringsOf p) told releases
 
--- places after the n-th and releases after the count come back blank
-pub reading-what-was-written : (p : Plan) (rs : Releases) → length (p .strings) ≡ 10 → length (rs .list) ≡ 1000 → runCheck p rs ≡ Lawful
-    → readingOf (savedText p rs) ≡ lawfulText p rs
-unfolding readingOf textCheck lawfulReading
-reading-what-was-written p rs ten thousand lawful =
-    let run = runCheck-lawful p rs lawful in
-    let long = saved-long p rs [] 0 lawful ten thousand in
-    let short = le-ltb 65536 (length (savedText p rs)) (omega (arith, run .plan .nMax, run .few)) in
-    rw (
-      short,
-      lines-saved p rs,
-      lines-lawful p rs (ten, thousand, lawful),
-      plan-said p rs (ten, thousand, lawful),
-      releases-said p rs (ten, thousand, lawful),
-    )
+    releases-all : releaseLinesCheck (v k) (blankPlan p) (p .n + 2) 1 [] releases ≡ Lawful
+    releases-all =
+        let few = run-is .few in
+        releases-pass k p (blankPlan p) (blank-lawful p strings-many) (p .n + 2) 1 1 [] (releasesOf rs) brief
+        (omega (arith, releases-many)) (omega arith) none-unlawful
+
+    body-lawful : bodyCheck (v k) header (blankPlan p) (strings ++ releases) ≡ Lawful
+    unfolding bodyCheck
+    body-lawful =
+        let multiple = multipleCheck-good (p .n + 1) (blankPlan p) (rw (blank-multiple p strings-many) (run-is .plan .hMax)) in
+        rw (strings-all, multiple, releases-then) releases-all
+
+    lines-lawful : linesCheck (v k) (savedLines k p rs) ≡ Lawful
+    unfolding linesCheck
+    lines-lawful = rw (header-passes k p (run-is .plan), plan-said) body-lawful
+
+    short : length (savedText (v k) p rs) ≤ 65536
+    short =
+        let long = saved-long (v k) p rs [] 0 (h .2) (h .0) (h .1) in
+        let strings = ten-short (p .n) (lineSize (v k .string)) (run-is .plan .nMax) (string-short k) in
+        let releases = ap (λ (l : Layout). rs .count * lineSize l) (same-release k) in
+        omega (arith, run-is .few, header-short k)
+
+    -- places after the n-th and releases after the count come back blank
+    pub reading-what-was-written : readingIn (v k) (savedText (v k) p rs) ≡ lawfulText p rs
+    unfolding readingIn textCheck lawfulReading
+    reading-what-was-written =
+        rw (le-ltb 65536 (length (savedText (v k) p rs)) short, lines-saved k p rs, lines-lawful, plan-said, releases-said)
+
+-- each string of a version 02 plan has its own moving cost
+pub alike-new : (p : Plan) → Alike version02 p
+unfolding hasField any
+alike-new p h = absurd (true-not-false (sym h))
+
+-- what is written in version 02 reads back, and its header says so
+pub reading-the-new : (p : Plan) (rs : Releases) → length (p .strings) ≡ 10 → length (rs .list) ≡ 1000 → runCheck p rs ≡ Lawful
+    → readingOf (savedText version02 p rs) ≡ lawfulText p rs
+unfolding readingOf framesFor
+reading-the-new p rs ten thousand lawful =
+    let h : Savable p rs = (ten, thousand, lawful) in
+    ap (λ w. readingIn w (savedText version02 p rs)) (written-names 2 p rs h) ∙ reading-what-was-written 2 p rs h (alike-new p)

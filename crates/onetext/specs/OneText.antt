@@ -1,20 +1,27 @@
--- A plan has one text (document 02, W-201): what a text keeps of a plan and of its releases.
+-- A plan has one text within a version (document 02, W-201, W-207): what a text keeps of a plan and of its releases.
 --     blankPlan p           p with no string after its n-th
 --     blankReleases rs      rs with no release after those that count
 --     lawfulText p rs       what reading the text of p and rs gives
-use Rattle.lists.specs.Count.{filled}
+--     Alike v p             where the header of the version v says one moving cost for all strings, they have one
+use mathlib.Core.Path.{_≡_}
+use mathlib.Core.Bool.{true}
+use Rattle.lists.specs.Count.{All, filled}
 use Rattle.faults.specs.declared.Checked.the-variants.{Lawful}
 use Rattle.rules.specs.declared.Plan.{Plan}
 use Rattle.rules.specs.declared.Releases.{Releases}
 use Rattle.rules.specs.declared.Reading.{Reading}
-use Rattle.rules.specs.Plan.{stringsOf, noString}
+use Rattle.rules.specs.Plan.{stringsOf, stringAt, noString}
 use Rattle.rules.specs.Release.{releasesOf, noRelease}
+use Rattle.rules.specs.Layout.{Frames, hasField, Moving}
 
 abbrev pub blankPlan : Plan → Plan
-blankPlan p = record { n = p .n; a = p .a; run = p .run; strings = filled 10 noString (stringsOf p) }
+blankPlan p = record { n = p .n; run = p .run; strings = filled 10 noString (stringsOf p) }
 
 abbrev pub blankReleases : Releases → Releases
 blankReleases rs = record { count = rs .count; list = filled 1000 noRelease (releasesOf rs) }
 
 abbrev pub lawfulText : Plan → Releases → Reading
 lawfulText p rs = record { checked = Lawful; plan = blankPlan p; releases = blankReleases rs }
+
+abbrev pub Alike : Frames → Plan → Type 0
+Alike v p = hasField (v .header) Moving ≡ true → All (λ s. s .a ≡ stringAt p 1 .a) (stringsOf p)

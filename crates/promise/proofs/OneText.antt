@@ -1,5 +1,5 @@
--- A plan has one text, of what `read` and `write` answered: reading what was written gives the plan, and writing what was read gives the
--- same bytes.
+-- A plan has one text within version 02, of what `read` and `write` answered: reading what was written gives the plan, and writing what
+-- was read gives the same bytes.
 -- The arguments of `write` are the plan, the releases, the page and the place.
 use Prim.Native.Nat.{ℕ}
 use mathlib.Core.Path.{_≡_, sym, ap, _∙_}
@@ -9,7 +9,8 @@ use Rattle.faults.specs.declared.Checked.the-variants.{Lawful}
 use Rattle.rules.specs.declared.Plan.{Plan}
 use Rattle.rules.specs.declared.Releases.{Releases}
 use Rattle.rules.specs.declared.Reading.{Reading}
-use Rattle.rules.specs.Text.{readingOf}
+use Rattle.rules.specs.Layout.{version02, framesFor}
+use Rattle.rules.specs.Text.{linesOf, framesOf, readingIn, readingOf}
 use Rattle.writing.specs.declared.Saved.the-variants.{Text}
 use Rattle.writing.specs.Saved.{patched, savedAnswer, savedPage}
 use Rattle.onetext.specs.OneText.{lawfulText}
@@ -27,18 +28,21 @@ module _ (κs κt : Lfts 1) (lent : _) (after : _) (r : Reading) (was-read : rea
       ∙ ap readingOf (text ∙ ap (λ page. take len (drop (a .1 .1 .1 .0) page)) (wrote .1))
       ∙ reading-the-page (a .0) (a .1 .0) (a .1 .1 .0 .now) (a .1 .1 .1 .0) len (sym (wrote .0)) ten thousand
 
-  -- what was read, written into a page, is the text byte for byte; the rest of the page stays
-  pub read-writes-back : r .checked ≡ Lawful → (a : _) (e : _) (len : ℕ) → write.Learnt κt a (Text len) e → a .0 ≡ r .plan
-      → a .1 .0 ≡ r .releases
+  -- what was read from a version 02 text, written into a page, is the text byte for byte; the rest of the page stays
+  pub read-writes-back : framesOf (linesOf (lent .0 .now)) ≡ version02 → r .checked ≡ Lawful → (a : _) (e : _) (len : ℕ)
+      → write.Learnt κt a (Text len) e → a .0 ≡ r .plan → a .1 .0 ≡ r .releases
       → e .1 .1 .0 .now ≡ patched (a .1 .1 .0 .now) (a .1 .1 .1 .0) (lent .0 .now)
-  read-writes-back lawful a e len wrote plan list =
+  unfolding framesFor readingOf
+  read-writes-back new lawful a e len wrote plan list =
       let text = lent .0 .now in
       let page = a .1 .1 .0 .now in
       let at = a .1 .1 .1 .0 in
-      let plan-is : a .0 ≡ readingOf text .plan = plan ∙ ap (λ s. s .plan) (was-read .0) in
-      let list-is : a .1 .0 ≡ readingOf text .releases = list ∙ ap (λ s. s .releases) (was-read .0) in
-      let saves : savedAnswer (readingOf text .plan) (readingOf text .releases) page at ≡ Text len =
-      ap (λ p. savedAnswer p (readingOf text .releases) page at) (sym plan-is) ∙ ap (λ rs. savedAnswer (a .0) rs page at) (sym list-is) ∙
-      sym (wrote .0) in
-      wrote .1 ∙ ap (λ p. savedPage p (a .1 .0) page at) plan-is ∙ ap (λ rs. savedPage (readingOf text .plan) rs page at) list-is
-      ∙ saving-what-was-read text page at len (sym (ap (λ s. s .checked) (was-read .0)) ∙ lawful) saves
+      let read = was-read .0 ∙ ap (λ v. readingIn v text) new in
+      let plan-is : a .0 ≡ readingIn version02 text .plan = plan ∙ ap (λ s. s .plan) read in
+      let list-is : a .1 .0 ≡ readingIn version02 text .releases = list ∙ ap (λ s. s .releases) read in
+      let saves : savedAnswer version02 (readingIn version02 text .plan) (readingIn version02 text .releases) page at ≡ Text len =
+      ap (λ p. savedAnswer version02 p (readingIn version02 text .releases) page at) (sym plan-is)
+      ∙ ap (λ rs. savedAnswer version02 (a .0) rs page at) (sym list-is) ∙ sym (wrote .0) in
+      wrote .1 ∙ ap (λ p. savedPage version02 p (a .1 .0) page at) plan-is
+      ∙ ap (λ rs. savedPage version02 (readingIn version02 text .plan) rs page at) list-is
+      ∙ saving-what-was-read 2 text page at len (sym (ap (λ s. s .checked) read) ∙ lawful) saves

@@ -55,11 +55,14 @@ use Rattle.bounds.proofs.string_lawful.Reads as string-lawful
 use Rattle.bounds.proofs.multiple.Reads as multiple
 use Rattle.bounds.proofs.first_unlawful.Reads as first-unlawful
 use Rattle.bounds.proofs.head_check.Reads as head-check
+use Rattle.bounds.proofs.cost_check.Reads as cost-check
 use Rattle.bounds.proofs.multiple_check.Reads as multiple-check
 use Rattle.bounds.proofs.plan_check.Reads as plan-check
 use Rattle.bounds.proofs.set_check.Reads as set-check
 use Rattle.bounds.proofs.run_check.Reads as run-check
 use Rattle.reading.proofs.read.Reads as read
+use Rattle.reading.proofs.read_old.Reads as read-old
+use Rattle.reading.proofs.read_new.Reads as read-new
 use Rattle.writing.specs.declared.Saved.{Saved}
 use Rattle.writing.proofs.write.Reads as write
 use Rattle.verdict.proofs.verdict.Reads as verdict
@@ -168,6 +171,9 @@ one-first-unlawful κs a e f r s h k = h ∙ sym k
 pub one-head-check : (κs : Lfts 0) (a : _) (e f : _) (r s : Checked) → head-check.Learnt κs a r e → head-check.Learnt κs a s f → r ≡ s
 one-head-check κs a e f r s h k = h ∙ sym k
 
+pub one-cost-check : (κs : Lfts 0) (a : _) (e f : _) (r s : Checked) → cost-check.Learnt κs a r e → cost-check.Learnt κs a s f → r ≡ s
+one-cost-check κs a e f r s h k = h ∙ sym k
+
 pub one-multiple-check : (κs : Lfts 0) (a : _) (e f : _) (r s : Checked) → multiple-check.Learnt κs a r e
     → multiple-check.Learnt κs a s f → r ≡ s
 one-multiple-check κs a e f r s h k = h ∙ sym k
@@ -185,6 +191,14 @@ one-run-check κs a e f r s h k = h ∙ sym k
 pub one-read : (κs : Lfts 1) (a : _) (e f : _) (r s : Reading) → read.Learnt κs a r e → read.Learnt κs a s f
     → (r ≡ s) × (e .0 .now ≡ f .0 .now)
 one-read κs a e f r s h k = (h .0 ∙ sym (k .0), h .1 ∙ sym (k .1))
+
+pub one-read-old : (κs : Lfts 1) (a : _) (e f : _) (r s : Reading) → read-old.Learnt κs a r e → read-old.Learnt κs a s f
+    → (r ≡ s) × (e .0 .now ≡ f .0 .now)
+one-read-old κs a e f r s h k = (h .0 ∙ sym (k .0), h .1 ∙ sym (k .1))
+
+pub one-read-new : (κs : Lfts 1) (a : _) (e f : _) (r s : Reading) → read-new.Learnt κs a r e → read-new.Learnt κs a s f
+    → (r ≡ s) × (e .0 .now ≡ f .0 .now)
+one-read-new κs a e f r s h k = (h .0 ∙ sym (k .0), h .1 ∙ sym (k .1))
 
 -- writing: the page is lent
 pub one-write : (κs : Lfts 1) (a : _) (e f : _) (r s : Saved) → write.Learnt κs a r e → write.Learnt κs a s f

@@ -11,45 +11,42 @@ use lib.ListN.{length, take, drop, length-map}
 use lib.Seq.{take-at}
 use Rattle.rules.specs.declared.Plan.{Plan}
 use Rattle.rules.specs.declared.Release.{Release}
-use Rattle.faults.specs.declared.Fault.the-variants.{TextTooLong, FrameWrong, OutOfBounds, ReleaseTooMany, ReleaseUnlawful}
+use Rattle.faults.specs.declared.Fault.the-variants.{FrameWrong, OutOfBounds, ReleaseTooMany, ReleaseUnlawful}
 use Rattle.faults.specs.declared.Checked.{Checked}
-use Rattle.faults.specs.declared.Checked.the-variants.{Lawful, Refused}
+use Rattle.faults.specs.declared.Checked.the-variants.{Lawful}
 use Rattle.faults.specs.Checks.{then, refuseIf}
 use Rattle.faults.proofs.Checks.{refused-not-lawful, then-first, then-second, then-lawful, refuseIf-not, refuseIf-anywhere}
-use Rattle.rules.specs.Plan.{stringsOf, stringLawful}
+use Rattle.rules.specs.Plan.{stringLawful}
 use Rattle.rules.specs.Release.{releaseLawful, unlawfulFrom, firstUnlawful}
-use Rattle.rules.specs.Refusal.{headCheck, stringCheck, stringsCheck, multipleCheck, manyCheck, planCheck, runCheck}
-use Rattle.rules.specs.Layout.{Frames, version01}
-use Rattle.rules.specs.Text.{Line, linesOf, nIn, aIn, runIn, stringOf, releaseOf, planIn, releasesIn, versionCheck, headerCheck, layoutCheck}
+use Rattle.rules.specs.Refusal.{headCheck, costCheck, stringCheck, stringsCheck, multipleCheck, manyCheck, planCheck, runCheck}
+use Rattle.rules.specs.Layout.{Frames}
+use Rattle.rules.specs.Text.{Line, linesOf, nIn, runIn, aIn, stringOf, releaseOf, planIn, releasesIn, versionCheck, headerCheck, layoutCheck}
 use Rattle.rules.specs.Text.{stringLineCheck, stringLinesCheck, releaseLineCheck, releaseLinesCheck, bodyCheck, linesCheck, textCheck}
-use Rattle.rules.specs.Text.{lawfulReading, readingOf}
+use Rattle.rules.specs.Text.{lawfulReading, readingIn, framesOf, readingOf}
 use Rattle.laws.proofs.Lawful.{headCheck-lawful, headCheck-good, multipleCheck-small, multipleCheck-good}
+use Rattle.laws.proofs.Versions.{strings-lawful, strings-are, reading-checked, lines-checked}
 use Rattle.laws.proofs.Releases.{releasesCheck-good}
 
 module _ (v : Frames) where
   -- ---- The string lines
 
-  strings-many : (k m : ℕ) (lines : List Line) → stringLinesCheck v k m lines ≡ Lawful → length (take m lines) ≡ m
-  unfolding stringLinesCheck
-  strings-many k zero lines h = refl
-  strings-many k (suc m) [] h = absurd (refused-not-lawful FrameWrong k h)
-  strings-many k (suc m) (line ∷ lines) h = ap suc (strings-many (suc k) m lines (then-second (stringLineCheck v k line) _ h))
+  module _ (header : Line) where
+    string-good : (k j : ℕ) (line : Line) → stringLineCheck v header k line ≡ Lawful → stringCheck j (stringOf v header line) ≡ Lawful
+    unfolding stringLineCheck
+    string-good k j line h =
+        refuseIf-anywhere (not (stringLawful (stringOf v header line))) OutOfBounds k j
+        (then-second (layoutCheck k (v .string) line) (stringCheck k (stringOf v header line)) h)
 
-  string-good : (k j : ℕ) (line : Line) → stringLineCheck v k line ≡ Lawful → stringCheck j (stringOf v line) ≡ Lawful
-  unfolding stringLineCheck
-  string-good k j line h =
-      refuseIf-anywhere (not (stringLawful (stringOf v line))) OutOfBounds k j
-      (then-second (layoutCheck k (v .string) line) (stringCheck k (stringOf v line)) h)
-
-  strings-good : (k j m : ℕ) (lines : List Line) → stringLinesCheck v k m lines ≡ Lawful
-      → stringsCheck j (map (stringOf v) (take m lines)) ≡ Lawful
-  unfolding stringLinesCheck stringsCheck
-  strings-good k j zero lines h = refl
-  strings-good k j (suc m) [] h = refl
-  strings-good k j (suc m) (line ∷ lines) h =
-      let later = stringLinesCheck v (suc k) m lines in
-      then-lawful (stringCheck j (stringOf v line)) _ (string-good k j line (then-first (stringLineCheck v k line) later h))
-      ∙ strings-good (suc k) (suc j) m lines (then-second (stringLineCheck v k line) later h)
+    strings-good : (k j m : ℕ) (lines : List Line) → stringLinesCheck v header k m lines ≡ Lawful
+        → stringsCheck j (map (stringOf v header) (take m lines)) ≡ Lawful
+    unfolding stringLinesCheck stringsCheck
+    strings-good k j zero lines h = refl
+    strings-good k j (suc m) [] h = refl
+    strings-good k j (suc m) (line ∷ lines) h =
+        let later = stringLinesCheck v header (suc k) m lines in
+        let first = stringLineCheck v header k line in
+        then-lawful (stringCheck j (stringOf v header line)) _ (string-good k j line (then-first first later h))
+        ∙ strings-good (suc k) (suc j) m lines (then-second first later h)
 
   -- ---- The release lines
 
@@ -83,7 +80,7 @@ module _ (v : Frames) where
     plan = planIn v (header ∷ lines)
 
     abbrev strings : Checked
-    strings = stringLinesCheck v 2 (plan .n) lines
+    strings = stringLinesCheck v header 2 (plan .n) lines
 
     abbrev multiple : Checked
     multiple = multipleCheck (plan .n + 1) plan
@@ -93,34 +90,29 @@ module _ (v : Frames) where
 
     body : then strings (then multiple releases) ≡ Lawful
     unfolding linesCheck bodyCheck
-    body = then-second (headerCheck v header) (bodyCheck v plan lines) h
+    body = then-second (headerCheck v header) (bodyCheck v header plan lines) h
 
     rest : then multiple releases ≡ Lawful
     rest = then-second strings (then multiple releases) body
 
-    head : headCheck 0 (plan .n) (plan .a .0) (plan .run .0) ≡ Lawful
+    head : headCheck 0 (plan .n) (plan .run .0) ≡ Lawful
     unfolding linesCheck headerCheck planIn
     head =
-        let numbers = headCheck 1 (nIn v header) (aIn v header) (runIn v header) in
+        let numbers = headCheck 1 (nIn v header) (runIn v header) in
+        let cost = costCheck 1 (aIn v header) in
         let frame = layoutCheck 1 (v .header) header in
         let version = versionCheck v header in
-        let lawful = then-first (then frame (then version numbers)) (bodyCheck v plan lines) h in
-        headCheck-good 0 _ _ _
-        (headCheck-lawful 1 _ _ _ (then-second version numbers (then-second frame (then version numbers) lawful)))
-
-    strings-are : stringsOf plan ≡ map (stringOf v) (take (plan .n) lines)
-    unfolding planIn
-    strings-are =
-        let n = nIn v header in
-        take-at (map (stringOf v) (take n lines)) _ n
-        (length-map (take n lines) (stringOf v) ∙ strings-many 2 n lines (then-first strings (then multiple releases) body))
+        let rest = then version (then numbers cost) in
+        let lawful = then-first (then frame rest) (bodyCheck v header plan lines) h in
+        headCheck-good 0 _ _
+        (headCheck-lawful 1 _ _ (then-first numbers cost (then-second version (then numbers cost) (then-second frame rest lawful))))
 
     plan-lawful : planCheck plan ≡ Lawful
-    unfolding planCheck
+    unfolding planCheck planIn
     plan-lawful =
         then-lawful _ _ head
         ∙ then-lawful _ _
-        (ap (stringsCheck 1) strings-are ∙ strings-good 2 1 (plan .n) lines (then-first strings (then multiple releases) body))
+        (ap (stringsCheck 1) (strings-are v header lines h) ∙ strings-good header 2 1 (plan .n) lines (strings-lawful v header lines h))
         ∙ multipleCheck-good 0 plan (multipleCheck-small (plan .n + 1) plan (then-first multiple releases rest))
 
     pub lines-lawful : runCheck plan (releasesIn v (header ∷ lines)) ≡ Lawful
@@ -138,15 +130,12 @@ module _ (v : Frames) where
   lines-read [] h = absurd (refused-not-lawful FrameWrong 1 h)
   lines-read (header ∷ lines) h = lines-lawful header lines h
 
-  reading-of : (c : Checked) (lines : List Line) → lawfulReading v c lines .checked ≡ Lawful → c ≡ Lawful
-  unfolding lawfulReading
-  reading-of Lawful lines h = refl
-  reading-of (Refused f at) lines h = h
+  pub text-read : (text : List ℕ) → readingIn v text .checked ≡ Lawful
+      → runCheck (readingIn v text .plan) (readingIn v text .releases) ≡ Lawful
+  unfolding readingIn lawfulReading
+  text-read text h = rw (reading-checked v (textCheck v text) (linesOf text) h) (lines-read (linesOf text) (lines-checked v text h))
 
 -- a text that is read: its plan and its releases are lawful by numbers too
 pub read-lawful : (text : List ℕ) → readingOf text .checked ≡ Lawful → runCheck (readingOf text .plan) (readingOf text .releases) ≡ Lawful
-unfolding readingOf textCheck lawfulReading
-read-lawful text h =
-    let long = refuseIf (ltb 65536 (length text)) TextTooLong 0 in
-    let lawful = reading-of version01 (textCheck version01 text) (linesOf text) h in
-    rw lawful (lines-read version01 (linesOf text) (then-second long (linesCheck version01 (linesOf text)) lawful))
+unfolding readingOf
+read-lawful text h = text-read (framesOf (linesOf text)) text h

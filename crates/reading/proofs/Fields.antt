@@ -1,8 +1,6 @@
 -- The fields of a frame, by positions of the text.
---     offsetIn l f, sizeIn l f   the bytes that stand ahead of the field f in a frame of the layout l, and its own
 use Prim.Native.Nat.{ℕ, zero, suc, _+_, _*_, _^_, _≤_, _<_}
 use mathlib.Core.Path.{_≡_, refl, ap, _∙_}
-use mathlib.Core.Bool.{cond}
 use mathlib.Core.List.{List, [], _∷_, _++_}
 use native.Mathlib.Omega.{arith}
 use native.Mathlib.Numerals.{add-one}
@@ -13,19 +11,12 @@ use lib.Seq.{drop-drop, getD-drop, take-suc}
 use Rattle.lists.proofs.Lists.{by-bool}
 use Rattle.rules.specs.Layout.{Field, Sized, Layout, fieldNumber, sizeOf, frameSize, numberFrom, numberOf, fieldAmong, fieldIn}
 use Rattle.rules.specs.Text.{pairsOf, frameOf, fieldOf}
+use Rattle.layouts.specs.Versions.{offsetAmong, sizeAmong, offsetIn, sizeIn}
 use Rattle.reading.specs.Positions.{digitsAhead, lineAt, Frame, byteIn, numberIn}
 use Rattle.reading.proofs.Hex.{ahead-inside, ahead-digit}
 use Rattle.reading.proofs.Framing.{twice-more, frame-number}
 
 -- ---- Where a field stands
-
-abbrev offsetAmong : List Sized → Field → ℕ
-offsetAmong [] f = 0
-offsetAmong (s ∷ rest) f = cond (eqb (fieldNumber (s .field)) (fieldNumber f)) 0 (s .size + offsetAmong rest f)
-
-abbrev sizeAmong : List Sized → Field → ℕ
-sizeAmong [] f = 0
-sizeAmong (s ∷ rest) f = cond (eqb (fieldNumber (s .field)) (fieldNumber f)) (s .size) (sizeAmong rest f)
 
 among-is : (fields : List Sized) (f : Field) (k : ℕ) (bytes : List ℕ)
     → fieldAmong fields f (drop k bytes) ≡ numberOf (take (sizeAmong fields f) (drop (k + offsetAmong fields f) bytes))
@@ -46,18 +37,15 @@ among-fits (s ∷ rest) f =
     let later = among-fits rest f in
     by-bool (eqb (fieldNumber (s .field)) (fieldNumber f)) (λ t. rw t (omega arith)) (λ e. rw e (omega arith))
 
-abbrev pub offsetIn : Layout → Field → ℕ
-offsetIn l f = 1 + offsetAmong (l .fields) f
-
-abbrev pub sizeIn : Layout → Field → ℕ
-sizeIn l f = sizeAmong (l .fields) f
+pub field-fits : (l : Layout) (f : Field) → offsetIn l f + sizeIn l f ≤ frameSize l
+field-fits l f = omega (arith, among-fits (l .fields) f)
 
 pub field-is : (text : List ℕ) (at : ℕ) (l : Layout) (f : Field) → Frame text at (frameSize l)
     → fieldOf l f (lineAt text at) ≡ numberIn text at (offsetIn l f) (sizeIn l f)
 unfolding fieldOf fieldIn
 field-is text at l f frame =
     among-is (l .fields) f 1 (frameOf (lineAt text at))
-    ∙ frame-number text at (frameSize l) frame (offsetIn l f) (sizeIn l f) (omega (arith, among-fits (l .fields) f))
+    ∙ frame-number text at (frameSize l) frame (offsetIn l f) (sizeIn l f) (field-fits l f)
 
 -- ---- Its number, one byte after the other
 

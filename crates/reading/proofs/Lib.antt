@@ -7,3 +7,4 @@ pub mod Standing
 pub mod StringLines
 pub mod ReleaseLines
 pub mod Whole
+pub mod Choosing

@@ -1,68 +1,52 @@
--- What lines say, by positions of the text: the header at 0, a string or a release anywhere.
-use Prim.Native.Nat.{ℕ}
-use mathlib.Core.Path.{_≡_}
+-- What a line says, by positions of the text: the number that stands where the code's field is, is what the definition's field says.
+use Prim.Native.Nat.{ℕ, _+_, _*_, _≤_}
+use mathlib.Core.Path.{_≡_, sym}
 use mathlib.Core.List.{List}
+use native.Mathlib.Omega.{arith}
 use borrow.Author.Tests.{eq-eqb, ne-eqb}
+use lib.ListN.{drop}
+use Rattle.days.specs.declared.Length.{Length}
+use Rattle.days.specs.Days.{days}
 use Rattle.faults.specs.declared.Fault.the-variants.{FrameWrong}
 use Rattle.faults.specs.declared.Checked.the-variants.{Refused}
-use Rattle.days.specs.Days.{day, days}
-use Rattle.rules.specs.Refusal.{headCheck}
-use Rattle.rules.specs.Layout.{Field, Frames, frameSize, Version, Count, Moving, Run, X, T, C, D, Place, Day, Need}
-use Rattle.rules.specs.Text.{nIn, aIn, runIn, stringOf, releaseOf, versionCheck}
-use Rattle.reading.specs.Positions.{lineAt, Frame, numberIn, headerNumbers}
-use Rattle.reading.proofs.Fields.{offsetIn, sizeIn, field-is}
+use Rattle.faults.specs.Checks.{then}
+use Rattle.rules.specs.Refusal.{headCheck, costCheck}
+use Rattle.rules.specs.Layout as rule
+use Rattle.rules.specs.Layout.{Frames, frameSize, Version, X, T, C, D}
+use Rattle.rules.specs.Text.{Line, fieldOf, nIn, aIn, runIn, costOf, stringOf, versionCheck}
+use Rattle.layouts.specs.declared.Field.{Field}
+use Rattle.layouts.specs.Versions.{fieldFor}
+use Rattle.reading.specs.Positions.{digitsAhead, lineAt, Frame, numberIn, headerNumbers}
+use Rattle.reading.proofs.Fields.{field-fits, field-is}
 
-module _ (v : Frames) (text : List ℕ) where
-  -- ---- The header
+-- ---- A field of a frame
 
-  abbrev headerField : Field → ℕ
-  headerField f = numberIn text 0 (offsetIn (v .header) f) (sizeIn (v .header) f)
+module _ (text : List ℕ) (at : ℕ) (l : rule.Layout) (f : rule.Field) (field : Field) (e : field ≡ fieldFor l f)
+    (frame : Frame text at (frameSize l))
+  where
+    pub field-room : field .size ≤ 4 → ((field .at + field .size) * 2 ≤ digitsAhead (drop at text)) × (field .size ≤ 4)
+    field-room small = (rw (e, frame .digits) (omega (arith, field-fits l f)), small)
 
-  module _ (h : Frame text 0 (frameSize (v .header))) where
-    pub n-is : nIn v (lineAt text 0) ≡ headerField Count
-    unfolding nIn
-    n-is = field-is text 0 (v .header) Count h
+    pub field-said : numberIn text at (field .at) (field .size) ≡ fieldOf l f (lineAt text at)
+    field-said = rw e (sym (field-is text at l f frame))
 
-    pub a-is : aIn v (lineAt text 0) ≡ headerField Moving
-    unfolding aIn
-    a-is = field-is text 0 (v .header) Moving h
+-- ---- The header
 
-    pub run-is : runIn v (lineAt text 0) ≡ headerField Run
-    unfolding runIn
-    run-is = field-is text 0 (v .header) Run h
+module _ (v : Frames) (line : Line) where
+  pub other-version : (fieldOf (v .header) Version line ≡ v .version → ⊥) → headerNumbers v line ≡ Refused FrameWrong 1
+  unfolding versionCheck
+  other-version other = rw (ne-eqb _ (v .version) other)
 
-    pub other-version : (headerField Version ≡ v .version → ⊥) → headerNumbers v (lineAt text 0) ≡ Refused FrameWrong 1
-    unfolding versionCheck
-    other-version other = rw (field-is text 0 (v .header) Version h, ne-eqb _ (v .version) other)
+  pub this-version : fieldOf (v .header) Version line ≡ v .version
+      → headerNumbers v line ≡ then (headCheck 1 (nIn v line) (runIn v line)) (costCheck 1 (aIn v line))
+  unfolding versionCheck
+  this-version same = rw (eq-eqb _ (v .version) same)
 
-    pub this-version : headerField Version ≡ v .version
-        → headerNumbers v (lineAt text 0) ≡ headCheck 1 (headerField Count) (headerField Moving) (headerField Run)
-    unfolding versionCheck
-    this-version same = rw (field-is text 0 (v .header) Version h, eq-eqb _ (v .version) same, n-is, a-is, run-is)
+-- ---- A string
 
-  -- ---- A string, a release
-
-  abbrev stringField : ℕ → Field → ℕ
-  stringField at f = numberIn text at (offsetIn (v .string) f) (sizeIn (v .string) f)
-
-  pub string-is : (at : ℕ) → Frame text at (frameSize (v .string))
-      → stringOf v (lineAt text at)
-      ≡ record { t = days (stringField at T); c = days (stringField at C); d = days (stringField at D); x = stringField at X }
-  unfolding stringOf
-  string-is at h =
-      rw (
-        field-is text at (v .string) T h,
-        field-is text at (v .string) C h,
-        field-is text at (v .string) D h,
-        field-is text at (v .string) X h,
-      )
-
-  abbrev releaseField : ℕ → Field → ℕ
-  releaseField at f = numberIn text at (offsetIn (v .release) f) (sizeIn (v .release) f)
-
-  pub release-is : (at : ℕ) → Frame text at (frameSize (v .release))
-      → releaseOf v (lineAt text at)
-      ≡ record { day = day (releaseField at Day); place = releaseField at Place; need = days (releaseField at Need) }
-  unfolding releaseOf
-  release-is at h =
-      rw (field-is text at (v .release) Day h, field-is text at (v .release) Place h, field-is text at (v .release) Need h)
+pub string-said : (v : Frames) (header line : Line) (t c d x : ℕ) (a : Length) → t ≡ fieldOf (v .string) T line
+    → c ≡ fieldOf (v .string) C line → d ≡ fieldOf (v .string) D line → x ≡ fieldOf (v .string) X line
+    → a ≡ days (costOf v header line)
+    → record { t = days t; c = days c; d = days d; x = x; a = a } ≡ stringOf v header line
+unfolding stringOf
+string-said v header line t c d x a et ec ed ex ea = rw (et, ec, ed, ex, ea)

@@ -16,39 +16,40 @@ use Rattle.reading.proofs.Lines.{line-here, lines-none}
 use Rattle.reading.proofs.Framing.{frameCheck-frame, frame-next}
 use Rattle.reading.proofs.Standing.{stand-none, stand-more}
 
-module _ (v : Frames) (text : List ℕ) where
-  pub string-frame : (at k : ℕ) → stringLineCheck v k (lineAt text at) ≡ Lawful → Frame text at (frameSize (v .string))
+module _ (v : Frames) (header : Line) (text : List ℕ) where
+  pub string-frame : (at k : ℕ) → stringLineCheck v header k (lineAt text at) ≡ Lawful → Frame text at (frameSize (v .string))
   unfolding stringLineCheck
   string-frame at k h = frameCheck-frame text at k (v .string .kind) (frameSize (v .string)) (then-first _ _ h)
 
   -- m lines and one are left from `at` on
   module _ (at k m : ℕ) where
-    pub strings-missing : length text ≤ at → stringLinesCheck v k (suc m) (linesFrom text at) ≡ Refused FrameWrong k
+    pub strings-missing : length text ≤ at → stringLinesCheck v header k (suc m) (linesFrom text at) ≡ Refused FrameWrong k
     unfolding stringLinesCheck
     strings-missing h = rw (lines-none text at h)
 
-    pub strings-bad : at < length text → (f : Fault) (a : ℕ) → stringLineCheck v k (lineAt text at) ≡ Refused f a
-        → stringLinesCheck v k (suc m) (linesFrom text at) ≡ Refused f a
+    pub strings-bad : at < length text → (f : Fault) (a : ℕ) → stringLineCheck v header k (lineAt text at) ≡ Refused f a
+        → stringLinesCheck v header k (suc m) (linesFrom text at) ≡ Refused f a
     unfolding stringLinesCheck
     strings-bad h f a e = rw (line-here text at h .1, e)
 
-    pub strings-good : stringLineCheck v k (lineAt text at) ≡ Lawful
-        → stringLinesCheck v k (suc m) (linesFrom text at) ≡ stringLinesCheck v (suc k) m (linesFrom text (at + lineSize (v .string)))
+    pub strings-good : stringLineCheck v header k (lineAt text at) ≡ Lawful
+        → stringLinesCheck v header k (suc m) (linesFrom text at)
+        ≡ stringLinesCheck v header (suc k) m (linesFrom text (at + lineSize (v .string)))
     unfolding stringLinesCheck
     strings-good e = rw (frame-next text at (frameSize (v .string)) (string-frame at k e), e)
 
-    strings-first : at < length text → stringLinesCheck v k (suc m) (linesFrom text at) ≡ Lawful
-        → stringLineCheck v k (lineAt text at) ≡ Lawful
+    strings-first : at < length text → stringLinesCheck v header k (suc m) (linesFrom text at) ≡ Lawful
+        → stringLineCheck v header k (lineAt text at) ≡ Lawful
     unfolding stringLinesCheck
     strings-first more h =
         let here = line-here text at more in
-        then-first (stringLineCheck v k (lineAt text at)) (stringLinesCheck v (suc k) m (here .0)) (rw (here .1) at h)
+        then-first (stringLineCheck v header k (lineAt text at)) (stringLinesCheck v header (suc k) m (here .0)) (rw (here .1) at h)
 
-  pub strings-end : (k : ℕ) (lines : List Line) → stringLinesCheck v k 0 lines ≡ Lawful
+  pub strings-end : (k : ℕ) (lines : List Line) → stringLinesCheck v header k 0 lines ≡ Lawful
   unfolding stringLinesCheck
   strings-end k lines = refl
 
-  pub strings-stand : (at k n : ℕ) → at ≤ length text → stringLinesCheck v k n (linesFrom text at) ≡ Lawful
+  pub strings-stand : (at k n : ℕ) → at ≤ length text → stringLinesCheck v header k n (linesFrom text at) ≡ Lawful
       → Stand text at (frameSize (v .string)) n
   strings-stand at k zero inside h = stand-none text (frameSize (v .string)) at inside
   strings-stand at k (suc n) inside h =
@@ -57,9 +58,9 @@ module _ (v : Frames) (text : List ℕ) where
         | no ended ↦ absurd (refused-not-lawful FrameWrong k (sym (strings-missing at k n (omega arith)) ∙ h))
       ]
     where
-      step : stringLineCheck v k (lineAt text at) ≡ Lawful
+      step : stringLineCheck v header k (lineAt text at) ≡ Lawful
           → (at + lineSize (v .string) ≤ length text
-          → stringLinesCheck v (suc k) n (linesFrom text (at + lineSize (v .string))) ≡ Lawful
+          → stringLinesCheck v header (suc k) n (linesFrom text (at + lineSize (v .string))) ≡ Lawful
           → Stand text (at + lineSize (v .string)) (frameSize (v .string)) n)
           → Stand text at (frameSize (v .string)) (suc n)
       step first later =

@@ -10,15 +10,17 @@ use Rattle.days.specs.Days.{days}
 use Rattle.faults.specs.declared.Fault.{Fault}
 use Rattle.faults.specs.declared.Fault.the-variants.{TextTooLong, FrameWrong, ReleaseUnlawful}
 use Rattle.faults.specs.declared.Checked.the-variants.{Lawful, Refused}
+use Rattle.faults.specs.Checks.{then}
 use Rattle.faults.proofs.Checks.{then-first, then-second, then-lawful}
 use Rattle.lists.specs.Count.{filled}
+use Rattle.rules.specs.declared.BatteryString.{BatteryString}
 use Rattle.rules.specs.declared.Plan.{Plan}
 use Rattle.rules.specs.Plan.{noString}
-use Rattle.rules.specs.Refusal.{headCheck, multipleCheck}
+use Rattle.rules.specs.Refusal.{headCheck, costCheck, multipleCheck}
 use Rattle.rules.specs.Release.{releasesOf, firstUnlawful}
-use Rattle.rules.specs.Layout.{Frames, frameSize, version01, lineSize}
+use Rattle.rules.specs.Layout.{Frames, frameSize, lineSize}
 use Rattle.rules.specs.Text.{Line, linesOf, nIn, aIn, runIn, stringOf, releaseOf, planIn, releasesIn, versionCheck, headerCheck, layoutCheck}
-use Rattle.rules.specs.Text.{stringLinesCheck, bodyCheck, linesCheck, textCheck, lawfulReading, readingOf}
+use Rattle.rules.specs.Text.{stringLinesCheck, bodyCheck, linesCheck, textCheck, lawfulReading, readingIn}
 use Rattle.laws.proofs.Lawful.{headCheck-lawful}
 use Rattle.laws.proofs.Releases.{firstUnlawful-le}
 use Rattle.reading.specs.declared.Framed.{Framed}
@@ -43,27 +45,23 @@ module _ (v : Frames) (text : List ℕ) where
   header-read h =
       let line = lineAt text 0 in
       let frame = layoutCheck 1 (v .header) line in
-      let head = headCheck 1 (nIn v line) (aIn v line) (runIn v line) in
+      let head = headCheck 1 (nIn v line) (runIn v line) in
+      let cost = costCheck 1 (aIn v line) in
       record {
         frame = frameCheck-frame text 0 1 (v .header .kind) (frameSize (v .header)) (then-first frame (headerNumbers v line) h);
-        head = then-second (versionCheck v line) head (then-second frame (headerNumbers v line) h);
+        head = then-first head cost (then-second (versionCheck v line) (then head cost) (then-second frame (headerNumbers v line) h));
       }
 
   pub plan-said : (start n : ℕ) → Frame text 0 (frameSize (v .header)) → start ≡ stringsAt v → n ≡ nIn v (lineAt text 0)
-      → Stand text start (frameSize (v .string)) n
-      → planIn v (linesOf text)
-      ≡ record {
-        n = n;
-        a = days (aIn v (lineAt text 0));
-        run = days (runIn v (lineAt text 0));
-        strings = filled 10 noString (map (stringOf v) (linesAt text start (lineSize (v .string)) n));
-      }
+      → Stand text start (frameSize (v .string)) n → (run : ℕ) (strings : List BatteryString) → run ≡ runIn v (lineAt text 0)
+      → strings ≡ filled 10 noString (map (stringOf v (lineAt text 0)) (linesAt text start (lineSize (v .string)) n))
+      → record { n = n; run = days run; strings = strings } ≡ planIn v (linesOf text)
   unfolding planIn
-  plan-said start n f here count s = rw (header-next f, ← here, ← count, s .first)
+  plan-said start n f here count s run strings runs listed = rw (runs, listed, header-next f, ← here, ← count, s .first)
 
   module _ (h : HeaderRead v text) where
     pub header-few : nIn v (lineAt text 0) ≤ 10
-    header-few = headCheck-lawful 1 _ _ _ (h .head) .nMax
+    header-few = headCheck-lawful 1 _ _ (h .head) .nMax
 
     pub header-inside : stringsAt v ≤ length text
     header-inside = omega (arith, h .frame .inside)
@@ -72,7 +70,8 @@ module _ (v : Frames) (text : List ℕ) where
     unfolding planIn
     plan-n = rw (header-next (h .frame))
 
-    pub body-refused : (f : Fault) (a : ℕ) → stringLinesCheck v 2 (nIn v (lineAt text 0)) (linesFrom text (stringsAt v)) ≡ Refused f a
+    pub body-refused : (f : Fault) (a : ℕ)
+        → stringLinesCheck v (lineAt text 0) 2 (nIn v (lineAt text 0)) (linesFrom text (stringsAt v)) ≡ Refused f a
         → bodyReading v text ≡ refusedReading f a
     unfolding bodyReading bodyCheck lawfulReading
     body-refused f a e = rw (plan-n, e)
@@ -80,7 +79,7 @@ module _ (v : Frames) (text : List ℕ) where
   -- ---- The strings
 
   pub planned : (p : Plan) → HeaderRead v text → p ≡ planIn v (linesOf text) → (n : ℕ) → n ≡ nIn v (lineAt text 0)
-      → stringLinesCheck v 2 n (linesFrom text (stringsAt v)) ≡ Lawful → StringsRead v text p
+      → stringLinesCheck v (lineAt text 0) 2 n (linesFrom text (stringsAt v)) ≡ Lawful → StringsRead v text p
   planned p h e n count lawful =
       let same : p .n ≡ n = ap (λ (q : Plan). q .n) e ∙ plan-n h ∙ sym count in
       record { header = h; plan = e; strings = rw same lawful }
@@ -93,7 +92,7 @@ module _ (v : Frames) (text : List ℕ) where
     strings-few = omega (arith, strings-n, header-few (s .header))
 
     standing : Stand text (stringsAt v) (frameSize (v .string)) (p .n)
-    standing = strings-stand v text (stringsAt v) 2 (p .n) (header-inside (s .header)) (s .strings)
+    standing = strings-stand v (lineAt text 0) text (stringsAt v) 2 (p .n) (header-inside (s .header)) (s .strings)
 
     pub body-rest : bodyReading v text ≡ restReading v text p
     unfolding bodyReading restReading listCheck bodyCheck
@@ -175,23 +174,23 @@ module _ (v : Frames) (text : List ℕ) where
 
 -- ---- The whole
 
-module _ (text : List ℕ) where
-  pub read-long : 65536 < length text → readingOf text ≡ refusedReading TextTooLong 0
-  unfolding readingOf textCheck lawfulReading
+module _ (v : Frames) (text : List ℕ) where
+  pub read-long : 65536 < length text → readingIn v text ≡ refusedReading TextTooLong 0
+  unfolding readingIn textCheck lawfulReading
   read-long h = rw (lt-ltb 65536 (length text) h)
 
   module _ (fits : length text ≤ 65536) where
-    pub read-empty : length text ≡ 0 → readingOf text ≡ refusedReading FrameWrong 1
-    unfolding readingOf textCheck lawfulReading linesCheck
+    pub read-empty : length text ≡ 0 → readingIn v text ≡ refusedReading FrameWrong 1
+    unfolding readingIn textCheck lawfulReading linesCheck
     read-empty none = rw (le-ltb 65536 (length text) fits, lines-none text 0 (omega arith))
 
-    pub read-refused : 0 < length text → (f : Fault) (a : ℕ) → headerCheck version01 (lineAt text 0) ≡ Refused f a
-        → readingOf text ≡ refusedReading f a
-    unfolding readingOf textCheck lawfulReading linesCheck
+    pub read-refused : 0 < length text → (f : Fault) (a : ℕ) → headerCheck v (lineAt text 0) ≡ Refused f a
+        → readingIn v text ≡ refusedReading f a
+    unfolding readingIn textCheck lawfulReading linesCheck
     read-refused some f a e = rw (le-ltb 65536 (length text) fits, line-here text 0 some .1, e)
 
-    pub read-body : headerCheck version01 (lineAt text 0) ≡ Lawful → readingOf text ≡ bodyReading version01 text
-    unfolding readingOf textCheck linesCheck bodyReading
+    pub read-body : headerCheck v (lineAt text 0) ≡ Lawful → readingIn v text ≡ bodyReading v text
+    unfolding readingIn textCheck linesCheck bodyReading
     read-body e =
-        ap (λ c. lawfulReading version01 c (linesOf text))
-        (rw (le-ltb 65536 (length text) fits, header-next version01 text (header-read version01 text e .frame)) (then-lawful _ _ e))
+        ap (λ c. lawfulReading v c (linesOf text))
+        (rw (le-ltb 65536 (length text) fits, header-next v text (header-read v text e .frame)) (then-lawful _ _ e))

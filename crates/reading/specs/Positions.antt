@@ -27,7 +27,7 @@ use Rattle.rules.specs.declared.Plan.{Plan}
 use Rattle.rules.specs.declared.Releases.{Releases}
 use Rattle.rules.specs.declared.Reading.{Reading}
 use Rattle.rules.specs.Release.{noRelease}
-use Rattle.rules.specs.Refusal.{headCheck, multipleCheck}
+use Rattle.rules.specs.Refusal.{headCheck, costCheck, multipleCheck}
 use Rattle.rules.specs.Layout.{Layout, Frames, frameSize, lineLength, numberOf, lineSize}
 use Rattle.rules.specs.Text.{Line, linesOf, digitOf, pairsOf, nIn, aIn, runIn, releaseOf, noPlan, noReleases, planIn, versionCheck, layoutCheck}
 use Rattle.rules.specs.Text.{stringLinesCheck, releaseLinesCheck, bodyCheck, lawfulReading}
@@ -104,21 +104,22 @@ module _ (v : Frames) where
 
   -- the faults of a header that is a frame
   abbrev pub headerNumbers : Line → Checked
-  headerNumbers line = then (versionCheck v line) (headCheck 1 (nIn v line) (aIn v line) (runIn v line))
+  headerNumbers line = then (versionCheck v line) (then (headCheck 1 (nIn v line) (runIn v line)) (costCheck 1 (aIn v line)))
 
   -- the first line is a lawful header
   pub record HeaderRead (text : List ℕ) : Type 0 where
     pub frame : Frame text 0 (frameSize (v .header))
-    pub head : headCheck 1 (nIn v (lineAt text 0)) (aIn v (lineAt text 0)) (runIn v (lineAt text 0)) ≡ Lawful
+    pub head : headCheck 1 (nIn v (lineAt text 0)) (runIn v (lineAt text 0)) ≡ Lawful
 
   -- the string lines are lawful too, and p is the plan
   pub record StringsRead (text : List ℕ) (p : Plan) : Type 0 where
     pub header : HeaderRead text
     pub plan : p ≡ planIn v (linesOf text)
-    pub strings : stringLinesCheck v 2 (p .n) (linesFrom text stringsAt) ≡ Lawful
+    pub strings : stringLinesCheck v (lineAt text 0) 2 (p .n) (linesFrom text stringsAt) ≡ Lawful
 
   unfoldable pub bodyReading : List ℕ → Reading
-  bodyReading text = lawfulReading v (bodyCheck v (planIn v (linesOf text)) (linesFrom text stringsAt)) (linesOf text)
+  bodyReading text =
+      lawfulReading v (bodyCheck v (lineAt text 0) (planIn v (linesOf text)) (linesFrom text stringsAt)) (linesOf text)
 
   unfoldable pub listCheck : List ℕ → Plan → Checked
   listCheck text p = releaseLinesCheck v p (p .n + 2) 1 [] (linesFrom text (releasesAt (p .n)))

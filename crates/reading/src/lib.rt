@@ -1,6 +1,6 @@
 // Any bytes in, one exact answer out: a plan file read, or refused with its number and line.
-// Everything is checked first and stored afterwards. A frame that is not refused has a fixed length, so where a line starts is known
-// whenever it is looked at.
+// Everything is checked first and stored afterwards. A frame that is not refused has its version's length, so where a line starts is
+// known whenever it is looked at. One reader serves all versions: where they differ, the version says.
 mod digits;
 mod frames;
 mod header;
@@ -9,13 +9,16 @@ mod strings;
 
 use days::Day;
 use days::Length;
+use digits::digits_ahead;
 use digits::field_at;
 use faults::Checked;
 use faults::Fault;
 use header::header_check;
 use layouts::HEADER_COUNT;
-use layouts::HEADER_LINE;
-use layouts::STRING_LINE;
+use layouts::HEADER_VERSION;
+use layouts::NEW;
+use layouts::OLD;
+use layouts::Version;
 use releases::release_frames;
 use releases::releases_in;
 use rules::BatteryString;
@@ -26,8 +29,9 @@ use rules::Releases;
 use strings::plan_in;
 use strings::string_lines_check;
 ghost use mathlib.Core.Path.{_≡_};
-ghost use Rattle.rules.specs.Layout.{version01};
-ghost use Rattle.rules.specs.Text.{readingOf};
+ghost use Rattle.rules.specs.Layout.{version01, version02};
+ghost use Rattle.rules.specs.Text.{readingIn, readingOf};
+ghost use Rattle.layouts.specs.Versions.{framesBy, Known};
 ghost use Rattle.reading.specs.Positions.{HeaderRead, StringsRead, bodyReading, restReading, listReading, refusedReading};
 
 // Release lines that are frames, up to the first that is not or the end: how many, and the fault that ended them.
@@ -46,6 +50,7 @@ fn refusal(fault: Fault, at: usize) -> Reading
         c: zero,
         d: zero,
         x: 0,
+        a: zero,
     };
     let release = Release {
         day: Day(0),
@@ -56,7 +61,6 @@ fn refusal(fault: Fault, at: usize) -> Reading
         checked: Checked::Refused { fault, at },
         plan: Plan {
             n: 0,
-            a: zero,
             run: zero,
             strings: [string; 10],
         },
@@ -68,12 +72,13 @@ fn refusal(fault: Fault, at: usize) -> Reading
 }
 
 // The release lines of the plan p: each line's 2, 3, 7, 8.
-fn read_list(text: &[u8], p: Plan) -> Reading
-    requires { ⌜ StringsRead version01 (now text) p ⌝ }
-    ensures exact { λ r. ⌜ r ≡ listReading version01 (now (text .entry)) p ⌝ }
+fn read_list(text: &[u8], version: Version, p: Plan) -> Reading
+    requires { ⌜ Known version ⌝ }
+    requires { ⌜ StringsRead (framesBy version) (now text) p ⌝ }
+    ensures exact { λ r. ⌜ r ≡ listReading (framesBy version) (now (text .entry)) p ⌝ }
 {
     let n = p.n;
-    let start = HEADER_LINE + n * STRING_LINE;
+    let start = version.header.line + n * version.string.line;
     let framed = release_frames(text, start, n + 2);
     let count = framed.count;
     let rs = releases_in(text, start, count);
@@ -93,34 +98,37 @@ fn read_list(text: &[u8], p: Plan) -> Reading
 }
 
 // What follows the strings of the plan p: 6 at the last of them, then the release lines.
-fn read_rest(text: &[u8], p: Plan) -> Reading
-    requires { ⌜ StringsRead version01 (now text) p ⌝ }
-    ensures exact { λ r. ⌜ r ≡ restReading version01 (now (text .entry)) p ⌝ }
+fn read_rest(text: &[u8], version: Version, p: Plan) -> Reading
+    requires { ⌜ Known version ⌝ }
+    requires { ⌜ StringsRead (framesBy version) (now text) p ⌝ }
+    ensures exact { λ r. ⌜ r ≡ restReading (framesBy version) (now (text .entry)) p ⌝ }
 {
     let multiple = bounds::multiple_check(p.n + 1, p);
     match multiple {
-        Checked::Lawful => read_list(text, p),
+        Checked::Lawful => read_list(text, version, p),
         Checked::Refused { fault, at } => refusal(fault, at),
     }
 }
 
 // The lines after a lawful header.
-fn read_body(text: &[u8]) -> Reading
-    requires { ⌜ HeaderRead version01 (now text) ⌝ }
-    ensures exact { λ r. ⌜ r ≡ bodyReading version01 (now (text .entry)) ⌝ }
+fn read_body(text: &[u8], version: Version) -> Reading
+    requires { ⌜ Known version ⌝ }
+    requires { ⌜ HeaderRead (framesBy version) (now text) ⌝ }
+    ensures exact { λ r. ⌜ r ≡ bodyReading (framesBy version) (now (text .entry)) ⌝ }
 {
     let n = field_at(text, 0, HEADER_COUNT) as usize;
-    let strings = string_lines_check(text, HEADER_LINE, n);
+    let start = version.header.line;
+    let strings = string_lines_check(text, start, n, version);
     match strings {
-        Checked::Lawful => read_rest(text, plan_in(text, HEADER_LINE, n)),
+        Checked::Lawful => read_rest(text, version, plan_in(text, start, n, version)),
         Checked::Refused { fault, at } => refusal(fault, at),
     }
 }
 
-// What a text says: the plan and its releases, or the first fault with its line. The text is lent and keeps its bytes.
-pub fn read(text: &[u8]) -> Reading
-    ensures exact { λ r. ⌜ r ≡ readingOf (now (text .entry)) ⌝ }
-    ensures kept { λ r. ⌜ now (text .exit) ≡ now (text .entry) ⌝ }
+// What a text says that is held to a version.
+fn read_in(text: &[u8], version: Version) -> Reading
+    requires { ⌜ Known version ⌝ }
+    ensures exact { λ r. ⌜ r ≡ readingIn (framesBy version) (now (text .entry)) ⌝ }
 {
     if 65536 < text.len() {
         return refusal(Fault::TextTooLong, 0);
@@ -128,9 +136,41 @@ pub fn read(text: &[u8]) -> Reading
     if text.len() == 0 {
         return refusal(Fault::FrameWrong, 1);
     }
-    let header = header_check(text);
+    let header = header_check(text, version);
     match header {
-        Checked::Lawful => read_body(text),
+        Checked::Lawful => read_body(text, version),
         Checked::Refused { fault, at } => refusal(fault, at),
     }
+}
+
+// What a version 01 text says; another version is 3 at line 1. The text is lent and keeps its bytes.
+pub fn read_old(text: &[u8]) -> Reading
+    ensures exact { λ r. ⌜ r ≡ readingIn version01 (now (text .entry)) ⌝ }
+    ensures kept { λ r. ⌜ now (text .exit) ≡ now (text .entry) ⌝ }
+{
+    read_in(text, OLD)
+}
+
+// What a version 02 text says; another version is 3 at line 1. The text is lent and keeps its bytes.
+pub fn read_new(text: &[u8]) -> Reading
+    ensures exact { λ r. ⌜ r ≡ readingIn version02 (now (text .entry)) ⌝ }
+    ensures kept { λ r. ⌜ now (text .exit) ≡ now (text .entry) ⌝ }
+{
+    read_in(text, NEW)
+}
+
+// What a text says: the plan and its releases, or the first fault with its line. Its header names the version. The text is lent and
+// keeps its bytes.
+pub fn read(text: &[u8]) -> Reading
+    ensures exact { λ r. ⌜ r ≡ readingOf (now (text .entry)) ⌝ }
+    ensures kept { λ r. ⌜ now (text .exit) ≡ now (text .entry) ⌝ }
+{
+    // The version is the second byte, digits 3 and 4.
+    if digits_ahead(text, 0) < 4 {
+        return read_old(text);
+    }
+    if field_at(text, 0, HEADER_VERSION) == NEW.number {
+        return read_new(text);
+    }
+    read_old(text)
 }

@@ -4,44 +4,61 @@ use super::frames::frame_check;
 use days::Length;
 use faults::Checked;
 use faults::Fault;
-use layouts::HEADER_MOVING;
-use layouts::HEADER_RUN;
-use layouts::STRING;
 use layouts::STRING_C;
 use layouts::STRING_D;
-use layouts::STRING_LINE;
 use layouts::STRING_T;
 use layouts::STRING_X;
+use layouts::Version;
 use rules::BatteryString;
 use rules::Plan;
 ghost use mathlib.Core.Path.{_≡_};
 ghost use Prim.Native.Nat.{_≤_};
 ghost use lib.ListN.{length};
-ghost use Rattle.rules.specs.Layout.{version01, frameSize};
-ghost use Rattle.rules.specs.Text.{linesOf, nIn, stringOf, planIn, stringLineCheck, stringLinesCheck};
+ghost use Rattle.days.specs.Days.{days};
+ghost use Rattle.rules.specs.Layout.{frameSize};
+ghost use Rattle.rules.specs.Text.{linesOf, nIn, costOf, stringOf, planIn, stringLineCheck, stringLinesCheck};
+ghost use Rattle.layouts.specs.Versions.{framesBy, Known};
 ghost use Rattle.reading.specs.Positions.{lineAt, linesFrom, Frame, Stand, stringsAt};
 
-// What a string frame says.
-fn string_at(text: &[u8], at: usize) -> BatteryString
-    requires { ⌜ Frame (now text) at (frameSize (version01 .string)) ⌝ }
-    ensures exact { λ r. ⌜ r ≡ stringOf version01 (lineAt (now (text .entry)) at) ⌝ }
+// The moving cost of a string: the header's where it says one for all, else the string frame's own.
+fn cost_at(text: &[u8], at: usize, version: Version) -> Length
+    requires { ⌜ Known version ⌝ }
+    requires { ⌜ Frame (now text) 0 (frameSize (framesBy version .header)) ⌝ }
+    requires { ⌜ Frame (now text) at (frameSize (framesBy version .string)) ⌝ }
+    ensures exact { λ r. ⌜ r ≡ days (costOf (framesBy version) (lineAt (now (text .entry)) 0) (lineAt (now (text .entry)) at)) ⌝ }
+{
+    if 0 < version.common.size {
+        return Length(field_at(text, 0, version.common));
+    }
+    Length(field_at(text, at, version.own))
+}
+
+// What a string frame says, under the header of its text.
+fn string_at(text: &[u8], at: usize, version: Version) -> BatteryString
+    requires { ⌜ Known version ⌝ }
+    requires { ⌜ Frame (now text) 0 (frameSize (framesBy version .header)) ⌝ }
+    requires { ⌜ Frame (now text) at (frameSize (framesBy version .string)) ⌝ }
+    ensures exact { λ r. ⌜ r ≡ stringOf (framesBy version) (lineAt (now (text .entry)) 0) (lineAt (now (text .entry)) at) ⌝ }
 {
     let x = field_at(text, at, STRING_X);
     let t = Length(field_at(text, at, STRING_T));
     let c = Length(field_at(text, at, STRING_C));
     let d = Length(field_at(text, at, STRING_D));
-    BatteryString { t, c, d, x }
+    let a = cost_at(text, at, version);
+    BatteryString { t, c, d, x, a }
 }
 
 // Line k, which starts at `at`: 2, 3, then 5.
-fn string_line_check(text: &[u8], at: usize, k: usize) -> Checked
+fn string_line_check(text: &[u8], at: usize, k: usize, version: Version) -> Checked
+    requires { ⌜ Known version ⌝ }
+    requires { ⌜ Frame (now text) 0 (frameSize (framesBy version .header)) ⌝ }
     requires { ⌜ at ≤ length (now text) ⌝ }
-    ensures exact { λ r. ⌜ r ≡ stringLineCheck version01 k (lineAt (now (text .entry)) at) ⌝ }
+    ensures exact { λ r. ⌜ r ≡ stringLineCheck (framesBy version) (lineAt (now (text .entry)) 0) k (lineAt (now (text .entry)) at) ⌝ }
 {
-    let frame = frame_check(text, at, k, STRING);
+    let frame = frame_check(text, at, k, version.string);
     match frame {
         Checked::Lawful => {
-            let s = string_at(text, at);
+            let s = string_at(text, at, version);
             if bounds::string_lawful(s) {
                 Checked::Lawful
             } else {
@@ -56,20 +73,23 @@ fn string_line_check(text: &[u8], at: usize, k: usize) -> Checked
 }
 
 // n string lines, the first at `start`. A line that is missing is 3.
-pub(crate) fn string_lines_check(text: &[u8], start: usize, n: usize) -> Checked
+pub(crate) fn string_lines_check(text: &[u8], start: usize, n: usize, version: Version) -> Checked
+    requires { ⌜ Known version ⌝ }
+    requires { ⌜ Frame (now text) 0 (frameSize (framesBy version .header)) ⌝ }
     requires { ⌜ (start ≤ length (now text)) × (start ≤ 1000) × (n ≤ 10) ⌝ }
-    ensures exact { λ r. ⌜ r ≡ stringLinesCheck version01 2 n (linesFrom (now (text .entry)) start) ⌝ }
+    ensures exact { λ r. ⌜ r ≡ stringLinesCheck (framesBy version) (lineAt (now (text .entry)) 0) 2 n
+        (linesFrom (now (text .entry)) start) ⌝ }
 {
     let mut i: usize = 0;
     while i < n {
-        let here = start + i * STRING_LINE;
+        let here = start + i * version.string.line;
         if text.len() <= here {
             return Checked::Refused {
                 fault: Fault::FrameWrong,
                 at: i + 2,
             };
         }
-        let line = string_line_check(text, here, i + 2);
+        let line = string_line_check(text, here, i + 2, version);
         match line {
             Checked::Lawful => {
                 i += 1;
@@ -83,11 +103,12 @@ pub(crate) fn string_lines_check(text: &[u8], start: usize, n: usize) -> Checked
 }
 
 // The plan that a lawful header and n lawful string lines write, of which the first starts at `start`.
-pub(crate) fn plan_in(text: &[u8], start: usize, n: usize) -> Plan
-    requires { ⌜ Frame (now text) 0 (frameSize (version01 .header)) ⌝ }
-    requires { ⌜ (start ≡ stringsAt version01) × (n ≡ nIn version01 (lineAt (now text) 0)) × (n ≤ 10) ⌝ }
-    requires { ⌜ Stand (now text) start (frameSize (version01 .string)) n ⌝ }
-    ensures exact { λ r. ⌜ r ≡ planIn version01 (linesOf (now (text .entry))) ⌝ }
+pub(crate) fn plan_in(text: &[u8], start: usize, n: usize, version: Version) -> Plan
+    requires { ⌜ Known version ⌝ }
+    requires { ⌜ Frame (now text) 0 (frameSize (framesBy version .header)) ⌝ }
+    requires { ⌜ (start ≡ stringsAt (framesBy version)) × (n ≡ nIn (framesBy version) (lineAt (now text) 0)) × (n ≤ 10) ⌝ }
+    requires { ⌜ Stand (now text) start (frameSize (framesBy version .string)) n ⌝ }
+    ensures exact { λ r. ⌜ r ≡ planIn (framesBy version) (linesOf (now (text .entry))) ⌝ }
 {
     let zero = Length(0);
     let none = BatteryString {
@@ -95,14 +116,14 @@ pub(crate) fn plan_in(text: &[u8], start: usize, n: usize) -> Plan
         c: zero,
         d: zero,
         x: 0,
+        a: zero,
     };
     let mut strings = [none; 10];
     let mut i: usize = 0;
     while i < n {
-        strings[i] = string_at(text, start + i * STRING_LINE);
+        strings[i] = string_at(text, start + i * version.string.line, version);
         i += 1;
     }
-    let a = Length(field_at(text, 0, HEADER_MOVING));
-    let run = Length(field_at(text, 0, HEADER_RUN));
-    Plan { n, a, run, strings }
+    let run = Length(field_at(text, 0, version.run));
+    Plan { n, run, strings }
 }

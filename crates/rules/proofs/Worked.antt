@@ -1,6 +1,6 @@
 -- Document 01's worked plans, P1 to P10, its sample file, and two runs on which planners go wrong, with the blocking limit of document 02's
--- W-205: one table, one statement. Each row is a question and the answer that the page gives. `worked` has antt compute every answer from
--- the definitions.
+-- W-205; its string on the roof, and its plan file with a moving cost for each string (W-207): one table, one statement. Each row is a
+-- question and the answer that the page gives. `worked` has antt compute every answer from the definitions.
 use Prim.Native.Nat.{ℕ, zero, suc, _+_, _/_, _%_, _-_}
 use mathlib.Core.Path.{_≡_, refl}
 use mathlib.Core.Bool.{cond}
@@ -13,33 +13,41 @@ use Rattle.rules.specs.declared.BatteryString.{BatteryString}
 use Rattle.rules.specs.declared.Plan.{Plan}
 use Rattle.rules.specs.declared.Release.{Release}
 use Rattle.rules.specs.declared.Releases.{Releases}
-use Rattle.lists.specs.Count.{sumOf, largest, smallest, smallestWith, every, keep, countOf, upFrom, leastFrom, firstOf}
+use Rattle.lists.specs.Count.{sumOf, largest, smallest, smallestWith, every, any, keep, countOf, upFrom, leastFrom, firstOf}
 use Rattle.rules.specs.Plan.{noString, stringLawful, commonMultiple, multipleOf, dMin, dMax}
 use Rattle.rules.specs.Demand.{movingCost, holdOf, jobs, blockerHold, blockLimit, need, demand, load, overloaded}
 use Rattle.rules.specs.Verdict.{pairsAt, allPairs, broken, compared, judged, verdictOver, isPass}
 use Rattle.rules.specs.Search.{permit, withSet, setPasses, setsOf, ordered, searchOf}
 use Rattle.rules.specs.Release.{noRelease, tooClose, outOfOrder, releaseLawful, unlawfulFrom, firstUnlawful}
 use Rattle.rules.specs.Run.{chosen, lateAt, newSlot, joinFrom, joined, holder, payer, taken, nextUp, given, useOf, spent, morning, stateAt, useOn, lateOn, history, daysOf, missDay, runOf}
-use Rattle.rules.specs.Refusal.{countCheck, numbersCheck, stringsCheck, multipleCheck, planCheck, setCheck, releasesCheck, runCheck, verdictAnswer, setAnswer, searchAnswer, runAnswer}
-use Rattle.rules.specs.Said.{Said, lawful, overload, fail, pass, takers, miss, clean, checkedSays, verdictSays, assignSays, outcomeSays}
+use Rattle.rules.specs.Refusal.{countCheck, runLengthCheck, costCheck, stringsCheck, multipleCheck, planCheck, setCheck, releasesCheck, runCheck, verdictAnswer, setAnswer, searchAnswer, runAnswer}
+use Rattle.rules.specs.Said.{Said, lawful, refused, overload, fail, pass, takers, miss, clean, checkedSays, verdictSays, assignSays, outcomeSays}
 use Rattle.rules.specs.Answer.{answerOf}
 use Rattle.rules.specs.Answer as answers
 use Rattle.rules.specs.Lines.{bytesOf, decimalIn, decimal, refusedLine, verdictLine, assignLine, outcomeLine, linesFor}
 use Rattle.lists.specs.Count.{filled}
-use Rattle.rules.specs.Layout.{numberFrom, fieldAmong, fieldIn}
-use Rattle.rules.specs.Text.{before, linesOf, digitOf, wellFormed, pairsOf, frameOf, fieldOf, frameCheck, nIn, aIn, runIn, stringOf, releaseOf}
+use Rattle.rules.specs.Layout.{numberFrom, hasField, fieldAmong, fieldIn, framesFor}
+use Rattle.rules.specs.Text.{before, linesOf, digitOf, wellFormed, pairsOf, frameOf, fieldOf, frameCheck, nIn, runIn, aIn, costOf, stringOf, releaseOf}
 use Rattle.rules.specs.Text.{planIn, releasesIn, versionCheck, headerCheck, stringLineCheck, stringLinesCheck, releaseLineCheck}
-use Rattle.rules.specs.Text.{releaseLinesCheck, bodyCheck, linesCheck, textCheck, lawfulReading, readingOf}
+use Rattle.rules.specs.Text.{releaseLinesCheck, bodyCheck, linesCheck, textCheck, lawfulReading, readingIn, framesOf, readingOf}
 
 -- ---- Writing plans and texts down
 
 -- a string as the page writes it, (T, C, D)
 unfoldable pub string : ℕ → ℕ → ℕ → BatteryString
-string t c d = record { t = days t; c = days c; d = days d; x = 0 }
+string t c d = record { t = days t; c = days c; d = days d; x = 0; a = days 0 }
 
--- strings, A, N
+-- a string with the moving cost a
+unfoldable pub paying : ℕ → BatteryString → BatteryString
+paying a s = record { t = s .t; c = s .c; d = s .d; x = s .x; a = days a }
+
+-- strings, each with its moving cost, and N
+unfoldable pub planOf : List BatteryString → ℕ → Plan
+planOf ss n = record { n = length ss; run = days n; strings = filled 10 noString ss }
+
+-- strings, one A for all of them, N
 unfoldable pub plan : List BatteryString → ℕ → ℕ → Plan
-plan ss a n = record { n = length ss; a = days a; run = days n; strings = filled 10 noString ss }
+plan ss a n = planOf (map (paying a) ss) n
 
 -- a release as the page writes it, (day, place, need)
 unfoldable pub release : ℕ → ℕ → ℕ → Release
@@ -88,11 +96,24 @@ ten = plan (string 1 1 1 ∷ []) 0 20
 unfoldable pub level : Plan
 level = plan (string 10 5 10 ∷ string 10 3 9 ∷ []) 1 20
 
+-- the string on the roof, at place 2, takes four days to reach, the others one
+unfoldable pub roof : Plan
+roof = planOf (paying 1 (string 15 3 6) ∷ paying 4 (string 15 2 10) ∷ paying 1 (string 15 4 15) ∷ []) 20
+
 unfoldable pub sample : List ℕ
 sample =
     line 18 0x010102000100000014
     ++ line 16 0x0201000a00030005
     ++ line 16 0x0200000a0005000a
+    ++ line 16 0x0302000000000005
+    ++ line 16 0x0301000000010003
+
+-- the same plan and releases in version 02
+unfoldable pub sample02 : List ℕ
+sample02 =
+    line 14 0x01020200000014
+    ++ line 20 0x0201000a000300050001
+    ++ line 20 0x0200000a0005000a0001
     ++ line 16 0x0302000000000005
     ++ line 16 0x0301000000010003
 
@@ -152,13 +173,36 @@ table =
     ∷ row (run-with two 0 (release 0 2 5 ∷ release 0 1 3 ∷ [])) (says (clean 8 0 12))
     -- P1's strings: with nobody permitted the plan is P3, which fails
     ∷ row (search two) (says (takers 1))
+    -- W-207: with the first string's cost for all it is 56 pairs, with the roof's an overload
+    ∷ row (verdict-with roof 3) (says (pass 64))
+    ∷ row (search roof) (says (takers 0))
+    -- a payer pays its own: the roof's four days, not the one of the job that it stops; and the other way round
+    ∷ row (run-with roof 3 (release 0 3 4 ∷ release 1 2 2 ∷ [])) (says (clean 6 4 10))
+    ∷ row (run-with roof 3 (release 0 2 2 ∷ release 1 1 3 ∷ [])) (says (clean 5 1 14))
+    ∷ row (file sample02) (written (bytesOf "verdict pass pairs 39\nassign 1\nrun clean work 8 move 1 idle 11\n"))
+    -- moving costs 1,000 and 1,001
+    ∷ row (read-text (line 14 0x01020100000014 ++ line 20 0x0201000a0003000503e8)) (says lawful)
+    ∷ row (read-text (line 14 0x01020100000014 ++ line 20 0x0201000a0003000503e9)) (says (refused 5 2))
+    ∷ row (read-text (line 18 0x01010103e800000014 ++ line 16 0x0201000a00030005)) (says lawful)
+    ∷ row (read-text (line 18 0x01010103e900000014 ++ line 16 0x0201000a00030005)) (says (refused 5 1))
+    ∷ row (verdict-with (planOf (paying 1000 (string 10 3 5) ∷ paying 1001 (string 10 3 5) ∷ []) 20) 0) (says (refused 5 2))
+    -- a string line of the other version
+    ∷ row (read-text (line 18 0x010101000100000014 ++ line 20 0x0201000a000300050001)) (says (refused 3 2))
+    ∷ row (read-text (line 14 0x01020100000014 ++ line 16 0x0201000a00030005)) (says (refused 3 2))
+    -- version 03, in the length of 01 and of 02; version 02 in the length of 01, and the other way round
+    ∷ row (read-text (line 18 0x010301000100000014 ++ line 16 0x0201000a00030005)) (says (refused 3 1))
+    ∷ row (read-text (line 14 0x01030100000014 ++ line 20 0x0201000a000300050001)) (says (refused 3 1))
+    ∷ row (read-text (line 18 0x010201000100000014 ++ line 20 0x0201000a000300050001)) (says (refused 3 1))
+    ∷ row (read-text (line 14 0x01010100000014 ++ line 16 0x0201000a00030005)) (says (refused 3 1))
+    -- n 0 and A 1,001: 4 before 5
+    ∷ row (read-text (line 18 0x01010003e900000014)) (says (refused 4 1))
     ∷ []
 
 pub worked : map (λ r. answered (r .asked)) table ≡ map (λ r. r .said) table
 unfolding
-    answered row table string plan release releases char digits line two three five eight nine ten level sample
+    answered row table string paying planOf plan release releases char digits line two three five eight nine ten level roof sample sample02
     ones onesIn flatMap
-    sumOf largest smallest smallestWith every keep countOf upFrom leastFrom
+    sumOf largest smallest smallestWith every any keep countOf upFrom leastFrom
     stringLawful commonMultiple multipleOf dMin dMax
     movingCost holdOf jobs blockerHold blockLimit need demand load overloaded
     pairsAt allPairs broken firstOf compared judged verdictOver isPass
@@ -166,10 +210,11 @@ unfolding
     tooClose outOfOrder releaseLawful unlawfulFrom firstUnlawful
     chosen lateAt newSlot joinFrom joined holder payer taken nextUp given useOf spent morning stateAt useOn lateOn history daysOf missDay
     runOf
-    countCheck numbersCheck stringsCheck multipleCheck planCheck setCheck releasesCheck runCheck verdictAnswer setAnswer searchAnswer
-    runAnswer
-    before linesOf digitOf wellFormed pairsOf frameOf numberFrom fieldAmong fieldIn fieldOf
-    nIn aIn runIn stringOf releaseOf planIn releasesIn frameCheck versionCheck headerCheck
-    stringLineCheck stringLinesCheck releaseLineCheck releaseLinesCheck bodyCheck linesCheck textCheck lawfulReading readingOf
+    countCheck runLengthCheck costCheck stringsCheck multipleCheck planCheck setCheck releasesCheck runCheck
+    verdictAnswer setAnswer searchAnswer runAnswer
+    before linesOf digitOf wellFormed pairsOf frameOf numberFrom hasField fieldAmong fieldIn framesFor fieldOf
+    nIn runIn aIn costOf stringOf releaseOf planIn releasesIn frameCheck versionCheck headerCheck
+    stringLineCheck stringLinesCheck releaseLineCheck releaseLinesCheck bodyCheck linesCheck textCheck lawfulReading readingIn framesOf
+    readingOf
     answers.answered answerOf bytesOf decimalIn decimal refusedLine verdictLine assignLine outcomeLine linesFor
 worked = refl

@@ -1,5 +1,6 @@
--- The demand rule (document 01, "The demand rule"; the blocking limit as document 02, W-205, has it).
---     movingCost p s        A, the moving days that a job of s pays when it takes the bank
+-- The demand rule (document 01, "The demand rule"; the blocking limit and each string's own moving cost as document 02, W-205 and W-207,
+-- have them).
+--     movingCost p s        A, the moving days that a job of s pays when it takes the bank: the string's own
 --     holdOf p s            E, C plus A times X: the longest that a job of s holds the bank
 --     jobs s w              the jobs of s in a window of w days (source, equation 1)
 --     blockLimit p l        B, the blocking limit at interval l (source, equation 7, with E − 1 for C)
@@ -16,8 +17,9 @@ use Rattle.rules.specs.declared.Plan.{Plan}
 use Rattle.lists.specs.Count.{sumOf, largest}
 use Rattle.rules.specs.Plan.{stringsOf, multipleOf, dMin, dMax}
 
+-- said of a plan and a string, as E and the run ask for it: they read the same wherever a plan keeps the cost
 unfoldable pub movingCost : Plan → BatteryString → ℕ
-movingCost p s = p .a .0
+movingCost p s = s .a .0
 
 unfoldable pub holdOf : Plan → BatteryString → ℕ
 holdOf p s = s .c .0 + movingCost p s * s .x

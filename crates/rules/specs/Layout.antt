@@ -1,4 +1,4 @@
--- Layouts of frames (document 01, "Frames of the plan file"): which bytes of a frame say what.
+-- Layouts of frames (document 01, "Frames of the plan file"; document 02, W-207): which bytes of a frame say what.
 --     Field                 what a field of a frame says
 --     Layout                the kind of a frame, and its fields in the page's order, each with its size in bytes
 --     frameSize l           the bytes of a frame: one for its kind, then those of its fields
@@ -6,17 +6,23 @@
 --     lineSize l            the same of a frame of the layout l
 --     numberOf bytes        the number that bytes write, high byte first
 --     kindIn frame          the kind of a frame, its first byte
+--     versionIn frame       the version that a header names, its second byte, whatever the version
+--     hasField l f          the layout l has the field f
 --     fieldIn l f frame     the number that the field f of a frame says; 0 where the layout has no such field
 --     Frames                a version of the plan file: its number and the layouts of its three frames
---     version01             document 01's
+--     version01             document 01's: the header says the moving cost of every string
+--     version02             document 02's, W-207: each string says its own
+--     framesFor version     the frames that a header which names the version is held to: 02's for 02. Any other is held to 01's, which
+--                           refuse it unless it is 01
 -- A field starts where the one before it ends.
 use Prim.Native.Nat.{ℕ, _+_, _*_}
-use mathlib.Core.Bool.{cond}
+use mathlib.Core.Bool.{Bool, cond}
 use mathlib.Core.List.{List, [], _∷_}
 use lib.Dec.{eqb}
 use lib.ListN.{take, drop}
+use Rattle.lists.specs.Count.{any}
 
--- n, A and N are Count, Moving and Run
+-- n and N are Count and Run, a moving cost is Moving
 pub data Field : Type 0 where
   Version : Field
   Count : Field
@@ -82,6 +88,12 @@ numberOf bytes = numberFrom 0 bytes
 abbrev pub kindIn : List ℕ → ℕ
 kindIn frame = numberOf (take 1 frame)
 
+abbrev pub versionIn : List ℕ → ℕ
+versionIn frame = numberOf (take 1 (drop 1 frame))
+
+unfoldable pub hasField : Layout → Field → Bool
+hasField l f = any (λ s. eqb (fieldNumber (s .field)) (fieldNumber f)) (l .fields)
+
 unfoldable pub fieldAmong : List Sized → Field → List ℕ → ℕ
 fieldAmong [] f bytes = 0
 fieldAmong (s ∷ rest) f bytes =
@@ -109,3 +121,16 @@ version01 =
       string = record { kind = 2; fields = sized X 1 ∷ sized T 2 ∷ sized C 2 ∷ sized D 2 ∷ [] };
       release = record { kind = 3; fields = sized Place 1 ∷ sized Day 4 ∷ sized Need 2 ∷ [] };
     }
+
+-- header, 7 bytes: 01, version 02, n (1), N (4); string, 10 bytes: 02, X (1), T (2), C (2), D (2), moving cost (2); release as in 01
+abbrev pub version02 : Frames
+version02 =
+    record {
+      version = 2;
+      header = record { kind = 1; fields = sized Version 1 ∷ sized Count 1 ∷ sized Run 4 ∷ [] };
+      string = record { kind = 2; fields = sized X 1 ∷ sized T 2 ∷ sized C 2 ∷ sized D 2 ∷ sized Moving 2 ∷ [] };
+      release = version01 .release;
+    }
+
+unfoldable pub framesFor : ℕ → Frames
+framesFor version = cond (eqb version (version02 .version)) version02 version01

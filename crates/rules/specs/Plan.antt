@@ -1,10 +1,12 @@
--- A plan and the bounds on it (document 01, "What the desk plans", "Bounds on a plan").
+-- A plan and the bounds on it (document 01, "What the desk plans", "Bounds on a plan"; each string has its own moving cost, document 02,
+-- W-207).
 --     stringsOf p           the strings of p, by place
 --     stringAt p i          the string at place i, from 1
 --     commonMultiple ss h   every T of ss divides h
 --     multipleOf p          H, the least common multiple of all T; 100,001 stands for any H over 100,000
 --     dMin p, dMax p        the smallest and the largest D
---     stringLawful s        T 1 to 1,000; D 1 to T; C 1 to D; X 0 or 1
+--     costLawful a          a moving cost: 0 to 1,000
+--     stringLawful s        T 1 to 1,000; D 1 to T; C 1 to D; X 0 or 1; a lawful moving cost
 use Prim.Native.Nat.{ℕ, _-_, _%_}
 use mathlib.Core.Bool.{Bool, _&&_}
 use mathlib.Core.List.{List}
@@ -21,10 +23,13 @@ stringsOf p = take (p .n) (p .strings)
 
 -- stands where there is no string; it is lawful nowhere
 abbrev pub noString : BatteryString
-noString = record { t = days 0; c = days 0; d = days 0; x = 0 }
+noString = record { t = days 0; c = days 0; d = days 0; x = 0; a = days 0 }
 
 abbrev pub stringAt : Plan → ℕ → BatteryString
 stringAt p i = getD (stringsOf p) (i - 1) noString
+
+abbrev pub costLawful : ℕ → Bool
+costLawful a = inBounds 0 a 1000
 
 unfoldable pub stringLawful : BatteryString → Bool
 stringLawful s =
@@ -32,6 +37,7 @@ stringLawful s =
     && inBounds 1 (s .d .0) (s .t .0)
     && inBounds 1 (s .c .0) (s .d .0)
     && inBounds 0 (s .x) 1
+    && costLawful (s .a .0)
 
 unfoldable pub commonMultiple : List BatteryString → ℕ → Bool
 commonMultiple ss h = every (λ s. eqb (h % s .t .0) 0) ss

@@ -1,16 +1,17 @@
--- Refusals of entries that take numbers (document 01, "Refusal numbers"), and what each entry answers for any input.
+-- Refusals of entries that take numbers (document 01, "Refusal numbers"; document 02, W-207), and what each entry answers for any input.
 -- A check takes the place `at` that it reports at: a text is held to the same checks, with the number of a line.
---     headCheck at n a run  4 for n, then 5 for A and N
---     stringCheck at s      5 for a string outside its bounds
+--     headCheck at n run    4 for n, then 5 for N
+--     costCheck at a        5 for a moving cost that is said for the whole plan, as in version 01 of the plan file
+--     stringCheck at s      5 for a string outside its bounds, its moving cost among them
 --     multipleCheck at p    6 for H
 --     manyCheck at j        7 for more than 1,000 releases
 --     stringsCheck k ss     5 with the place, from k on, of the first string outside its bounds
---     planCheck p           4, then 5 for A and N (with 0), then 5 place by place, then 6 (with 0)
---     setCheck p m          the same with a permission set: 5 with 0 for 2^n or more, straight after A and N
+--     planCheck p           4, then 5 for N (with 0), then 5 place by place, then 6 (with 0)
+--     setCheck p m          the same with a permission set: 5 with 0 for 2^n or more, straight after N
 --     runCheck p rs         planCheck, then 7 (with 1,001), then 8 with the place in the list
 --     verdictAnswer p, setAnswer p m, searchAnswer p, runAnswer p rs    the answers of the entries
 use Prim.Native.Nat.{ℕ, suc, _^_}
-use mathlib.Core.Bool.{not, _&&_}
+use mathlib.Core.Bool.{not}
 use mathlib.Core.List.{List, [], _∷_}
 use lib.Dec.{ltb, leb}
 use Rattle.rules.specs.declared.BatteryString.{BatteryString}
@@ -25,7 +26,7 @@ use Rattle.rules.specs.declared.Assign.{Assign}
 use Rattle.rules.specs.declared.Assign.the-variants as assign
 use Rattle.rules.specs.declared.Outcome.{Outcome}
 use Rattle.rules.specs.declared.Outcome.the-variants as outcome
-use Rattle.rules.specs.Plan.{stringsOf, stringLawful, multipleOf}
+use Rattle.rules.specs.Plan.{stringsOf, costLawful, stringLawful, multipleOf}
 use Rattle.faults.specs.Checks.{inBounds, refuseIf, then}
 use Rattle.rules.specs.Verdict.{verdictOf}
 use Rattle.rules.specs.Search.{withSet, searchOf}
@@ -37,11 +38,14 @@ use Rattle.rules.specs.Run.{runOf}
 unfoldable pub countCheck : ℕ → ℕ → Checked
 countCheck at n = refuseIf (not (inBounds 1 n 10)) StringCount at
 
-unfoldable pub numbersCheck : ℕ → ℕ → ℕ → Checked
-numbersCheck at a run = refuseIf (not (inBounds 0 a 1000 && inBounds 1 run 1000000)) OutOfBounds at
+unfoldable pub runLengthCheck : ℕ → ℕ → Checked
+runLengthCheck at run = refuseIf (not (inBounds 1 run 1000000)) OutOfBounds at
 
-abbrev pub headCheck : ℕ → ℕ → ℕ → ℕ → Checked
-headCheck at n a run = then (countCheck at n) (numbersCheck at a run)
+abbrev pub headCheck : ℕ → ℕ → ℕ → Checked
+headCheck at n run = then (countCheck at n) (runLengthCheck at run)
+
+unfoldable pub costCheck : ℕ → ℕ → Checked
+costCheck at a = refuseIf (not (costLawful a)) OutOfBounds at
 
 abbrev pub stringCheck : ℕ → BatteryString → Checked
 stringCheck at s = refuseIf (not (stringLawful s)) OutOfBounds at
@@ -63,12 +67,12 @@ stringsCheck k (s ∷ ss) =
 unfoldable pub planCheck : Plan → Checked
 planCheck p =
     let strings = then (stringsCheck 1 (stringsOf p)) (multipleCheck 0 p) in
-    then (headCheck 0 (p .n) (p .a .0) (p .run .0)) strings
+    then (headCheck 0 (p .n) (p .run .0)) strings
 
 unfoldable pub setCheck : Plan → ℕ → Checked
 setCheck p m =
     let strings = then (stringsCheck 1 (stringsOf p)) (multipleCheck 0 p) in
-    then (headCheck 0 (p .n) (p .a .0) (p .run .0)) (then (refuseIf (leb (2 ^ p .n) m) OutOfBounds 0) strings)
+    then (headCheck 0 (p .n) (p .run .0)) (then (refuseIf (leb (2 ^ p .n) m) OutOfBounds 0) strings)
 
 unfoldable pub releasesCheck : Plan → Releases → Checked
 releasesCheck p rs =

@@ -1,4 +1,4 @@
--- The plan file (document 01, "Frames of the plan file" and "Refusal numbers"). A text is the list of its bytes.
+-- The plan file (document 01, "Frames of the plan file" and "Refusal numbers"; document 02, W-207). A text is the list of its bytes.
 --     linesOf text          the lines of a text: a line is what stands up to its 0a; only the last can lack one
 --     digitOf b             the value of a lowercase hexadecimal digit; 16 stands for any other character
 --     wellFormed line       not empty, of even length, hexadecimal digits only, and ended by its 0a
@@ -6,10 +6,16 @@
 --     fieldOf l f line      the number that the field f says, where the line writes a frame of the layout l
 --     layoutCheck k l line  2, then 3, where line k writes no frame of the layout l
 -- v is the version of the plan file:
---     stringOf v line, releaseOf v line      what a string line and a release line say
+--     costOf v header line  the moving cost of a string: where the header says one it goes to every string, else the string line says it
+--     stringOf v header line     what a string line says, under the header of its text
+--     releaseOf v line      what a release line says
 --     planIn v lines, releasesIn v lines     the plan and the releases that lines write, where they are lawful
 --     linesCheck v lines    the first fault, with its line; the order of faults is document 01's
---     readingOf text        what reading a text gives: on a refusal an empty plan and no releases
+--     readingIn v text      what reading a text of that version gives: on a refusal an empty plan and no releases
+--     framesOf lines        the version that lines are held to: the one that the first of them names
+--     readingOf text        what reading a text gives: its lines are held to the version that its header names
+-- Versions 01 and 02 are read. A header of another version, or of another length than its version's, is 3 at line 1; a string line of
+-- the other version has the wrong length and is 3 at its line.
 use Prim.Native.Nat.{ℕ, zero, suc, _+_, _-_, _*_, _%_}
 use mathlib.Core.Bool.{Bool, true, false, not, cond, _&&_}
 use mathlib.Core.List.{List, [], _∷_, map}
@@ -28,8 +34,8 @@ use Rattle.rules.specs.declared.Releases.{Releases}
 use Rattle.rules.specs.declared.Reading.{Reading}
 use Rattle.rules.specs.Plan.{noString}
 use Rattle.rules.specs.Release.{releaseLawful, noRelease}
-use Rattle.rules.specs.Refusal.{headCheck, stringCheck, multipleCheck, manyCheck}
-use Rattle.rules.specs.Layout.{Field, Layout, Frames, frameSize, kindIn, fieldIn, version01}
+use Rattle.rules.specs.Refusal.{headCheck, costCheck, stringCheck, multipleCheck, manyCheck}
+use Rattle.rules.specs.Layout.{Field, Layout, Frames, frameSize, kindIn, versionIn, hasField, fieldIn, version01, framesFor}
 use Rattle.rules.specs.Layout.{Version, Count, Moving, Run, X, T, C, D, Place, Day, Need}
 
 -- ---- Lines
@@ -72,7 +78,7 @@ unfoldable pub fieldOf : Layout → Field → Line → ℕ
 fieldOf l f line = fieldIn l f (frameOf line)
 
 abbrev pub noPlan : Plan
-noPlan = record { n = 0; a = days 0; run = days 0; strings = replicate 10 noString }
+noPlan = record { n = 0; run = days 0; strings = replicate 10 noString }
 
 abbrev pub noReleases : Releases
 noReleases = record { count = 0; list = replicate 1000 noRelease }
@@ -92,19 +98,24 @@ module _ (v : Frames) where
   unfoldable pub nIn : Line → ℕ
   nIn line = fieldOf (v .header) Count line
 
-  unfoldable pub aIn : Line → ℕ
-  aIn line = fieldOf (v .header) Moving line
-
   unfoldable pub runIn : Line → ℕ
   runIn line = fieldOf (v .header) Run line
 
-  unfoldable pub stringOf : Line → BatteryString
-  stringOf line =
+  -- A, the moving cost that the header says; 0 where it says none
+  unfoldable pub aIn : Line → ℕ
+  aIn line = fieldOf (v .header) Moving line
+
+  unfoldable pub costOf : Line → Line → ℕ
+  costOf header line = cond (hasField (v .header) Moving) (aIn header) (fieldOf (v .string) Moving line)
+
+  unfoldable pub stringOf : Line → Line → BatteryString
+  stringOf header line =
       record {
         t = days (fieldOf (v .string) T line);
         c = days (fieldOf (v .string) C line);
         d = days (fieldOf (v .string) D line);
         x = fieldOf (v .string) X line;
+        a = days (costOf header line);
       }
 
   unfoldable pub releaseOf : Line → Release
@@ -120,9 +131,8 @@ module _ (v : Frames) where
   planIn (header ∷ lines) =
       record {
         n = nIn header;
-        a = days (aIn header);
         run = days (runIn header);
-        strings = filled 10 noString (map stringOf (take (nIn header) lines));
+        strings = filled 10 noString (map (stringOf header) (take (nIn header) lines));
       }
 
   unfoldable pub releasesIn : List Line → Releases
@@ -139,18 +149,18 @@ module _ (v : Frames) where
   unfoldable pub headerCheck : Line → Checked
   headerCheck line =
       then (layoutCheck 1 (v .header) line)
-      (then (versionCheck line) (headCheck 1 (nIn line) (aIn line) (runIn line)))
+      (then (versionCheck line) (then (headCheck 1 (nIn line) (runIn line)) (costCheck 1 (aIn line))))
 
-  unfoldable pub stringLineCheck : ℕ → Line → Checked
-  stringLineCheck k line = then (layoutCheck k (v .string) line) (stringCheck k (stringOf line))
+  unfoldable pub stringLineCheck : Line → ℕ → Line → Checked
+  stringLineCheck header k line = then (layoutCheck k (v .string) line) (stringCheck k (stringOf header line))
 
   -- m strings are still to come
-  unfoldable pub stringLinesCheck : ℕ → ℕ → List Line → Checked
-  stringLinesCheck k zero lines = Lawful
-  stringLinesCheck k (suc m) [] = Refused FrameWrong k
-  stringLinesCheck k (suc m) (line ∷ lines) =
-      let later = stringLinesCheck (suc k) m lines in
-      then (stringLineCheck k line) later
+  unfoldable pub stringLinesCheck : Line → ℕ → ℕ → List Line → Checked
+  stringLinesCheck header k zero lines = Lawful
+  stringLinesCheck header k (suc m) [] = Refused FrameWrong k
+  stringLinesCheck header k (suc m) (line ∷ lines) =
+      let later = stringLinesCheck header (suc k) m lines in
+      then (stringLineCheck header k line) later
 
   -- the line writes the j-th release; those seen stand ahead of it, the latest first
   unfoldable pub releaseLineCheck : Plan → ℕ → ℕ → List Release → Line → Checked
@@ -165,16 +175,16 @@ module _ (v : Frames) where
       then (releaseLineCheck p k j seen line) later
 
   -- the lines after the header: strings, then 6 at the last of them, then releases
-  unfoldable pub bodyCheck : Plan → List Line → Checked
-  bodyCheck p lines =
+  unfoldable pub bodyCheck : Line → Plan → List Line → Checked
+  bodyCheck header p lines =
       let releases = releaseLinesCheck p (p .n + 2) 1 [] (drop (p .n) lines) in
       let rest = then (multipleCheck (p .n + 1) p) releases in
-      then (stringLinesCheck 2 (p .n) lines) rest
+      then (stringLinesCheck header 2 (p .n) lines) rest
 
   unfoldable pub linesCheck : List Line → Checked
   linesCheck [] = Refused FrameWrong 1
   linesCheck (header ∷ lines) =
-      let body = bodyCheck (planIn (header ∷ lines)) lines in
+      let body = bodyCheck header (planIn (header ∷ lines)) lines in
       then (headerCheck header) body
 
   unfoldable pub textCheck : List ℕ → Checked
@@ -188,5 +198,13 @@ module _ (v : Frames) where
 
 -- ---- Reading
 
+unfoldable pub readingIn : Frames → List ℕ → Reading
+readingIn v text = lawfulReading v (textCheck v text) (linesOf text)
+
+-- a text without a line is refused by any version
+unfoldable pub framesOf : List Line → Frames
+framesOf [] = version01
+framesOf (header ∷ lines) = framesFor (versionIn (frameOf header))
+
 unfoldable pub readingOf : List ℕ → Reading
-readingOf text = lawfulReading version01 (textCheck version01 text) (linesOf text)
+readingOf text = readingIn (framesOf (linesOf text)) text

@@ -1,5 +1,5 @@
 // The words of the desk: the plan, its releases, the answers, and the slots of a run.
-// Letters are document 01's: T, C, D and X of a string, n, A and N of a plan.
+// Letters are document 01's: T, C, D, X and A of a string, n and N of a plan. A is each string's own (document 02, W-207).
 use days::Day;
 use days::Length;
 use faults::Checked;
@@ -8,29 +8,30 @@ ghost use mathlib.Core.Path.{_≡_};
 ghost use Rattle.days.specs.Days.{days};
 ghost use Rattle.rules.specs.Demand.{movingCost};
 
-// A battery string: least days between two releases, most working days of a job, days from release to deadline, and
-// whether its jobs may take the bank (1) or not (0).
+// A battery string: least days between two releases, most working days of a job, days from release to deadline,
+// whether its jobs may take the bank (1) or not (0), and the moving days that a job pays which takes it.
 pub struct BatteryString {
     pub t: Length,
     pub c: Length,
     pub d: Length,
     pub x: u32,
+    pub a: Length,
 }
 
-// A plan: n strings by place, one moving cost, the days of its run. Of the ten strings the first n count.
+// A plan: n strings by place, and the days of its run. Of the ten strings the first n count.
 pub struct Plan {
     pub n: usize,
-    pub a: Length,
     pub run: Length,
     pub strings: [BatteryString; 10],
 }
 
 impl Plan {
-    // What a job of the string pays for taking the bank.
+    // What a job of the string pays for taking the bank: its own cost. The plan is asked, so that where the cost is kept
+    // is said here alone.
     pub fn moving_cost(self, s: BatteryString) -> Length
         ensures exact { λ r. ⌜ r ≡ days (movingCost self s) ⌝ }
     {
-        self.a
+        s.a
     }
 }
 

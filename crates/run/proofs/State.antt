@@ -93,7 +93,7 @@ module _ (p : Plan) (rs : List Release) (lawful : LawfulPlan p) where
   new-moving : (k : ℕ) (r : Release) (i : ℕ) → MovingTo p k (newSlot p r i)
   new-moving k r i =
       let strings = all-map (PlanString p) (λ s. movingCost p s ≤ 1000) (λ s h. h .costMax) (stringsOf p) (plan-strings p lawful) in
-      let cost = all-getD (λ s. movingCost p s ≤ 1000) (stringsOf p) (r .place - 1) noString strings (noString-cost p lawful) in
+      let cost = all-getD (λ s. movingCost p s ≤ 1000) (stringsOf p) (r .place - 1) noString strings (noString-cost p) in
       (omega (arith, ap movingOf (newSlot-job p r i)), rw (newSlot-string p r i) cost)
 
   joined-moving : (t k : ℕ) (ss : List Slot) → All (MovingTo p k) ss → All (MovingTo p k) (joined p rs t ss)

@@ -148,6 +148,46 @@ fn try_headers() {
     try_text(b"N 1000001", b"0101020001000f4241\n");
 }
 
+// The two versions of the plan file, and texts of neither.
+fn try_versions() {
+    try_text(
+        b"version 02",
+        b"01020200000014\n0201000a000300050001\n0200000a0005000a0001\n0302000000000005\n0301000000010003\n",
+    );
+    try_text(
+        b"version 02, moving cost 1000",
+        b"01020100000014\n0201000a0003000503e8\n",
+    );
+    try_text(
+        b"version 02, moving cost 1001",
+        b"01020100000014\n0201000a0003000503e9\n",
+    );
+    try_text(
+        b"version 02, a string of 01",
+        b"01020200000014\n0201000a000300050001\n0200000a0005000a\n",
+    );
+    try_text(
+        b"version 01, a string of 02",
+        b"010102000100000014\n0201000a000300050001\n",
+    );
+    try_text(
+        b"version 02, the header of 01",
+        b"010202000100000014\n0201000a000300050001\n",
+    );
+    try_text(
+        b"version 01, the header of 02",
+        b"01010200000014\n0201000a00030005\n",
+    );
+    try_text(b"version 02, n 0, N 0", b"01020000000000\n");
+    try_text(b"version 02, N 0", b"01020100000000\n");
+    try_text(b"version 03", b"01030200000014\n0201000a000300050001\n");
+    try_text(b"a header of one byte", b"01\n");
+    try_text(
+        b"6 in version 02",
+        b"01020200000014\n020003e5000103e50000\n020003df000103df0000\n",
+    );
+}
+
 // Bounds of strings, H, and the number of strings.
 fn try_strings() {
     try_text(b"T 1000", b"010101000000000014\n020003e8000103e8\n");
@@ -261,6 +301,7 @@ fn try_release_bytes() {
 
 fn main() {
     try_headers();
+    try_versions();
     try_strings();
     try_releases();
     try_long();

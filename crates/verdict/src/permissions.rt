@@ -17,12 +17,13 @@ ghost use Rattle.verdict.specs.Asked.{Ready};
 
 // The string with permission x.
 fn permitted(s: BatteryString, x: u32) -> BatteryString
-    ensures { λ r. ⌜ r ≡ record { t = s .t; c = s .c; d = s .d; x = x } ⌝ }
+    ensures { λ r. ⌜ r ≡ record { t = s .t; c = s .c; d = s .d; x = x; a = s .a } ⌝ }
 {
     let t = s.t;
     let c = s.c;
     let d = s.d;
-    BatteryString { t, c, d, x }
+    let a = s.a;
+    BatteryString { t, c, d, x, a }
 }
 
 // The plan with the permissions of a set.
@@ -31,7 +32,6 @@ pub(crate) fn with_set(p: Plan, set: u32) -> Plan
     ensures { λ r. ⌜ r ≡ withSet p set ⌝ }
 {
     let n = p.n;
-    let a = p.a;
     let run = p.run;
     let mut strings = p.strings;
     let mut rest = set;
@@ -42,7 +42,7 @@ pub(crate) fn with_set(p: Plan, set: u32) -> Plan
         rest = rest / 2;
         i += 1;
     }
-    Plan { n, a, run, strings }
+    Plan { n, run, strings }
 }
 
 // Whether the work alone, with no moving and no blocking, breaks the rule within h days, from step to step: then no set passes.

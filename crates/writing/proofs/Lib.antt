@@ -2,3 +2,4 @@
 pub mod Texts
 pub mod Rows
 pub mod Saving
+pub mod CellsSaid

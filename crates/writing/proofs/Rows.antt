@@ -15,7 +15,7 @@ use Rattle.rules.specs.declared.Release.{Release}
 use Rattle.rules.specs.declared.Releases.{Releases}
 use Rattle.rules.specs.Plan.{stringsOf}
 use Rattle.rules.specs.Release.{releasesOf}
-use Rattle.rules.specs.Layout.{Field, Layout, lineSize, frameSize, version01}
+use Rattle.rules.specs.Layout.{Field, Layout, Frames, lineSize}
 use Rattle.writing.specs.declared.cells.Cell.{Cell}
 use Rattle.writing.specs.Written.{frameBytes, lineText, headerSays, stringSays, releaseSays, headerText, stringText, releaseText, planText}
 use Rattle.writing.specs.Cells.{cellsSize, cellsText, Room, SaysFrame}
@@ -61,23 +61,22 @@ module _ {ℓ} {A : Type ℓ} (f : A → List ℕ) (k : ℕ) (each : (x : A) →
 
 -- ---- The lines of a plan
 
-pub stringText-length : (s : BatteryString) → length (stringText version01 s) ≡ lineSize (version01 .string)
-unfolding stringText
-stringText-length s =
-    lineText-length (frameBytes (version01 .string) (stringSays s))
-    ∙ ap (λ k. k * 2 + 1) (frameBytes-length (version01 .string) (stringSays s))
+module _ (v : Frames) where
+  pub stringText-length : (s : BatteryString) → length (stringText v s) ≡ lineSize (v .string)
+  unfolding stringText
+  stringText-length s =
+      lineText-length (frameBytes (v .string) (stringSays s)) ∙ ap (λ k. k * 2 + 1) (frameBytes-length (v .string) (stringSays s))
 
-pub releaseText-length : (r : Release) → length (releaseText version01 r) ≡ lineSize (version01 .release)
-unfolding releaseText
-releaseText-length r =
-    lineText-length (frameBytes (version01 .release) (releaseSays r))
-    ∙ ap (λ k. k * 2 + 1) (frameBytes-length (version01 .release) (releaseSays r))
+  pub releaseText-length : (r : Release) → length (releaseText v r) ≡ lineSize (v .release)
+  unfolding releaseText
+  releaseText-length r =
+      lineText-length (frameBytes (v .release) (releaseSays r)) ∙ ap (λ k. k * 2 + 1) (frameBytes-length (v .release) (releaseSays r))
 
-pub headerText-length : (p : Plan) → length (headerText version01 p) ≡ lineSize (version01 .header)
-unfolding headerText
-headerText-length p =
-    lineText-length (frameBytes (version01 .header) (headerSays 1 p))
-    ∙ ap (λ k. k * 2 + 1) (frameBytes-length (version01 .header) (headerSays 1 p))
+  pub headerText-length : (p : Plan) → length (headerText v p) ≡ lineSize (v .header)
+  unfolding headerText
+  headerText-length p =
+      lineText-length (frameBytes (v .header) (headerSays (v .version) p))
+      ∙ ap (λ k. k * 2 + 1) (frameBytes-length (v .header) (headerSays (v .version) p))
 
 -- what put_frame leaves, for cells that say a frame
 pub line-put : (cells : List Cell) (count : ℕ) (l : Layout) (says : Field → ℕ) (part next : List ℕ) → SaysFrame cells count l says
@@ -95,28 +94,31 @@ line-room cells count l says k s few room =
 
 -- ---- The whole text
 
-module _ (p : Plan) (rs : Releases) (strings-many : length (stringsOf p) ≡ p .n) (releases-many : length (releasesOf rs) ≡ rs .count) where
-  pub strings-long : length (flatMap (stringText version01) (stringsOf p)) ≡ p .n * 17
-  strings-long = flatMap-length (stringText version01) 17 stringText-length (stringsOf p) ∙ ap (λ n. n * 17) strings-many
+-- how long the text of so many strings and releases is
+abbrev pub longAs : Frames → ℕ → ℕ → ℕ
+longAs v n count = lineSize (v .header) + n * lineSize (v .string) + count * lineSize (v .release)
 
-  pub releases-long : length (flatMap (releaseText version01) (releasesOf rs)) ≡ rs .count * 17
-  releases-long = flatMap-length (releaseText version01) 17 releaseText-length (releasesOf rs) ∙ ap (λ n. n * 17) releases-many
+module _ (v : Frames) (p : Plan) (rs : Releases) (strings-many : length (stringsOf p) ≡ p .n)
+    (releases-many : length (releasesOf rs) ≡ rs .count)
+  where
+    abbrev strings : List ℕ
+    strings = flatMap (stringText v) (stringsOf p)
 
-  pub text-long : length (planText version01 p (releasesOf rs)) ≡ 19 + p .n * 17 + rs .count * 17
-  unfolding planText
-  text-long =
-      length-append (headerText version01 p ++ flatMap (stringText version01) (stringsOf p))
-      (flatMap (releaseText version01) (releasesOf rs)) ∙ sum
-    where
-      sum :
-          length (headerText version01 p ++ flatMap (stringText version01) (stringsOf p)) + length
-          (flatMap (releaseText version01) (releasesOf rs))
-          ≡ 19 + p .n * 17 + rs .count * 17
-      sum =
-          omega (
-            arith,
-            headerText-length p,
-            strings-long,
-            releases-long,
-            length-append (headerText version01 p) (flatMap (stringText version01) (stringsOf p)),
-          )
+    abbrev releases : List ℕ
+    releases = flatMap (releaseText v) (releasesOf rs)
+
+    pub strings-long : length strings ≡ p .n * lineSize (v .string)
+    strings-long =
+        flatMap-length (stringText v) (lineSize (v .string)) (stringText-length v) (stringsOf p)
+        ∙ ap (λ n. n * lineSize (v .string)) strings-many
+
+    pub releases-long : length releases ≡ rs .count * lineSize (v .release)
+    releases-long =
+        flatMap-length (releaseText v) (lineSize (v .release)) (releaseText-length v) (releasesOf rs)
+        ∙ ap (λ n. n * lineSize (v .release)) releases-many
+
+    pub text-long : length (planText v p (releasesOf rs)) ≡ longAs v (p .n) (rs .count)
+    unfolding planText
+    text-long =
+        length-append (headerText v p ++ strings) releases
+        ∙ omega (arith, headerText-length v p, strings-long, releases-long, length-append (headerText v p) strings)

@@ -1,5 +1,5 @@
 -- What is answered and what the page holds: a refusal of the plan, no room, or the text in its place.
-use Prim.Native.Nat.{ℕ, _+_, _-_, _≤_, _<_, _*_}
+use Prim.Native.Nat.{ℕ, _-_, _≤_, _<_}
 use mathlib.Core.Path.{_≡_, refl, sym, ap, _∙_}
 use mathlib.Core.Bool.{Bool, true, false, _||_}
 use mathlib.Core.List.{List, _++_}
@@ -19,7 +19,7 @@ use Rattle.rules.specs.declared.Releases.{Releases}
 use Rattle.rules.specs.Plan.{stringsOf}
 use Rattle.rules.specs.Release.{releasesOf, noRelease}
 use Rattle.rules.specs.Refusal.{runCheck}
-use Rattle.rules.specs.Layout.{version01}
+use Rattle.rules.specs.Layout.{Frames}
 use Rattle.laws.specs.Lawful.{LawfulRun}
 use Rattle.laws.proofs.Releases.{runCheck-lawful}
 use Rattle.laws.proofs.ReleaseList.{release-lawful}
@@ -28,7 +28,7 @@ use Rattle.writing.specs.Written.{planText}
 use Rattle.writing.specs.Saved.{savedText, noRoom, saveCheck, savedAnswer, savedPage}
 use Rattle.writing.specs.Cells.{PlanFits}
 use Rattle.writing.proofs.Texts.{lent-part, lent-back}
-use Rattle.writing.proofs.Rows.{text-long}
+use Rattle.writing.proofs.Rows.{longAs, text-long}
 
 -- ---- Room
 
@@ -51,19 +51,20 @@ noRoom-fits page at text here h =
 
 -- ---- The answer and the page
 
-module _ (p : Plan) (rs : Releases) (page : List ℕ) (at : ℕ) where
+module _ (v : Frames) (p : Plan) (rs : Releases) (page : List ℕ) (at : ℕ) where
   pub saved-refused : (f : Fault) (k : ℕ) → runCheck p rs ≡ checked.Refused f k
-      → (savedAnswer p rs page at ≡ Refused f k) × (savedPage p rs page at ≡ page)
+      → (savedAnswer v p rs page at ≡ Refused f k) × (savedPage v p rs page at ≡ page)
   unfolding savedAnswer savedPage saveCheck
   saved-refused f k h = (rw h, rw h)
 
   module _ (lawful : runCheck p rs ≡ checked.Lawful) where
-    saved-full : noRoom page at (savedText p rs) ≡ true → (savedAnswer p rs page at ≡ Refused NoRoom 0) × (savedPage p rs page at ≡ page)
+    saved-full : noRoom page at (savedText v p rs) ≡ true
+        → (savedAnswer v p rs page at ≡ Refused NoRoom 0) × (savedPage v p rs page at ≡ page)
     unfolding savedAnswer savedPage saveCheck
     saved-full full = (rw (lawful, full), rw (lawful, full))
 
-    pub saved-beyond : length page < at → (savedAnswer p rs page at ≡ Refused NoRoom 0) × (savedPage p rs page at ≡ page)
-    saved-beyond h = saved-full (noRoom-beyond page at (savedText p rs) h)
+    pub saved-beyond : length page < at → (savedAnswer v p rs page at ≡ Refused NoRoom 0) × (savedPage v p rs page at ≡ page)
+    saved-beyond h = saved-full (noRoom-beyond page at (savedText v p rs) h)
 
     module _ (ten : length (p .strings) ≡ 10) (thousand : length (rs .list) ≡ 1000) where
       run-is : LawfulRun p rs
@@ -75,42 +76,43 @@ module _ (p : Plan) (rs : Releases) (page : List ℕ) (at : ℕ) where
       releases-many : length (releasesOf rs) ≡ rs .count
       releases-many = length-take-le (rs .count) (rs .list) (omega (arith, run-is .few))
 
-      pub saved-long : length (savedText p rs) ≡ 19 + p .n * 17 + rs .count * 17
+      pub saved-long : length (savedText v p rs) ≡ longAs v (p .n) (rs .count)
       unfolding savedText
-      saved-long = text-long p rs strings-many releases-many
+      saved-long = text-long v p rs strings-many releases-many
 
-      pub saved-short : length page - at < 19 + p .n * 17 + rs .count * 17
-          → (savedAnswer p rs page at ≡ Refused NoRoom 0) × (savedPage p rs page at ≡ page)
-      saved-short h = saved-full (noRoom-short page at (savedText p rs) (omega (arith, saved-long)))
+      -- long is what the code computes
+      module _ (long : ℕ) (counted : long ≡ longAs v (p .n) (rs .count)) where
+        pub saved-short : length page - at < long → (savedAnswer v p rs page at ≡ Refused NoRoom 0) × (savedPage v p rs page at ≡ page)
+        saved-short h = saved-full (noRoom-short page at (savedText v p rs) (omega (arith, saved-long)))
 
-      module _ (here : at ≤ length page) (room : 19 + p .n * 17 + rs .count * 17 ≤ length page - at) where
-        -- what the writer of the plan asks of the part that it is lent
-        pub plan-fits : PlanFits p rs (length (take (length page - at) (drop at page)))
-        unfolding savedText
-        plan-fits =
-            let long : length (take (length page - at) (drop at page)) ≡ length page - at = ap length (lent-part at page) ∙ length-drop at
-            page in
-            record {
-              strings = record { few = run-is .plan .nMax; ten = ten; bytes = omega arith };
-              releases = record { few = run-is .few; thousand = thousand; places = places; bytes = omega arith };
-              bytes = omega (arith, text-long p rs strings-many releases-many);
-            }
-          where
-            places : All (λ r. r .place ≤ 10) (releasesOf rs)
-            places =
-                all-by (λ r. r .place ≤ 10) (releasesOf rs) noRelease
-                (λ i h. omega (arith, release-lawful p (releasesOf rs) (run-is .none-bad) i h .within, strings-many, run-is .plan .nMax))
+        module _ (here : at ≤ length page) (room : long ≤ length page - at) where
+          -- what the writer of the plan asks of the part that it is lent
+          pub plan-fits : PlanFits v p rs (length (take (length page - at) (drop at page)))
+          unfolding savedText
+          plan-fits =
+              let lent : length (take (length page - at) (drop at page)) ≡ length page - at = ap length (lent-part at page)
+              ∙ length-drop at page in
+              record {
+                strings = record { some = run-is .plan .nPos; few = run-is .plan .nMax; ten = ten; bytes = omega arith };
+                releases = record { few = run-is .few; thousand = thousand; places = places; bytes = omega arith };
+                bytes = omega (arith, saved-long);
+              }
+            where
+              places : All (λ r. r .place ≤ 10) (releasesOf rs)
+              places =
+                  all-by (λ r. r .place ≤ 10) (releasesOf rs) noRelease
+                  (λ i h. omega (arith, release-lawful p (releasesOf rs) (run-is .none-bad) i h .within, strings-many, run-is .plan .nMax))
 
-        -- the part comes back with the text at its head
-        pub saved-written : (next : List ℕ)
-            → next ≡ planText version01 p (releasesOf rs)
-            ++ drop (length (planText version01 p (releasesOf rs))) (take (length page - at) (drop at page))
-            → (savedAnswer p rs page at ≡ Text (19 + p .n * 17 + rs .count * 17))
-            × (savedPage p rs page at ≡ putMid at (length page - at) page next)
-        unfolding savedAnswer savedPage saveCheck savedText
-        saved-written next got =
-            let text = planText version01 p (releasesOf rs) in
-            let fits = noRoom-fits page at text here (omega (arith, text-long p rs strings-many releases-many)) in (
-              rw (lawful, fits, text-long p rs strings-many releases-many),
-              rw (lawful, fits) (sym (lent-back at page next here ∙ rw (got, lent-part at page, drop-drop (length text) at page))),
-            )
+          -- the part comes back with the text at its head
+          pub saved-written : (next : List ℕ)
+              → next ≡ planText v p (releasesOf rs)
+              ++ drop (length (planText v p (releasesOf rs))) (take (length page - at) (drop at page))
+              → (savedAnswer v p rs page at ≡ Text long) × (savedPage v p rs page at ≡ putMid at (length page - at) page next)
+          unfolding savedAnswer savedPage saveCheck savedText
+          saved-written next got =
+              let text = planText v p (releasesOf rs) in
+              let size : length text ≡ long = saved-long ∙ sym counted in
+              let fits = noRoom-fits page at text here (omega arith) in (
+                rw (lawful, fits, size),
+                rw (lawful, fits) (sym (lent-back at page next here ∙ rw (got, lent-part at page, drop-drop (length text) at page))),
+              )

@@ -5,7 +5,8 @@
 --     cellsText cs          the digits of the cells, one after the other
 --     Room cells count k    so many cells there are, and k bytes of the page hold their line
 --     SaysFrame cells count l says    the first count of seven cells write the frame of the layout l that says so
---     StringsFit p k, ReleasesFit rs k, PlanFits p rs k    k bytes of the page hold their lines, and each number is one that a cell holds
+--     StringsFit v p k, ReleasesFit v rs k, PlanFits v p rs k    k bytes of the page hold their lines, and each number is one that a
+--                           cell holds
 use Prim.Native.Nat.{ℕ, _+_, _*_, _≤_}
 use mathlib.Core.Path.{_≡_}
 use mathlib.Core.List.{List, flatMap}
@@ -14,7 +15,7 @@ use Rattle.lists.specs.Count.{All, sumOf}
 use Rattle.rules.specs.declared.Plan.{Plan}
 use Rattle.rules.specs.declared.Releases.{Releases}
 use Rattle.rules.specs.Release.{releasesOf}
-use Rattle.rules.specs.Layout.{Field, Layout, lineSize, frameSize, version01}
+use Rattle.rules.specs.Layout.{Field, Layout, Frames, lineSize, frameSize}
 use Rattle.writing.specs.declared.cells.Cell.{Cell}
 use Rattle.writing.specs.Written.{numberBytes, byteText, frameBytes, planText}
 
@@ -40,18 +41,19 @@ pub record SaysFrame (cells : List Cell) (count : ℕ) (l : Layout) (says : Fiel
   pub size : cellsSize (take count cells) ≡ frameSize l
   pub text : cellsText (take count cells) ≡ flatMap byteText (frameBytes l says)
 
-pub record StringsFit (p : Plan) (k : ℕ) : Type 0 where
+pub record StringsFit (v : Frames) (p : Plan) (k : ℕ) : Type 0 where
+  pub some : 1 ≤ p .n
   pub few : p .n ≤ 10
   pub ten : length (p .strings) ≡ 10
-  pub bytes : p .n * lineSize (version01 .string) ≤ k
+  pub bytes : p .n * lineSize (v .string) ≤ k
 
-pub record ReleasesFit (rs : Releases) (k : ℕ) : Type 0 where
+pub record ReleasesFit (v : Frames) (rs : Releases) (k : ℕ) : Type 0 where
   pub few : rs .count ≤ 1000
   pub thousand : length (rs .list) ≡ 1000
   pub places : All (λ r. r .place ≤ 10) (releasesOf rs)
-  pub bytes : rs .count * lineSize (version01 .release) ≤ k
+  pub bytes : rs .count * lineSize (v .release) ≤ k
 
-pub record PlanFits (p : Plan) (rs : Releases) (k : ℕ) : Type 0 where
-  pub strings : StringsFit p k
-  pub releases : ReleasesFit rs k
-  pub bytes : length (planText version01 p (releasesOf rs)) ≤ k
+pub record PlanFits (v : Frames) (p : Plan) (rs : Releases) (k : ℕ) : Type 0 where
+  pub strings : StringsFit v p k
+  pub releases : ReleasesFit v rs k
+  pub bytes : length (planText v p (releasesOf rs)) ≤ k

@@ -1,4 +1,4 @@
--- The text of a plan (document 02, W-201): the frames of document 01, written from the layouts that the reader uses.
+-- The text of a plan (document 02, W-201, W-207): its frames, written from the layouts that the reader uses.
 --     numberBytes size n    n in size bytes, high byte first
 --     digitText v           the lowercase hexadecimal digit of v, which is below 16
 --     byteText b            the two digits of a byte
@@ -7,6 +7,7 @@
 --     headerSays, stringSays, releaseSays     what each field of a frame says
 --     planText v p rs       the text of a plan and its releases in the version v: the header's line, a line for each string, a line for
 --                           each release
+-- A header that says the moving cost of every string says that of the first.
 use Prim.Native.Nat.{ℕ, zero, suc, _+_, _/_, _%_}
 use mathlib.Core.Bool.{cond}
 use mathlib.Core.List.{List, [], _∷_, _++_, flatMap}
@@ -14,7 +15,7 @@ use lib.Dec.{ltb}
 use Rattle.rules.specs.declared.BatteryString.{BatteryString}
 use Rattle.rules.specs.declared.Plan.{Plan}
 use Rattle.rules.specs.declared.Release.{Release}
-use Rattle.rules.specs.Plan.{stringsOf}
+use Rattle.rules.specs.Plan.{stringsOf, stringAt}
 use Rattle.rules.specs.Layout.{Field, Layout, Frames}
 use Rattle.rules.specs.Layout as layout
 
@@ -39,7 +40,7 @@ lineText frame = flatMap byteText frame ++ (0x0a ∷ [])
 abbrev pub headerSays : ℕ → Plan → Field → ℕ
 headerSays version p layout.Version = version
 headerSays version p layout.Count = p .n
-headerSays version p layout.Moving = p .a .0
+headerSays version p layout.Moving = stringAt p 1 .a .0
 headerSays version p layout.Run = p .run .0
 headerSays version p layout.X = 0
 headerSays version p layout.T = 0
@@ -52,7 +53,7 @@ headerSays version p layout.Need = 0
 abbrev pub stringSays : BatteryString → Field → ℕ
 stringSays s layout.Version = 0
 stringSays s layout.Count = 0
-stringSays s layout.Moving = 0
+stringSays s layout.Moving = s .a .0
 stringSays s layout.Run = 0
 stringSays s layout.X = s .x
 stringSays s layout.T = s .t .0

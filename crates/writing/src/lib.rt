@@ -6,13 +6,15 @@ mod says;
 
 use faults::Checked;
 use faults::Fault;
-use layouts::HEADER_LINE;
+use layouts::NEW;
 use layouts::RELEASE_LINE;
-use layouts::STRING_LINE;
+use layouts::Version;
 use lines::put_plan;
 use rules::Plan;
 use rules::Releases;
 ghost use mathlib.Core.Path.{_≡_};
+ghost use Rattle.rules.specs.Layout.{version02};
+ghost use Rattle.layouts.specs.Versions.{framesBy, Known};
 ghost use Rattle.writing.specs.Saved.{savedAnswer, savedPage};
 
 // The length of the text that was written, or why nothing was.
@@ -21,19 +23,18 @@ pub enum Saved {
     Text { length: usize },
 }
 
-// The plan's text goes into the page from `at` on; the bytes ahead of it and behind it stay. 4 to 8 as for numbers, then 9 with 0 where
-// there is
-// no room; then no byte of the page is another.
-pub fn write(p: Plan, rs: Releases, page: &mut [u8], at: usize) -> Saved
-    ensures exact { λ r. ⌜ r ≡ savedAnswer p rs (now (page .entry)) at ⌝ }
-    ensures page { λ r. ⌜ now (page .exit) ≡ savedPage p rs (now (page .entry)) at ⌝ }
+// The plan's text in a version. In version 01 the header says the moving cost of the first string for all of them.
+fn write_in(p: Plan, rs: Releases, page: &mut [u8], at: usize, version: Version) -> Saved
+    requires { ⌜ Known version ⌝ }
+    ensures exact { λ r. ⌜ r ≡ savedAnswer (framesBy version) p rs (now (page .entry)) at ⌝ }
+    ensures page { λ r. ⌜ now (page .exit) ≡ savedPage (framesBy version) p rs (now (page .entry)) at ⌝ }
 {
     let checked = bounds::run_check(p, rs);
     match checked {
         Checked::Lawful => {
             let n = p.n;
             let count = rs.count;
-            let length = HEADER_LINE + n * STRING_LINE + count * RELEASE_LINE;
+            let length = version.header.line + n * version.string.line + count * RELEASE_LINE;
             if page.len() < at {
                 return Saved::Refused {
                     fault: Fault::NoRoom,
@@ -46,9 +47,18 @@ pub fn write(p: Plan, rs: Releases, page: &mut [u8], at: usize) -> Saved
                     at: 0,
                 };
             }
-            put_plan(&mut page[at..], p, rs);
+            put_plan(&mut page[at..], p, rs, version);
             Saved::Text { length }
         }
         Checked::Refused { fault, at } => Saved::Refused { fault, at },
     }
+}
+
+// The plan's text, in version 02, goes into the page from `at` on; the bytes ahead of it and behind it stay. 4 to 8 as for numbers, then
+// 9 with 0 where there is no room; then no byte of the page is another.
+pub fn write(p: Plan, rs: Releases, page: &mut [u8], at: usize) -> Saved
+    ensures exact { λ r. ⌜ r ≡ savedAnswer version02 p rs (now (page .entry)) at ⌝ }
+    ensures page { λ r. ⌜ now (page .exit) ≡ savedPage version02 p rs (now (page .entry)) at ⌝ }
+{
+    write_in(p, rs, page, at, NEW)
 }

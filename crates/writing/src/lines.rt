@@ -3,9 +3,8 @@ use super::cells::put_frame;
 use super::says::header_cells;
 use super::says::release_cells;
 use super::says::string_cells;
-use layouts::HEADER_LINE;
 use layouts::RELEASE_LINE;
-use layouts::STRING_LINE;
+use layouts::Version;
 use rules::Plan;
 use rules::Releases;
 ghost use mathlib.Core.Path.{_≡_};
@@ -15,28 +14,31 @@ ghost use lib.ListN.{length, drop};
 ghost use Rattle.rules.specs.Plan.{stringsOf};
 ghost use Rattle.rules.specs.Release.{releasesOf};
 ghost use Rattle.rules.specs.Layout.{version01, lineSize};
+ghost use Rattle.layouts.specs.Versions.{framesBy, Known};
 ghost use Rattle.writing.specs.Written.{stringText, releaseText, planText};
 ghost use Rattle.writing.specs.Cells.{StringsFit, ReleasesFit, PlanFits};
 
 // A line for each string.
-fn put_strings(part: &mut [u8], p: Plan)
-    requires { ⌜ StringsFit p (length (now part)) ⌝ }
-    ensures exact { λ r. ⌜ now (part .exit) ≡ flatMap (stringText version01) (stringsOf p)
-        ++ drop (length (stringsOf p) * lineSize (version01 .string)) (now (part .entry)) ⌝ }
+fn put_strings(part: &mut [u8], p: Plan, version: Version)
+    requires { ⌜ Known version ⌝ }
+    requires { ⌜ StringsFit (framesBy version) p (length (now part)) ⌝ }
+    ensures exact { λ r. ⌜ now (part .exit) ≡ flatMap (stringText (framesBy version)) (stringsOf p)
+        ++ drop (length (stringsOf p) * lineSize (framesBy version .string)) (now (part .entry)) ⌝ }
 {
     let n = p.n;
     let strings = p.strings;
+    let line = version.string.line;
     let mut i: usize = 0;
     while i < n {
         let s = strings[i];
-        put_frame(&mut part[i * STRING_LINE..], string_cells(s), 5);
+        put_frame(&mut part[i * line..], string_cells(s, version), 6);
         i += 1;
     }
 }
 
-// A line for each release.
+// A line for each release; all versions write it alike.
 fn put_releases(part: &mut [u8], rs: Releases)
-    requires { ⌜ ReleasesFit rs (length (now part)) ⌝ }
+    requires { ⌜ ReleasesFit version01 rs (length (now part)) ⌝ }
     ensures exact { λ r. ⌜ now (part .exit) ≡ flatMap (releaseText version01) (releasesOf rs)
         ++ drop (length (releasesOf rs) * lineSize (version01 .release)) (now (part .entry)) ⌝ }
 {
@@ -51,13 +53,15 @@ fn put_releases(part: &mut [u8], rs: Releases)
 }
 
 // The whole text: header, strings, releases.
-pub(crate) fn put_plan(part: &mut [u8], p: Plan, rs: Releases)
-    requires { ⌜ PlanFits p rs (length (now part)) ⌝ }
-    ensures exact { λ r. ⌜ now (part .exit) ≡ planText version01 p (releasesOf rs)
-        ++ drop (length (planText version01 p (releasesOf rs))) (now (part .entry)) ⌝ }
+pub(crate) fn put_plan(part: &mut [u8], p: Plan, rs: Releases, version: Version)
+    requires { ⌜ Known version ⌝ }
+    requires { ⌜ PlanFits (framesBy version) p rs (length (now part)) ⌝ }
+    ensures exact { λ r. ⌜ now (part .exit) ≡ planText (framesBy version) p (releasesOf rs)
+        ++ drop (length (planText (framesBy version) p (releasesOf rs))) (now (part .entry)) ⌝ }
 {
-    let n = p.n;
-    put_frame(part, header_cells(p), 5);
-    put_strings(&mut part[HEADER_LINE..], p);
-    put_releases(&mut part[HEADER_LINE + n * STRING_LINE..], rs);
+    let header = version.header.line;
+    let strings = p.n * version.string.line;
+    put_frame(part, header_cells(p, version), 5);
+    put_strings(&mut part[header..], p, version);
+    put_releases(&mut part[header + strings..], rs);
 }

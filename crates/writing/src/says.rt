@@ -1,54 +1,54 @@
 // What the frames of a plan say, cell by cell, in the layouts that the reader goes by.
 use super::cells::Cell;
-use layouts::HEADER;
 use layouts::HEADER_COUNT;
-use layouts::HEADER_MOVING;
-use layouts::HEADER_RUN;
 use layouts::HEADER_VERSION;
 use layouts::KIND;
 use layouts::RELEASE;
 use layouts::RELEASE_DAY;
 use layouts::RELEASE_NEED;
 use layouts::RELEASE_PLACE;
-use layouts::STRING;
 use layouts::STRING_C;
 use layouts::STRING_D;
 use layouts::STRING_T;
 use layouts::STRING_X;
-use layouts::VERSION;
+use layouts::Version;
 use rules::BatteryString;
 use rules::Plan;
 use rules::Release;
 ghost use Prim.Native.Nat.{_≤_};
 ghost use Rattle.rules.specs.Layout.{version01};
+ghost use Rattle.layouts.specs.Versions.{framesBy, Known};
 ghost use Rattle.writing.specs.Written.{headerSays, stringSays, releaseSays};
 ghost use Rattle.writing.specs.Cells.{SaysFrame};
 
-// The header: its kind and four fields.
-pub(crate) fn header_cells(p: Plan) -> [Cell; 7]
-    requires { ⌜ p .n ≤ 10 ⌝ }
-    ensures exact { λ r. ⌜ SaysFrame r 5 (version01 .header) (headerSays 1 p) ⌝ }
+// The header: its kind and four fields. A moving cost for all strings is that of the first.
+pub(crate) fn header_cells(p: Plan, version: Version) -> [Cell; 7]
+    requires { ⌜ Known version ⌝ }
+    requires { ⌜ (1 ≤ p .n) × (p .n ≤ 10) ⌝ }
+    ensures exact { λ r. ⌜ SaysFrame r 5 (framesBy version .header) (headerSays (framesBy version .version) p) ⌝ }
 {
+    let strings = p.strings;
+    let first = strings[0];
     let none = Cell { size: 0, value: 0 };
     [
         Cell {
             size: KIND.size,
-            value: HEADER.kind,
+            value: version.header.kind,
         },
         Cell {
             size: HEADER_VERSION.size,
-            value: VERSION,
+            value: version.number,
         },
         Cell {
             size: HEADER_COUNT.size,
             value: p.n as u32,
         },
         Cell {
-            size: HEADER_MOVING.size,
-            value: p.a.0,
+            size: version.common.size,
+            value: first.a.0,
         },
         Cell {
-            size: HEADER_RUN.size,
+            size: version.run.size,
             value: p.run.0,
         },
         none,
@@ -56,15 +56,16 @@ pub(crate) fn header_cells(p: Plan) -> [Cell; 7]
     ]
 }
 
-// A string: its kind and four fields.
-pub(crate) fn string_cells(s: BatteryString) -> [Cell; 7]
-    ensures exact { λ r. ⌜ SaysFrame r 5 (version01 .string) (stringSays s) ⌝ }
+// A string: its kind and five fields.
+pub(crate) fn string_cells(s: BatteryString, version: Version) -> [Cell; 7]
+    requires { ⌜ Known version ⌝ }
+    ensures exact { λ r. ⌜ SaysFrame r 6 (framesBy version .string) (stringSays s) ⌝ }
 {
     let none = Cell { size: 0, value: 0 };
     [
         Cell {
             size: KIND.size,
-            value: STRING.kind,
+            value: version.string.kind,
         },
         Cell {
             size: STRING_X.size,
@@ -82,7 +83,10 @@ pub(crate) fn string_cells(s: BatteryString) -> [Cell; 7]
             size: STRING_D.size,
             value: s.d.0,
         },
-        none,
+        Cell {
+            size: version.own.size,
+            value: s.a.0,
+        },
         none,
     ]
 }

@@ -3,15 +3,18 @@
 use super::sheet::{Kind, Sheet};
 use crate::chance::Chance;
 
-/// Bytes of a header line with its 0a, and of a string's or a release's line.
+/// Bytes of the longest header line with its 0a, of the longest string's line and of a release's.
 const HEADER: u64 = 19;
-const OTHER: u64 = 17;
-const POSITIONS: u64 = HEADER + OTHER + OTHER;
+const STRING: u64 = 21;
+const RELEASE: u64 = 17;
+const POSITIONS: u64 = HEADER + STRING + RELEASE;
 
+/// A version's shorter line has its first positions twice.
 pub fn one_byte(chance: &mut Chance, turn: u64) -> Vec<u8> {
     let mut sheet = Sheet::draw(chance);
     let (kind, at) = position(turn % POSITIONS);
     let line = sheet.line_of(chance, kind);
+    let at = at % sheet.lines[line].len();
     sheet.lines[line][at] = (turn / POSITIONS % 256) as u8;
     sheet.text()
 }
@@ -19,10 +22,10 @@ pub fn one_byte(chance: &mut Chance, turn: u64) -> Vec<u8> {
 fn position(number: u64) -> (Kind, usize) {
     let (kind, at) = if number < HEADER {
         (Kind::Header, number)
-    } else if number < HEADER + OTHER {
+    } else if number < HEADER + STRING {
         (Kind::String, number - HEADER)
     } else {
-        (Kind::Release, number - HEADER - OTHER)
+        (Kind::Release, number - HEADER - STRING)
     };
     (kind, at as usize)
 }

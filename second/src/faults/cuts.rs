@@ -3,10 +3,6 @@
 use super::sheet::{Kind, Sheet};
 use crate::chance::Chance;
 
-/// Digits in a header line, and in a string's or a release's line.
-const HEADER: u64 = 18;
-const OTHER: u64 = 16;
-
 /// The text cut off anywhere, in turn at each length.
 pub fn text_cut(chance: &mut Chance, turn: u64) -> Vec<u8> {
     let mut text = Sheet::draw(chance).text();
@@ -14,16 +10,14 @@ pub fn text_cut(chance: &mut Chance, turn: u64) -> Vec<u8> {
     text
 }
 
-/// One line cut to each length in turn, its 0a kept.
+/// A line of each kind cut to each length in turn, its 0a kept.
 pub fn line_cut(chance: &mut Chance, turn: u64) -> Vec<u8> {
     let mut sheet = Sheet::draw(chance);
-    let (kind, kept) = match turn % (HEADER + OTHER + OTHER) {
-        number if number < HEADER => (Kind::Header, number),
-        number if number < HEADER + OTHER => (Kind::String, number - HEADER),
-        number => (Kind::Release, number - HEADER - OTHER),
-    };
-    let line = sheet.line_of(chance, kind);
-    cut(&mut sheet.lines[line], kept as usize);
+    let kind = [Kind::Header, Kind::String, Kind::Release][turn as usize % 3];
+    let at = sheet.line_of(chance, kind);
+    let line = &mut sheet.lines[at];
+    let digits = line.len() - 1;
+    cut(line, turn as usize / 3 % digits);
     sheet.text()
 }
 

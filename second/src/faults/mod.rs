@@ -10,3 +10,4 @@ pub mod releases;
 pub mod several;
 pub mod sheet;
 pub mod values;
+pub mod versions;

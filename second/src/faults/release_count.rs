@@ -11,7 +11,8 @@ const MOST: usize = 1_000;
 /// About 1,000 releases with each fault in turn, mostly at the 1,001st.
 pub fn many_releases(chance: &mut Chance, turn: u64) -> Vec<u8> {
     let count = MOST + chance.pick(&[0, 1, 1, 2, 3]) - chance.index(2);
-    let mut sheet = Sheet::of(dense_plan(chance, count));
+    let plan = dense_plan(chance, count);
+    let mut sheet = Sheet::of(chance, plan);
     let last = sheet.plan.strings.len() + MOST;
     let line = last + chance.pick(&[0, 1, 1, 1, 2]);
     if line < sheet.lines.len() {
@@ -27,7 +28,13 @@ fn dense_plan(chance: &mut Chance, count: usize) -> Plan {
             let t = chance.between(1, 8);
             let d = chance.between(1, t);
             let c = chance.pick(&[1, 1, (d + 1) / 2]);
-            BatteryString { x: 0, t, c, d }
+            BatteryString {
+                x: 0,
+                t,
+                c,
+                d,
+                moving: 0,
+            }
         })
         .collect();
     let mut plan = with_permissions(chance, strings);

@@ -45,7 +45,7 @@ pub fn one_release(chance: &mut Chance, turn: u64) -> Vec<u8> {
     }
     let at = chance.index(plan.releases.len());
     CHANGES[turn as usize % CHANGES.len()](&mut plan, at);
-    writing::text(&plan)
+    writing::any_text(chance, &plan)
 }
 
 /// Any change to any release of a sheet, whatever else is wrong with it.

@@ -5,7 +5,8 @@ use super::sheet::{Kind, Sheet};
 use super::{lines, releases};
 use crate::chance::Chance;
 use crate::writing::{
-    put, Field, C, COUNT, D, DAY, DAYS, KIND, MOVING, NEED, PLACE, T, VERSION, X,
+    put, Field, Version, C, COUNT, D, DAY, DAYS, KIND, MOVING, NEED, OLD_DAYS, OLD_MOVING, PLACE,
+    T, VERSION, X,
 };
 
 /// Two to four faults; often on one line, where 2, 3, 4 and 5, or 2, 3 and 8, compete.
@@ -41,7 +42,7 @@ fn part_periods(sheet: &mut Sheet) {
 }
 
 fn spoil_line(chance: &mut Chance, sheet: &mut Sheet, at: usize) {
-    let kind = sheet.kind(at);
+    let fields = fields(sheet.kind(at), sheet.version);
     let line = &mut sheet.lines[at];
     match chance.below(10) {
         0 => cut(line, chance.index(18)),
@@ -54,17 +55,19 @@ fn spoil_line(chance: &mut Chance, sheet: &mut Sheet, at: usize) {
             line[digit] = chance.byte();
         }
         _ => {
-            let field = chance.pick(fields(kind));
+            let field = chance.pick(fields);
             put(line, field, wrong_value(chance));
         }
     }
 }
 
-fn fields(kind: Kind) -> &'static [Field] {
-    match kind {
-        Kind::Header => &[KIND, VERSION, COUNT, MOVING, DAYS],
-        Kind::String => &[KIND, X, T, C, D],
-        Kind::Release => &[KIND, PLACE, DAY, NEED],
+fn fields(kind: Kind, version: Version) -> &'static [Field] {
+    match (kind, version) {
+        (Kind::Header, Version::Old) => &[KIND, VERSION, COUNT, OLD_MOVING, OLD_DAYS],
+        (Kind::Header, Version::New) => &[KIND, VERSION, COUNT, DAYS],
+        (Kind::String, Version::Old) => &[KIND, X, T, C, D],
+        (Kind::String, Version::New) => &[KIND, X, T, C, D, MOVING],
+        (Kind::Release, _) => &[KIND, PLACE, DAY, NEED],
     }
 }
 

@@ -3,7 +3,7 @@
 use crate::chance::Chance;
 use crate::plans::{releases, strings};
 use crate::rules::plan::Plan;
-use crate::writing;
+use crate::writing::{self, Version};
 
 /// The three kinds of line, in the order of the file.
 #[derive(Clone, Copy, PartialEq)]
@@ -15,6 +15,7 @@ pub enum Kind {
 
 pub struct Sheet {
     pub plan: Plan,
+    pub version: Version,
     /// Each with its 0a. A fault changes these and leaves the plan as it was.
     pub lines: Vec<Vec<u8>>,
 }
@@ -31,12 +32,18 @@ impl Sheet {
             let most = chance.between(1, 8) as usize;
             releases::fill(chance, &mut plan, most);
         }
-        Sheet::of(plan)
+        Sheet::of(chance, plan)
     }
 
-    pub fn of(plan: Plan) -> Sheet {
-        let lines = writing::lines(&plan);
-        Sheet { plan, lines }
+    /// The plan in either version.
+    pub fn of(chance: &mut Chance, plan: Plan) -> Sheet {
+        let version = writing::any_version(chance, &plan);
+        let lines = writing::lines(&plan, version);
+        Sheet {
+            plan,
+            version,
+            lines,
+        }
     }
 
     pub fn text(&self) -> Vec<u8> {

@@ -3,7 +3,7 @@
 use super::sheet::{Kind, Sheet};
 use crate::chance::Chance;
 use crate::rules::plan::BatteryString;
-use crate::writing::{put, Field, C, COUNT, D, DAYS, KIND, MOVING, T, VERSION, X};
+use crate::writing::{put, Field, Version, C, COUNT, D, KIND, MOVING, OLD_MOVING, T, VERSION, X};
 
 /// Every value of n in turn.
 pub fn count(chance: &mut Chance, turn: u64) -> Vec<u8> {
@@ -26,32 +26,41 @@ pub fn kind_or_version(chance: &mut Chance, turn: u64) -> Vec<u8> {
     sheet.text()
 }
 
-/// A and N on each side of each of their bounds.
+/// N, and A where the header says it, on each side of each of their bounds.
 pub fn header_bounds(chance: &mut Chance, turn: u64) -> Vec<u8> {
-    const EDGES: [(Field, u64); 15] = [
-        (MOVING, 0),
-        (MOVING, 1),
-        (MOVING, 999),
-        (MOVING, 1_000),
-        (MOVING, 1_001),
-        (MOVING, 0x8000),
-        (MOVING, 0xffff),
-        (DAYS, 0),
-        (DAYS, 1),
-        (DAYS, 999_999),
-        (DAYS, 1_000_000),
-        (DAYS, 1_000_001),
-        (DAYS, 0x0100_0000),
-        (DAYS, 0x8000_0000),
-        (DAYS, 0xffff_ffff),
+    const DAYS: [u64; 8] = [
+        0,
+        1,
+        999_999,
+        1_000_000,
+        1_000_001,
+        0x0100_0000,
+        0x8000_0000,
+        0xffff_ffff,
     ];
     let mut sheet = Sheet::draw(chance);
-    let (field, value) = EDGES[turn as usize % EDGES.len()];
-    put(&mut sheet.lines[0], field, value);
+    let turn = turn as usize % (MOVING_EDGES.len() + DAYS.len());
+    match MOVING_EDGES.get(turn) {
+        Some(value) if sheet.version == Version::Old => {
+            put(&mut sheet.lines[0], OLD_MOVING, *value);
+        }
+        Some(value) => {
+            let line = sheet.line_of(chance, Kind::String);
+            put(&mut sheet.lines[line], MOVING, *value);
+        }
+        None => {
+            let field = sheet.version.days();
+            put(&mut sheet.lines[0], field, DAYS[turn - MOVING_EDGES.len()]);
+        }
+    }
     sheet.text()
 }
 
-/// X, T, C and D on each side of each of their bounds, those by the other numbers too.
+/// A moving cost on each side of each of its bounds.
+const MOVING_EDGES: [u64; 7] = [0, 1, 999, 1_000, 1_001, 0x8000, 0xffff];
+
+/// X, T, C, D and a moving cost of its own on each side of each of their bounds, those by the other
+/// numbers too. In version 01 a string has no such cost.
 pub fn string_bounds(chance: &mut Chance, turn: u64) -> Vec<u8> {
     let mut sheet = Sheet::draw(chance);
     let at = chance.index(sheet.plan.strings.len());
@@ -77,6 +86,10 @@ fn string_edges(string: &BatteryString) -> Vec<Vec<(Field, u64)>> {
     }
     for value in [0, 1, c - 1, c, c + 1, t - 1, t, t + 1, 1_001, 0xffff] {
         edges.push(vec![(D, value)]);
+    }
+    for value in MOVING_EDGES {
+        edges.push(vec![(MOVING, value)]);
+        edges.push(vec![(MOVING, value), (X, 1)]);
     }
     for value in [0, 1, 999, 1_000, 1_001] {
         edges.push(vec![(T, value), (D, value)]);

@@ -12,7 +12,7 @@ use crate::rules::search::search;
 enum Knob {
     MoreWork(usize),
     EarlierDeadline(usize),
-    MoreMoving,
+    MoreMoving(usize),
 }
 
 /// A plan that passes, and the same plan one step harder, which fails or is overloaded.
@@ -61,8 +61,8 @@ fn eased(mut plan: Plan) -> Option<Plan> {
         if let Some(set) = search(&plan, cycle) {
             return Some(plan.with_set(set));
         }
-        plan.moving /= 2;
         for string in &mut plan.strings {
+            string.moving /= 2;
             string.c = (string.c + 1) / 2;
         }
     }
@@ -74,14 +74,14 @@ fn any_knob(chance: &mut Chance, plan: &Plan) -> Knob {
     match chance.below(4) {
         0 | 1 => Knob::MoreWork(at),
         2 => Knob::EarlierDeadline(at),
-        _ => Knob::MoreMoving,
+        _ => Knob::MoreMoving(at),
     }
 }
 
 fn most_steps(plan: &Plan, knob: Knob) -> Length {
     match knob {
         Knob::MoreWork(at) | Knob::EarlierDeadline(at) => plan.strings[at].d - plan.strings[at].c,
-        Knob::MoreMoving => 1_000 - plan.moving,
+        Knob::MoreMoving(at) => 1_000 - plan.strings[at].moving,
     }
 }
 
@@ -90,7 +90,7 @@ fn turned(plan: &Plan, knob: Knob, steps: Length) -> Plan {
     match knob {
         Knob::MoreWork(at) => plan.strings[at].c += steps,
         Knob::EarlierDeadline(at) => plan.strings[at].d -= steps,
-        Knob::MoreMoving => plan.moving += steps,
+        Knob::MoreMoving(at) => plan.strings[at].moving += steps,
     }
     plan
 }

@@ -21,6 +21,7 @@ pub fn near_bound(chance: &mut Chance) -> Plan {
             t,
             c: chance.between(1, (t + 7) / 8),
             d: t,
+            moving: 0,
         })
         .collect();
     with_permissions(chance, strings)

@@ -1,6 +1,6 @@
 //! Plans near the ends of what a file can hold.
 
-use super::strings::{cost, mixed, with_permissions};
+use super::strings::{cost, draw_moving, mixed, with_permissions};
 use crate::chance::Chance;
 use crate::rules::plan::{BatteryString, Length, Plan};
 
@@ -22,11 +22,19 @@ pub fn upper_bounds(chance: &mut Chance) -> Plan {
             let t = chance.pick(&[1, 2, 500, 1_000, 1_000]);
             let d: Length = chance.pick(&[1, t, t, t]);
             let c = chance.pick(&[1, 1, d, (d + count - 1) / count]);
-            BatteryString { x: 0, t, c, d }
+            BatteryString {
+                x: 0,
+                t,
+                c,
+                d,
+                moving: 0,
+            }
         })
         .collect();
     let mut plan = with_permissions(chance, strings);
-    plan.moving = chance.pick(&[0, 1, 500, 999, 1_000]);
+    draw_moving(chance, &mut plan, |chance| {
+        chance.pick(&[0, 1, 500, 999, 1_000])
+    });
     plan
 }
 
@@ -42,9 +50,10 @@ pub fn largest_load(chance: &mut Chance) -> Plan {
             t,
             c: t,
             d: t,
+            moving: 0,
         })
         .collect();
     let mut plan = with_permissions(chance, strings);
-    plan.moving = 1_000 - chance.below(2);
+    draw_moving(chance, &mut plan, |chance| 1_000 - chance.below(2));
     plan
 }

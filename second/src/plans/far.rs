@@ -1,7 +1,7 @@
 //! Plans in which something happens far out: late days, late breaks of the rule, many pairs.
 
 use super::releases;
-use super::strings::{mixed, without_run};
+use super::strings::{draw_moving, mixed, without_run};
 use crate::chance::Chance;
 use crate::rules::plan::{BatteryString, Length, Plan, Release};
 
@@ -48,32 +48,37 @@ pub fn late_fail(chance: &mut Chance) -> Plan {
         t: number * step,
         c: number * part,
         d: number * step - step,
+        moving: 0,
     };
     let other = BatteryString {
         x: chance.below(2),
         t: (number + 1) * step,
         c: (number + 1) * (step - part) - chance.below(2),
         d: (number + 1) * step,
+        moving: 0,
     };
-    without_run(chance, 0, vec![first, other])
+    without_run(chance, vec![first, other])
 }
 
 /// A long job that can stand in the way of a short one for hundreds of days: hundreds of
 /// thousands of pairs.
 pub fn many_pairs(chance: &mut Chance) -> Plan {
     let (t, other) = chance.pick(&[(1_000, 1_000), (1_000, 500), (813, 369), (960, 480)]);
-    let moving = chance.below(5);
     let urgent = BatteryString {
         x: 1,
         t: other,
         c: chance.between(1, 4),
         d: chance.between(10, 40),
+        moving: 0,
     };
     let long = BatteryString {
         x: 0,
         t,
         c: t - chance.between(40, 100),
         d: t,
+        moving: 0,
     };
-    without_run(chance, moving, vec![urgent, long])
+    let mut plan = without_run(chance, vec![urgent, long]);
+    draw_moving(chance, &mut plan, |chance| chance.below(5));
+    plan
 }

@@ -1,6 +1,6 @@
 //! Strings shaped so that a certain part of the rules matters.
 
-use super::strings::with_permissions;
+use super::strings::{draw_moving, with_permissions};
 use crate::chance::Chance;
 use crate::rules::plan::{BatteryString, Length, Plan};
 
@@ -16,11 +16,8 @@ pub fn contrast(chance: &mut Chance) -> Plan {
     }
     chance.shuffle(&mut strings);
     let mut plan = with_permissions(chance, strings);
-    plan.moving = if chance.one_in(4) {
-        chance.between(0, base)
-    } else {
-        chance.below(4)
-    };
+    let most = if chance.one_in(4) { base } else { 3 };
+    draw_moving(chance, &mut plan, |chance| chance.between(0, most));
     plan
 }
 
@@ -28,14 +25,26 @@ fn short_string(chance: &mut Chance, base: Length) -> BatteryString {
     let t = base * chance.pick(&[1, 2, 2, 4]);
     let c = chance.between(1, base / 4);
     let d = chance.between(c + 1, t.min(base));
-    BatteryString { x: 0, t, c, d }
+    BatteryString {
+        x: 0,
+        t,
+        c,
+        d,
+        moving: 0,
+    }
 }
 
 fn long_string(chance: &mut Chance, base: Length) -> BatteryString {
     let t = base * chance.pick(&[4, 6, 8, 12, 24]);
     let c = chance.between(base / 2, base);
     let d = chance.between(t / 2, t);
-    BatteryString { x: 0, t, c, d }
+    BatteryString {
+        x: 0,
+        t,
+        c,
+        d,
+        moving: 0,
+    }
 }
 
 /// Strings that together are a little too slow behind one long job. Any of them whose work adds
@@ -55,6 +64,7 @@ pub fn choices(chance: &mut Chance) -> Plan {
             t: d * chance.pick(&[3, 4, 6]),
             c,
             d: d + chance.below(2),
+            moving: 0,
         })
         .collect();
     let long = BatteryString {
@@ -62,10 +72,11 @@ pub fn choices(chance: &mut Chance) -> Plan {
         t: 12 * d,
         c: (d + excess).saturating_sub(work).max(1),
         d: d * chance.between(4, 12),
+        moving: 0,
     };
     strings.insert(chance.index(strings.len() + 1), long);
     let mut plan = with_permissions(chance, strings);
-    plan.moving = chance.below(2);
+    draw_moving(chance, &mut plan, |chance| chance.below(2));
     plan
 }
 
@@ -80,6 +91,7 @@ pub fn equal_deadlines(chance: &mut Chance) -> Plan {
             t: long * chance.pick(&[1, 2, 3, 4]),
             c: chance.between(1, (short + 1) / 2),
             d: chance.pick(&[short, long]),
+            moving: 0,
         })
         .collect();
     with_permissions(chance, strings)
@@ -100,7 +112,7 @@ pub fn ten_strings(chance: &mut Chance) -> Plan {
         .collect();
     chance.shuffle(&mut strings);
     let mut plan = with_permissions(chance, strings);
-    plan.moving = chance.below(3);
+    draw_moving(chance, &mut plan, |chance| chance.below(3));
     plan
 }
 
@@ -110,6 +122,7 @@ fn urgent_string(chance: &mut Chance, base: Length) -> BatteryString {
         t: base * chance.pick(&[2, 4]),
         c: chance.between(1, 2),
         d: chance.between(base / 3, base),
+        moving: 0,
     }
 }
 
@@ -120,5 +133,6 @@ fn patient_string(chance: &mut Chance, base: Length) -> BatteryString {
         t,
         c: chance.between(2, base / 2),
         d: chance.between(t / 2, t),
+        moving: 0,
     }
 }

@@ -1,4 +1,4 @@
-//! Strings by chance: periods, work, deadlines, permissions and the moving cost.
+//! Strings by chance: periods, work, deadlines, permissions and moving costs.
 
 use crate::chance::Chance;
 use crate::rules::plan::{BatteryString, Length, Plan};
@@ -17,8 +17,8 @@ pub fn cost(plan: &Plan) -> u64 {
     };
     let count = plan.strings.len() as u64;
     let longest = plan.largest_d();
-    let work = plan.strings.iter().map(|s| s.c).max().unwrap_or(0);
-    let blocking = longest.min(work + plan.moving);
+    let hold = plan.strings.iter().map(|s| s.c + s.moving).max();
+    let blocking = longest.min(hold.unwrap_or(0));
     let pairs = cycle + longest + (longest - plan.smallest_d()) * blocking;
     (pairs * count) << count
 }
@@ -50,14 +50,14 @@ fn draw(chance: &mut Chance, count: u64) -> Plan {
     with_permissions(chance, strings)
 }
 
-/// Puts a moving cost and permissions to strings.
+/// Puts moving costs and permissions to strings: one cost for all, or each its own.
 pub fn with_permissions(chance: &mut Chance, strings: Vec<BatteryString>) -> Plan {
-    let plan = Plan {
-        moving: moving(chance),
+    let mut plan = Plan {
         days: 1,
         strings,
         releases: Vec::new(),
     };
+    draw_moving(chance, &mut plan, moving);
     let all = (1 << plan.strings.len()) - 1;
     let set = match chance.below(4) {
         0 => 0,
@@ -101,16 +101,32 @@ fn string(chance: &mut Chance, t: Length, load: u64, count: u64) -> BatteryStrin
         1 => chance.between((c + t) / 2, t),
         _ => t,
     };
-    BatteryString { x: 0, t, c, d }
+    BatteryString {
+        x: 0,
+        t,
+        c,
+        d,
+        moving: 0,
+    }
 }
 
 /// A plan of these strings in any order, for the verdict and the search: nothing is released.
-pub fn without_run(chance: &mut Chance, moving: Length, mut strings: Vec<BatteryString>) -> Plan {
+pub fn without_run(chance: &mut Chance, mut strings: Vec<BatteryString>) -> Plan {
     chance.shuffle(&mut strings);
     Plan {
-        moving,
         days: 1,
         strings,
         releases: Vec::new(),
+    }
+}
+
+/// Gives all strings one moving cost, or each its own, drawn alike.
+pub fn draw_moving(chance: &mut Chance, plan: &mut Plan, draw: impl Fn(&mut Chance) -> Length) {
+    let moving = draw(chance);
+    plan.set_moving(moving);
+    if chance.one_in(2) {
+        for string in &mut plan.strings {
+            string.moving = draw(chance);
+        }
     }
 }

@@ -1,5 +1,6 @@
 //! Plans in which the bank is taken, and it matters who pays and who gets it next.
 
+use super::strings::draw_moving;
 use crate::chance::Chance;
 use crate::rules::plan::{BatteryString, Length, Plan, Release};
 
@@ -32,6 +33,7 @@ fn string(chance: &mut Chance, x: u64, d: (u64, u64), c: (u64, u64)) -> BatteryS
         t: 120,
         c: chance.between(c.0, c.1),
         d: chance.between(d.0, d.1),
+        moving: 0,
     }
 }
 
@@ -51,10 +53,11 @@ fn plan_of(chance: &mut Chance, mut visits: Vec<Visit>) -> Plan {
     chance.shuffle(&mut releases);
     releases.sort_by_key(|release| release.day);
     let most = chance.pick(&[12, 30, 140]);
-    Plan {
-        moving: chance.below(6),
+    let mut plan = Plan {
         days: start + chance.between(6, most),
         strings: visits.into_iter().map(|(string, _)| string).collect(),
         releases,
-    }
+    };
+    draw_moving(chance, &mut plan, |chance| chance.below(6));
+    plan
 }

@@ -1,4 +1,4 @@
-//! Reading a plan file: its lines and frames, and the refusal table.
+//! Reading a plan file of version 01 or 02: its lines and frames, and the refusal table.
 
 use super::plan::{BatteryString, Plan, Release};
 
@@ -19,9 +19,9 @@ pub fn read(text: &[u8]) -> Result<Plan, Refusal> {
     }
     // Each piece keeps its 0a, so that the last one can be seen to lack it.
     let lines: Vec<&[u8]> = text.split_inclusive(|byte| *byte == b'\n').collect();
-    let (count, mut plan) = read_header(&lines)?;
+    let (count, moving, mut plan) = read_header(&lines)?;
     for line in 2..=count + 1 {
-        plan.strings.push(read_string(&lines, line)?);
+        plan.strings.push(read_string(&lines, line, moving)?);
     }
     require(plan.cycle().is_some(), 6, count + 1)?;
     for line in count + 2..=lines.len() {
@@ -39,34 +39,50 @@ fn require(holds: bool, number: usize, line: usize) -> Result<(), Refusal> {
     }
 }
 
-fn read_header(lines: &[&[u8]]) -> Result<(usize, Plan), Refusal> {
-    let frame = frame_of(lines, 1, 0x01, 9)?;
-    require(frame[1] == 0x01, 3, 1)?;
+/// The count of strings, the moving cost that the header says for all of them, if it does, and the
+/// plan without strings and releases. In version 02 each string says its own.
+fn read_header(lines: &[&[u8]]) -> Result<(usize, Option<u64>, Plan), Refusal> {
+    let second = lines
+        .first()
+        .and_then(|line| bytes_of(line)?.get(1).copied());
+    let own = second == Some(0x02);
+    let frame = frame_of(lines, 1, 0x01, if own { 7 } else { 9 })?;
+    require(own || frame[1] == 0x01, 3, 1)?;
     let count = usize::from(frame[2]);
     require((1..=10).contains(&count), 4, 1)?;
+    let (moving, days) = if own {
+        (None, number(&frame[3..7]))
+    } else {
+        (Some(number(&frame[3..5])), number(&frame[5..9]))
+    };
+    let bounded = moving.map_or(true, |moving| moving <= 1_000) && (1..=1_000_000).contains(&days);
+    require(bounded, 5, 1)?;
     let plan = Plan {
-        moving: number(&frame[3..5]),
-        days: number(&frame[5..9]),
+        days,
         strings: Vec::new(),
         releases: Vec::new(),
     };
-    let bounded = plan.moving <= 1_000 && (1..=1_000_000).contains(&plan.days);
-    require(bounded, 5, 1)?;
-    Ok((count, plan))
+    Ok((count, moving, plan))
 }
 
-fn read_string(lines: &[&[u8]], line: usize) -> Result<BatteryString, Refusal> {
-    let frame = frame_of(lines, line, 0x02, 8)?;
+fn read_string(
+    lines: &[&[u8]],
+    line: usize,
+    moving: Option<u64>,
+) -> Result<BatteryString, Refusal> {
+    let frame = frame_of(lines, line, 0x02, if moving.is_some() { 8 } else { 10 })?;
     let string = BatteryString {
         x: number(&frame[1..2]),
         t: number(&frame[2..4]),
         c: number(&frame[4..6]),
         d: number(&frame[6..8]),
+        moving: moving.unwrap_or_else(|| number(&frame[8..10])),
     };
     let bounded = string.x <= 1
         && (1..=1_000).contains(&string.t)
         && (1..=string.t).contains(&string.d)
-        && (1..=string.d).contains(&string.c);
+        && (1..=string.d).contains(&string.c)
+        && string.moving <= 1_000;
     require(bounded, 5, line)?;
     Ok(string)
 }

@@ -11,8 +11,8 @@ pub type Length = u64;
 /// The most that H may be.
 pub const LONGEST_CYCLE: Length = 100_000;
 
-/// One string. The letters are those of document 01.
-#[derive(Clone, Debug)]
+/// One string. The letters are those of document 01; A is each string's own (document 02, W-207).
+#[derive(Clone, Debug, PartialEq)]
 pub struct BatteryString {
     /// 1: its jobs may take the bank, 0: they may not.
     pub x: u64,
@@ -22,9 +22,11 @@ pub struct BatteryString {
     pub c: Length,
     /// Days from release to deadline.
     pub d: Length,
+    /// A, the moving days that a taker of this string pays.
+    pub moving: Length,
 }
 
-#[derive(Clone, Debug)]
+#[derive(Clone, Debug, PartialEq)]
 pub struct Release {
     /// Counted from 1. In a plan not yet read it may name no string.
     pub place: u64,
@@ -32,10 +34,8 @@ pub struct Release {
     pub need: Length,
 }
 
-#[derive(Clone, Debug)]
+#[derive(Clone, Debug, PartialEq)]
 pub struct Plan {
-    /// A, the moving days that a taker pays.
-    pub moving: Length,
     /// N, the days of the run.
     pub days: Length,
     pub strings: Vec<BatteryString>,
@@ -45,7 +45,7 @@ pub struct Plan {
 impl Plan {
     /// E: the most days for which a job of this string can hold the bank.
     pub fn hold(&self, string: &BatteryString) -> Length {
-        string.c + self.moving * string.x
+        string.c + string.moving * string.x
     }
 
     /// H, or nothing if it is over its bound.
@@ -67,6 +67,20 @@ impl Plan {
 
     pub fn largest_d(&self) -> Length {
         self.strings.iter().map(|s| s.d).max().unwrap_or(0)
+    }
+
+    /// The moving cost of all strings, if they have one.
+    pub fn common_moving(&self) -> Option<Length> {
+        let first = self.strings.first()?.moving;
+        let same = |string: &BatteryString| string.moving == first;
+        self.strings.iter().all(same).then_some(first)
+    }
+
+    /// Gives every string the same moving cost.
+    pub fn set_moving(&mut self, moving: Length) {
+        for string in &mut self.strings {
+            string.moving = moving;
+        }
     }
 
     /// The same plan with the permissions of a set: place 1 is worth 1, place 2 is worth 2, ...

@@ -54,7 +54,7 @@ pub fn run(plan: &Plan) -> Outcome {
         while let Some(release) = releases.next_if(|release| release.day == day) {
             hall.waiting.push(job(plan, release));
         }
-        hall.take_bank(day, plan.moving);
+        hall.take_bank(day, plan);
         hall.give_bank();
         match hall.use_day() {
             Use::Work => work += 1,
@@ -94,8 +94,9 @@ impl Hall {
             .min()
     }
 
-    /// Step 3: a taker released today with a strictly earlier deadline stops the job on the bank.
-    fn take_bank(&mut self, today: Day, cost: Length) {
+    /// Step 3: a taker released today with a strictly earlier deadline stops the job on the bank,
+    /// and pays its own string's cost.
+    fn take_bank(&mut self, today: Day, plan: &Plan) {
         let stopped = match &self.bank {
             Some(job) => job,
             None => return,
@@ -106,7 +107,7 @@ impl Hall {
             .filter(|job| job.taker && job.release == today && job.deadline < stopped.deadline)
             .min_by_key(|job| (job.deadline, job.place));
         if let Some(payer) = payer {
-            payer.moving += cost;
+            payer.moving += plan.strings[payer.place as usize - 1].moving;
             self.waiting.extend(self.bank.take());
         }
     }

@@ -1,4 +1,4 @@
--- `bounds::plan_check` meets its contract: n, A and N decide first, then the strings and H.
+-- `bounds::plan_check` meets its contract: n and N decide first, then the strings and H.
 use mathlib.Core.Path.{sym, _∙_}
 use borrow.Author.Needs.{needs}
 use Rattle.rules.specs.Refusal.{planCheck}

@@ -1,4 +1,4 @@
--- `bounds::set_check` meets its contract: n, A and N decide first, then the set, then the strings and H.
+-- `bounds::set_check` meets its contract: n and N decide first, then the set, then the strings and H.
 use Prim.Native.Nat.{ℕ, _^_, _≤_, _<_}
 use mathlib.Core.Path.{_≡_, sym, _∙_}
 use native.Mathlib.Omega.{arith}
@@ -16,7 +16,7 @@ use Rattle.laws.proofs.Powers.{shift-is-sets}
 use Rattle.bounds.proofs.set_check.Statement.{statement}
 use Rattle.bounds.proofs.set_check.Tie as tie
 
-module _ (p : Plan) (m : ℕ) (h : headCheck 0 (p .n) (p .a .0) (p .run .0) ≡ Lawful) where
+module _ (p : Plan) (m : ℕ) (h : headCheck 0 (p .n) (p .run .0) ≡ Lawful) where
   set-refuses : 2 ^ p .n ≤ m → setCheck p m ≡ Refused OutOfBounds 0
   unfolding setCheck
   set-refuses k = then-lawful _ _ h ∙ rw (le-leb (2 ^ p .n) m k)
@@ -29,11 +29,11 @@ abbrev planOf : tie.After-enum-told → Plan
 planOf c = c .before .before .before .args .p
 
 -- what the head said
-lawful : (c : tie.After-enum-told) → headCheck 0 (planOf c .n) (planOf c .a .0) (planOf c .run .0) ≡ Lawful
+lawful : (c : tie.After-enum-told) → headCheck 0 (planOf c .n) (planOf c .run .0) ≡ Lawful
 lawful c = sym (c .before .before .head-check .ensures) ∙ c .enum-told .given .1
 
 few : (c : tie.After-enum-told) → planOf c .n ≤ 10
-few c = headCheck-lawful _ _ _ _ (lawful c) .nMax
+few c = headCheck-lawful _ _ _ (lawful c) .nMax
 
 head-check-requires : tie.Need-head-check-requires
 head-check-requires c κs = search needs

@@ -1,77 +1,57 @@
--- `reading::read` meets its contract: the length decides first, then the first line, then the body.
-use Prim.Native.Nat.{ℕ}
-use mathlib.Core.Path.{_≡_, refl, sym, _∙_}
-use mathlib.Core.List.{List}
+-- `reading::read` meets its contract: the first line names the version that the text is held to.
+use mathlib.Core.Path.{refl, sym, _∙_}
 use native.Mathlib.Omega.{arith}
 use borrow.Author.Needs.{needs}
-use Rattle.faults.specs.declared.Checked.the-variants.{Lawful}
-use Rattle.rules.specs.Layout.{version01}
-use Rattle.rules.specs.Text.{headerCheck}
-use Rattle.reading.specs.Positions.{lineAt}
-use Rattle.reading.proofs.Whole.{header-read, read-long, read-empty, read-refused, read-body}
+use Rattle.reading.proofs.Choosing.{held-short, held-new, held-old}
 use Rattle.reading.proofs.read.Statement.{statement}
 use Rattle.reading.proofs.read.Tie as tie
 
-abbrev textOf : tie.After-enum-told → List ℕ
-textOf c = c .before .before .before .before .before .before .args .text .now
+digits-ahead-requires : tie.Need-digits-ahead-requires
+digits-ahead-requires c κs = search needs
 
--- what the header's check said
-lawful : (c : tie.After-enum-told) → headerCheck version01 (lineAt (textOf c) 0) ≡ Lawful
-lawful c = sym (c .before .before .header-check .ensures) ∙ c .enum-told .given .1
-
-refusal-requires : tie.Need-refusal-requires
-refusal-requires c κs = search needs
+read-old-requires : tie.Need-read-old-requires
+read-old-requires c κs = search needs
 
 returns : tie.Need-returns
-returns c = (c .refusal .ensures ∙ sym (read-long _ (c .before .if1 .taken)), refl)
+returns c =
+    let counted = c .before .before in
+    (c .read-old .ensures .0 ∙ sym (held-short _ (omega (arith, counted .digits-ahead .ensures, c .before .if1 .taken))), refl)
 
-refusal-requires-2 : tie.Need-refusal-requires-2
-refusal-requires-2 c κs = search needs
+field-at-requires : tie.Need-field-at-requires
+field-at-requires c κs = (omega (arith, c .before .digits-ahead .ensures, c .if1 .left), omega arith)
+
+read-new-requires : tie.Need-read-new-requires
+read-new-requires c κs = search needs
 
 returns-2 : tie.Need-returns-2
-returns-2 c = (c .refusal2 .ensures ∙ sym (read-empty _ (c .before .before .if1 .left) (c .before .if2 .taken)), refl)
+returns-2 c =
+    let read = c .before .before .before in
+    let long = read .before in
+    let two = sym (read .field-at .ensures) ∙ c .before .if2 .taken in
+    (c .read-new .ensures .0 ∙ sym (held-new _ (omega (arith, long .before .digits-ahead .ensures, long .if1 .left)) two), refl)
 
-header-check-requires : tie.Need-header-check-requires
-header-check-requires c κs = search needs
-
-enum-told : tie.Need-enum-told
-enum-told c = search needs
-
-read-body-requires : tie.Need-read-body-requires
-read-body-requires c κs = header-read version01 _ (lawful c)
-
-enum-known-header : tie.Need-enum-known-header
-enum-known-header c = search needs
-
-refusal-requires-3 : tie.Need-refusal-requires-3
-refusal-requires-3 c κs = search needs
+read-old-requires-2 : tie.Need-read-old-requires-2
+read-old-requires-2 c κs = search needs
 
 returns-3 : tie.Need-returns-3
 returns-3 c =
-    let told = c .before in
-    let some = told .before .before .before in
-    (c .read-body .ensures ∙ sym (read-body _ (some .before .if1 .left) (lawful told)), refl)
-
-returns-4 : tie.Need-returns-4
-returns-4 c =
-    let known = c .before .before in
-    let checked = known .before .before in
-    let some = checked .before in
-    let refused = sym (checked .header-check .ensures) ∙ known .header .given .1 in
-    (c .refusal3 .ensures ∙ sym (read-refused _ (some .before .if1 .left) (omega arith) _ _ refused), refl)
+    let read = c .before .before .before in
+    let long = read .before in (
+      c .read-old2 .ensures .0
+          ∙ sym (held-old _ (omega (arith, long .before .digits-ahead .ensures, long .if1 .left))
+          (λ two. c .before .if2 .left (read .field-at .ensures ∙ two))),
+      refl,
+    )
 
 pub read-spec : {M : Type 1} → statement M
 read-spec =
     tie.close
     (tie.spec
-    refusal-requires
+    digits-ahead-requires
+    read-old-requires
     returns
-    refusal-requires-2
+    field-at-requires
+    read-new-requires
     returns-2
-    header-check-requires
-    enum-told
-    read-body-requires
-    enum-known-header
-    refusal-requires-3
-    returns-3
-    returns-4)
+    read-old-requires-2
+    returns-3)

@@ -1,44 +1,78 @@
 -- `reading::read_body` meets its contract: the strings decide first, then what follows them.
-use Prim.Native.Nat.{ℕ}
-use mathlib.Core.Path.{_≡_, refl, sym, ap, _∙_}
+use Prim.Native.Nat.{ℕ, _≤_}
+use mathlib.Core.Path.{_≡_, sym, ap, _∙_}
 use mathlib.Core.List.{List}
 use native.Mathlib.Omega.{arith}
 use borrow.Author.Needs.{needs}
 use Rattle.faults.specs.declared.Checked.the-variants.{Lawful}
-use Rattle.rules.specs.Layout.{version01}
+use Rattle.rules.specs.Layout.{Frames, Count}
 use Rattle.rules.specs.Text.{nIn, stringLinesCheck}
+use Rattle.layouts.specs.Versions.{framesBy}
+use Rattle.layouts.proofs.Versions.{count-place, header-line, header-line-short}
 use Rattle.reading.specs.Positions.{linesFrom, lineAt, stringsAt, StringsRead}
-use Rattle.reading.proofs.Said.{n-is}
+use Rattle.reading.proofs.Said.{field-room, field-said}
 use Rattle.reading.proofs.StringLines.{strings-stand}
 use Rattle.reading.proofs.Whole.{header-few, header-inside, planned, body-rest, body-refused}
 use Rattle.reading.proofs.read_body.Statement.{statement}
 use Rattle.reading.proofs.read_body.Tie as tie
 
+abbrev textOf : tie.Start → List ℕ
+textOf b = b .args .text .now
+
+abbrev versionOf : tie.Start → Frames
+versionOf b = framesBy (b .args .version)
+
 abbrev begin : tie.After-field-at → tie.Start
 begin c = c .before .before
 
-abbrev textOf : tie.After-field-at → List ℕ
-textOf c = begin c .args .text .now
+abbrev reading : tie.After-string-lines-check → tie.After-field-at
+reading c = c .before
 
-abbrev reading : tie.After-enum-told → tie.After-field-at
-reading c = c .before .before .before
+-- where the string lines start
+start-is : (b : tie.Start) → b .args .version .header .line ≡ stringsAt (versionOf b)
+start-is b = header-line (b .args .version) (b .pre .0)
 
 -- n is the header's
-n-read : (c : tie.After-field-at) → c .field-at .result ≡ nIn version01 (lineAt (textOf c) 0)
-n-read c = c .field-at .ensures ∙ sym (n-is version01 _ (begin c .pre .frame))
+n-read : (c : tie.After-field-at) → c .field-at .result ≡ nIn (versionOf (begin c)) (lineAt (textOf (begin c)) 0)
+unfolding nIn
+n-read c =
+    let b = begin c in
+    c .field-at .ensures
+    ∙ field-said (textOf b) 0 (versionOf b .header) Count _ (count-place (b .args .version .number)) (b .pre .1 .frame)
+
+few : (c : tie.After-field-at) → c .field-at .result ≤ 10
+few c = omega (arith, n-read c, header-few (versionOf (begin c)) _ (begin c .pre .1))
 
 -- what the check of the strings said
-lawful : (c : tie.After-enum-told)
-    → stringLinesCheck version01 2 (reading c .field-at .result) (linesFrom (textOf (reading c)) (stringsAt version01)) ≡ Lawful
-lawful c = sym (c .before .before .string-lines-check .ensures) ∙ c .enum-told .given .1
+checked : (c : tie.After-string-lines-check) → c .string-lines-check .result
+    ≡ stringLinesCheck (versionOf (begin (reading c))) (lineAt (textOf (begin (reading c))) 0) 2 (reading c .field-at .result)
+    (linesFrom (textOf (begin (reading c))) (stringsAt (versionOf (begin (reading c)))))
+checked c =
+    let b = begin (reading c) in
+    c .string-lines-check .ensures
+    ∙ ap
+    (λ at. stringLinesCheck (versionOf b) (lineAt (textOf b) 0) 2 (reading c .field-at .result) (linesFrom (textOf b) at))
+    (start-is b)
 
-strings : (c : tie.After-plan-in) → StringsRead version01 (textOf (reading (c .before))) (c .plan-in .result)
+lawful : (c : tie.After-enum-told)
+    → stringLinesCheck (versionOf (begin (reading (c .before .before)))) (lineAt (textOf (begin (reading (c .before .before)))) 0) 2
+    (reading (c .before .before) .field-at .result)
+    (linesFrom (textOf (begin (reading (c .before .before)))) (stringsAt (versionOf (begin (reading (c .before .before))))))
+    ≡ Lawful
+lawful c = sym (checked (c .before .before)) ∙ c .enum-told .given .1
+
+abbrev told : tie.After-plan-in → tie.After-field-at
+told c = reading (c .before .before .before)
+
+strings : (c : tie.After-plan-in) → StringsRead (versionOf (begin (told c))) (textOf (begin (told c))) (c .plan-in .result)
 strings c =
-    let told = c .before in
-    planned version01 _ _ (begin (reading told) .pre) (c .plan-in .ensures) _ (n-read (reading told)) (lawful told)
+    let b = begin (told c) in
+    planned (versionOf b) _ _ (b .pre .1) (c .plan-in .ensures) _ (n-read (told c)) (lawful (c .before))
 
 field-at-requires : tie.Need-field-at-requires
-field-at-requires c κs = omega (arith, c .before .pre .frame .digits)
+field-at-requires c κs =
+    let b = c .before in
+    field-room (textOf b) 0 (versionOf b .header) Count _ (count-place (b .args .version .number)) (b .pre .1 .frame) (omega arith)
 
 cast-n : tie.Need-cast-n
 cast-n c = search needs
@@ -46,24 +80,22 @@ cast-n c = search needs
 string-lines-check-requires : tie.Need-string-lines-check-requires
 string-lines-check-requires c κs =
     let b = begin c in
-    (header-inside version01 _ (b .pre), omega arith, omega (arith, n-read c, header-few version01 _ (b .pre)))
+    let inside = header-inside (versionOf b) _ (b .pre .1) in
+    let short = header-line-short (b .args .version) (b .pre .0) in
+    (b .pre .0, (b .pre .1 .frame, (omega (arith, start-is b), omega arith, few c)))
 
 enum-told : tie.Need-enum-told
 enum-told c = search needs
 
 plan-in-requires : tie.Need-plan-in-requires
 plan-in-requires c κs =
-    let b = begin (reading c) in
-    let few = header-few version01 _ (b .pre) in (
-      b .pre .frame,
-      (
-        (refl, n-read (reading c), omega (arith, n-read (reading c))),
-        strings-stand version01 _ (stringsAt version01) 2 _ (header-inside version01 _ (b .pre)) (lawful c),
-      ),
-    )
+    let read = reading (c .before .before) in
+    let b = begin read in
+    let stand = strings-stand (versionOf b) _ _ (stringsAt (versionOf b)) 2 _ (header-inside (versionOf b) _ (b .pre .1)) (lawful c) in
+    (b .pre .0, (b .pre .1 .frame, ((start-is b, n-read read, few read), rw (start-is b) stand)))
 
 read-rest-requires : tie.Need-read-rest-requires
-read-rest-requires c κs = strings c
+read-rest-requires c κs = (begin (told c) .pre .0, strings c)
 
 enum-known-strings : tie.Need-enum-known-strings
 enum-known-strings c = search needs
@@ -72,17 +104,19 @@ refusal-requires : tie.Need-refusal-requires
 refusal-requires c κs = search needs
 
 returns : tie.Need-returns
-returns c = c .read-rest .ensures ∙ sym (body-rest version01 _ _ (strings (c .before)))
+returns c = c .read-rest .ensures ∙ sym (body-rest (versionOf (begin (told (c .before)))) _ _ (strings (c .before)))
 
 returns-2 : tie.Need-returns-2
 returns-2 c =
     let known = c .before .before in
-    let checked = known .before .before in
-    let b = begin (checked .before) in
-    let read = checked .before in
-    let same = ap (λ n. stringLinesCheck version01 2 n (linesFrom (textOf read) (stringsAt version01))) (n-read read) in
-    c .refusal .ensures
-    ∙ sym (body-refused version01 _ (b .pre) _ _ (sym same ∙ sym (checked .string-lines-check .ensures) ∙ known .strings .given .1))
+    let check = known .before .before in
+    let read = reading check in
+    let b = begin read in
+    let v = versionOf b in
+    let same =
+    ap (λ n. stringLinesCheck v (lineAt (textOf b) 0) 2 n (linesFrom (textOf b) (stringsAt v))) (n-read read)
+    in
+    c .refusal .ensures ∙ sym (body-refused v _ (b .pre .1) _ _ (sym same ∙ sym (checked check) ∙ known .strings .given .1))
 
 pub read-body-spec : {M : Type 1} → statement M
 read-body-spec =

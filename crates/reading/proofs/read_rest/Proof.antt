@@ -2,7 +2,8 @@
 use mathlib.Core.Path.{sym, _∙_}
 use native.Mathlib.Omega.{arith}
 use borrow.Author.Needs.{needs}
-use Rattle.rules.specs.Layout.{version01}
+use Rattle.rules.specs.Layout.{Frames}
+use Rattle.layouts.specs.Versions.{framesBy}
 use Rattle.reading.proofs.Whole.{strings-few, rest-list, rest-refused}
 use Rattle.reading.proofs.read_rest.Statement.{statement}
 use Rattle.reading.proofs.read_rest.Tie as tie
@@ -10,8 +11,13 @@ use Rattle.reading.proofs.read_rest.Tie as tie
 abbrev begin : tie.After-multiple-check → tie.Start
 begin c = c .before .before .before
 
+abbrev versionOf : tie.Start → Frames
+versionOf b = framesBy (b .args .version)
+
 add-multiple-check : tie.Need-add-multiple-check
-add-multiple-check c = omega (arith, strings-few version01 _ _ (c .before .before .pre))
+add-multiple-check c =
+    let b = c .before .before in
+    omega (arith, strings-few (versionOf b) _ _ (b .pre .1))
 
 multiple-check-requires : tie.Need-multiple-check-requires
 multiple-check-requires c κs = search needs
@@ -32,15 +38,17 @@ returns : tie.Need-returns
 returns c =
     let told = c .before in
     let checked = told .before .before in
+    let b = begin checked in
     c .read-list .ensures
-    ∙ sym (rest-list version01 _ _ (begin checked .pre) (sym (checked .multiple-check .ensures) ∙ told .enum-told .given .1))
+    ∙ sym (rest-list (versionOf b) _ _ (b .pre .1) (sym (checked .multiple-check .ensures) ∙ told .enum-told .given .1))
 
 returns-2 : tie.Need-returns-2
 returns-2 c =
     let known = c .before .before in
     let checked = known .before .before in
+    let b = begin checked in
     c .refusal .ensures
-    ∙ sym (rest-refused version01 _ _ (begin checked .pre) _ _ (sym (checked .multiple-check .ensures) ∙ known .multiple .given .1))
+    ∙ sym (rest-refused (versionOf b) _ _ (b .pre .1) _ _ (sym (checked .multiple-check .ensures) ∙ known .multiple .given .1))
 
 pub read-rest-spec : {M : Type 1} → statement M
 read-rest-spec =

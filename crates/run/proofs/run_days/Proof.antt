@@ -59,7 +59,7 @@ end-is : (o : tie.At-loop Inv-loop2 μ-loop2 Inv-loop μ-loop) → endOf o ≡ p
 end-is o = omega (arith, ap (λ (d : Day). d .0) (o .before .before .before .before .day-after .ensures))
 
 ten : (c : tie.Start Inv-loop2 μ-loop2 Inv-loop μ-loop) → length (c .args .p .strings) ≡ 10
-ten c = simp length-map at (c .good .0 .1 .1 .1 .1 .1 .0 .1 .0 .1)
+ten c = simp length-map at (c .good .0 .1 .1 .1 .1 .0 .1 .0 .1)
 
 whole : (c : tie.Start Inv-loop2 μ-loop2 Inv-loop μ-loop) → length (releasesOf (c .args .rs)) ≡ c .args .rs .count
 whole c =

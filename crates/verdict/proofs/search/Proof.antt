@@ -26,7 +26,7 @@ first-set-requires : tie.Need-first-set-requires
 first-set-requires c κs =
     let told = c .before in
     let start = told .before .before .before in
-    (ready-plan (start .args .p) (lawful told) (simp length-map at (start .good .0 .1 .1 .1 .1 .1 .0 .1 .0 .1)), c .multiple .ensures)
+    (ready-plan (start .args .p) (lawful told) (simp length-map at (start .good .0 .1 .1 .1 .1 .0 .1 .0 .1)), c .multiple .ensures)
 
 enum-known-checked : tie.Need-enum-known-checked
 enum-known-checked c = search needs

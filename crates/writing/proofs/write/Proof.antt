@@ -1,132 +1,20 @@
--- `write` meets its contract: the check decides, then the room; where there is room, the part from the place on comes back with the text
--- at its head.
-use Prim.Native.Nat.{_+_, _*_, _≤_}
-use mathlib.Core.Path.{_≡_, sym, _∙_}
-use native.Mathlib.Omega.{arith}
+-- `write` meets its contract: the constants of version 02 are the definitions'.
+use mathlib.Core.Path.{refl}
 use borrow.Author.Needs.{needs}
-use lib.ListN.{length, length-map}
-use Rattle.faults.specs.declared.Checked.the-variants.{Lawful}
-use Rattle.rules.specs.Refusal.{runCheck}
-use Rattle.laws.proofs.Releases.{runCheck-lawful}
-use Rattle.writing.proofs.Saving.{saved-refused, saved-beyond, saved-short, plan-fits, saved-written}
+use Rattle.rules.specs.Layout.{framesFor}
 use Rattle.writing.proofs.write.Statement.{statement}
 use Rattle.writing.proofs.write.Tie as tie
 
--- where the function starts, from the lawful arm of the check
-abbrev start : tie.After-enum-told → tie.Start
-start c = c .before .before .before .before
-
--- what the check said
-lawful : (c : tie.After-enum-told) → runCheck (start c .args .p) (start c .args .rs) ≡ Lawful
-lawful c = sym (c .before .before .run-check .ensures) ∙ c .enum-told .given .1
-
-ten : (c : tie.After-enum-told) → length (start c .args .p .strings) ≡ 10
-ten c = simp length-map at (start c .good .0 .1 .1 .1 .1 .1 .0 .1 .0 .1)
-
-thousand : (c : tie.After-enum-told) → length (start c .args .rs .list) ≡ 1000
-thousand c = simp length-map at (start c .good .1 .0 .1 .1 .1 .0 .1 .0 .1)
-
--- so the numbers are small
-small : (c : tie.After-enum-told) → 19 + start c .args .p .n * 17 + start c .args .rs .count * 17 ≤ 17189
-small c =
-    let good = runCheck-lawful (start c .args .p) (start c .args .rs) (lawful c) in
-    omega (arith, good .plan .nMax, good .few)
-
-run-check-requires : tie.Need-run-check-requires
-run-check-requires c κs = search needs
-
-enum-told : tie.Need-enum-told
-enum-told c = search needs
-
-mul-length : tie.Need-mul-length
-mul-length c = omega (arith, small c)
-
-add-length : tie.Need-add-length
-add-length c = omega (arith, small c)
-
-mul-length-2 : tie.Need-mul-length-2
-mul-length-2 c = omega (arith, small c)
-
-add-length-2 : tie.Need-add-length-2
-add-length-2 c = omega (arith, small c)
-
-returns : tie.Need-returns
-returns c =
-    let told = c .before in
-    let s = start told in
-    let said = saved-beyond (s .args .p) (s .args .rs) (s .args .page .now) (s .args .at) (lawful told) (c .if1 .taken) in
-    (sym (said .0), sym (said .1))
-
-sub-if2 : tie.Need-sub-if2
-sub-if2 c = search needs
-
-returns-2 : tie.Need-returns-2
-returns-2 c =
-    let told = c .before .before in
-    let s = start told in
-    let said = saved-short (s .args .p) (s .args .rs) (s .args .page .now) (s .args .at) (lawful told) (ten told) (thousand told)
-    (c .if2 .taken) in
-    (sym (said .0), sym (said .1))
-
-sub-put-plan : tie.Need-sub-put-plan
-sub-put-plan c = search needs
-
-part-put-plan-start : tie.Need-part-put-plan-start
-part-put-plan-start c = search needs
-
-part-put-plan-end : tie.Need-part-put-plan-end
-part-put-plan-end c = search needs
-
-put-plan-requires : tie.Need-put-plan-requires
-put-plan-requires c κs =
-    let told = c .before .before .before in
-    let s = start told in
-    plan-fits (s .args .p) (s .args .rs) (s .args .page .now) (s .args .at) (lawful told) (ten told) (thousand told) (omega arith)
-    (omega arith)
-
-enum-known-checked : tie.Need-enum-known-checked
-enum-known-checked c = search needs
+write-in-requires : tie.Need-write-in-requires
+unfolding framesFor
+write-in-requires c κs = refl
 
 same-length : tie.Need-same-length
 same-length c = search needs
 
-returns-3 : tie.Need-returns-3
-returns-3 c =
-    let told = c .before .before .before .before .before .before in
-    let s = start told in
-    let said =
-    saved-written (s .args .p) (s .args .rs) (s .args .page .now) (s .args .at) (lawful told) (ten told) (thousand told) (omega arith)
-    (omega arith) _
-    (c .before .before .put-plan .ensures) in
-    (sym (said .0), sym (said .1))
-
-returns-4 : tie.Need-returns-4
-returns-4 c =
-    let known = c .before in
-    let check = known .before .before in
-    let s = check .before .before in
-    let said = saved-refused (s .args .p) (s .args .rs) (s .args .page .now) (s .args .at) _ _
-    (sym (check .run-check .ensures) ∙ known .checked .given .1) in
-    (sym (said .0), sym (said .1))
+returns : tie.Need-returns
+unfolding framesFor
+returns c = c .before .before .write-in .ensures
 
 pub write-spec : {M : Type 1} → statement M
-write-spec =
-    tie.close
-    (tie.spec
-    run-check-requires
-    enum-told
-    mul-length
-    add-length
-    mul-length-2
-    add-length-2
-    returns
-    sub-if2
-    returns-2
-    sub-put-plan
-    part-put-plan-start
-    part-put-plan-end
-    put-plan-requires
-    enum-known-checked
-    same-length
-    returns-3
-    returns-4)
+write-spec = tie.close (tie.spec write-in-requires same-length returns)

@@ -19,7 +19,7 @@ abbrev μ-loop : tie.MeasureT-loop
 -- ---- The start
 
 ten : (c : tie.Start Inv-loop μ-loop) → length (c .args .p .strings) ≡ 10
-ten c = simp length-map at (c .good .0 .1 .1 .1 .1 .1 .0 .1 .0 .1)
+ten c = simp length-map at (c .good .0 .1 .1 .1 .1 .0 .1 .0 .1)
 
 -- the strings that count are those of the plan
 counted : (c : tie.After-counted Inv-loop μ-loop) → take (c .counted .result) (c .before .args .p .strings) ≡ stringsOf (c .before .args .p)

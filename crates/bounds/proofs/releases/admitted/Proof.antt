@@ -32,7 +32,7 @@ returns-3 c =
     let start = c .before .before .before .before in
     let p = start .args .p in
     let i = start .args .r .place in
-    let ten : length (p .strings) ≡ 10 = simp length-map at (start .good .0 .1 .1 .1 .1 .1 .0 .1 .0 .1) in
+    let ten : length (p .strings) ≡ 10 = simp length-map at (start .good .0 .1 .1 .1 .1 .0 .1 .0 .1) in
     let nothing : stringAt p i .c .0 ≡ 0 = ap (λ (s : BatteryString). s .c .0) (stringAt-out p i (omega arith)) in
     sym (admits-not _ _ _ _ (λ h. omega arith))
 

@@ -34,7 +34,7 @@ loop-holds c =
     let start = c .before .before in
     walk-start (omega arith)
     (simp length-map at (start .good .1 .0 .1 .1 .1 .0 .1 .0 .1))
-    (simp length-map at (start .good .0 .1 .1 .1 .1 .1 .0 .1 .0 .1))
+    (simp length-map at (start .good .0 .1 .1 .1 .1 .0 .1 .0 .1))
     refl
     (nevers 10)
 

@@ -27,8 +27,11 @@ returns-7 : tie.Need-returns-7
 returns-7 c = sym (stringLawful-not _ (λ h. omega arith))
 
 returns-8 : tie.Need-returns-8
-returns-8 c = sym (stringLawful-yes _ (omega arith))
+returns-8 c = sym (stringLawful-not _ (λ h. omega arith))
+
+returns-9 : tie.Need-returns-9
+returns-9 c = sym (stringLawful-yes _ (omega arith))
 
 pub string-lawful-spec : {M : Type 1} → statement M
 string-lawful-spec =
-    tie.close (tie.spec returns returns-2 returns-3 returns-4 returns-5 returns-6 returns-7 returns-8)
+    tie.close (tie.spec returns returns-2 returns-3 returns-4 returns-5 returns-6 returns-7 returns-8 returns-9)

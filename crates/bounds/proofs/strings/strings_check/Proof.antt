@@ -22,7 +22,7 @@ counted-requires : tie.Need-counted-requires Inv-loop μ-loop
 counted-requires c κs = search needs
 
 loop-holds : tie.Need-loop-holds Inv-loop μ-loop
-loop-holds c = (omega arith, omega arith, simp length-map at (c .before .before .good .0 .1 .1 .1 .1 .1 .0 .1 .0 .1), refl)
+loop-holds c = (omega arith, omega arith, simp length-map at (c .before .before .good .0 .1 .1 .1 .1 .0 .1 .0 .1), refl)
 
 mul-s : tie.Need-mul-s Inv-loop μ-loop
 mul-s c = omega arith

@@ -1,23 +1,35 @@
 -- `reading::header::header_check` meets its contract: the frame decides first, then its numbers.
-use Prim.Native.Nat.{ℕ}
-use mathlib.Core.Path.{_≡_, sym, _∙_}
-use mathlib.Core.List.{List}
+use mathlib.Core.Path.{_≡_, sym, ap, _∙_}
 use borrow.Author.Needs.{needs}
 use Rattle.faults.specs.declared.Checked.the-variants.{Lawful}
 use Rattle.faults.proofs.Checks.{then-lawful, then-refused}
-use Rattle.rules.specs.Layout.{version01}
-use Rattle.rules.specs.Text.{headerCheck, layoutCheck}
+use Rattle.rules.specs.Layout.{Frames}
+use Rattle.rules.specs.Text.{Line, headerCheck, frameCheck, layoutCheck}
+use Rattle.layouts.specs.declared.Layout as code
+use Rattle.layouts.specs.Versions.{framesBy}
+use Rattle.layouts.proofs.Versions.{header-known}
 use Rattle.reading.specs.Positions.{lineAt}
 use Rattle.reading.proofs.Framing.{frameCheck-frame}
 use Rattle.reading.proofs.header.header_check.Statement.{statement}
 use Rattle.reading.proofs.header.header_check.Tie as tie
 
-abbrev textOf : tie.After-enum-told → List ℕ
-textOf c = c .before .before .before .before .args .text .now
+abbrev start : tie.After-frame-check → tie.Start
+start c = c .before .before
+
+abbrev framesOf : tie.After-frame-check → Frames
+framesOf c = framesBy (start c .args .version)
+
+abbrev lineOf : tie.After-frame-check → Line
+lineOf c = lineAt (start c .args .text .now) 0
 
 -- what the frame's check said
-lawful : (c : tie.After-enum-told) → layoutCheck 1 (version01 .header) (lineAt (textOf c) 0) ≡ Lawful
-lawful c = sym (c .before .before .frame-check .ensures) ∙ c .enum-told .given .1
+framed : (c : tie.After-frame-check) → c .frame-check .result ≡ layoutCheck 1 (framesOf c .header) (lineOf c)
+framed c =
+    c .frame-check .ensures
+    ∙ ap (λ (l : code.Layout). frameCheck 1 (l .kind) (l .size) (lineOf c)) (header-known (start c .args .version) (start c .pre))
+
+lawful : (c : tie.After-enum-told) → layoutCheck 1 (framesOf (c .before .before) .header) (lineOf (c .before .before)) ≡ Lawful
+lawful c = sym (framed (c .before .before)) ∙ c .enum-told .given .1
 
 frame-check-requires : tie.Need-frame-check-requires
 frame-check-requires c κs = search needs
@@ -26,7 +38,7 @@ enum-told : tie.Need-enum-told
 enum-told c = search needs
 
 numbers-check-requires : tie.Need-numbers-check-requires
-numbers-check-requires c κs = frameCheck-frame _ 0 1 _ _ (lawful c)
+numbers-check-requires c κs = (start (c .before .before) .pre, frameCheck-frame _ 0 1 _ _ (lawful c))
 
 enum-known-frame : tie.Need-enum-known-frame
 enum-known-frame c = search needs
@@ -39,7 +51,7 @@ returns-2 : tie.Need-returns-2
 unfolding headerCheck
 returns-2 c =
     let known = c .before in
-    sym (then-refused _ _ _ _ (sym (known .before .before .frame-check .ensures) ∙ known .frame .given .1))
+    sym (then-refused _ _ _ _ (sym (framed (known .before .before)) ∙ known .frame .given .1))
 
 pub header-check-spec : {M : Type 1} → statement M
 header-check-spec =

@@ -1,9 +1,10 @@
 -- `reading::releases::release_at` meets its contract: the fields of a release frame stand at fixed positions.
-use mathlib.Core.Path.{sym}
+use mathlib.Core.Path.{refl, _∙_}
 use native.Mathlib.Omega.{arith}
 use borrow.Author.Needs.{needs}
-use Rattle.rules.specs.Layout.{version01}
-use Rattle.reading.proofs.Said.{release-is}
+use Rattle.rules.specs.Layout.{version01, Place, Day, Need}
+use Rattle.rules.specs.Text.{releaseOf}
+use Rattle.reading.proofs.Said.{field-said}
 use Rattle.reading.proofs.releases.release_at.Statement.{statement}
 use Rattle.reading.proofs.releases.release_at.Tie as tie
 
@@ -20,10 +21,17 @@ field-at-requires-3 : tie.Need-field-at-requires-3
 field-at-requires-3 c κs = omega (arith, c .before .before .before .pre .digits)
 
 returns : tie.Need-returns
+unfolding releaseOf
 returns c =
     let start = c .before .before .before .before in
-    rw (c .field-at3 .ensures, c .before .field-at2 .ensures, c .before .before .field-at .ensures)
-    (sym (release-is version01 (start .args .text .now) (start .args .at) (start .pre)))
+    let text = start .args .text .now in
+    let at = start .args .at in
+    let l = version01 .release in
+    rw (
+      c .field-at3 .ensures ∙ field-said text at l Need _ refl (start .pre),
+      c .before .field-at2 .ensures ∙ field-said text at l Day _ refl (start .pre),
+      c .before .before .field-at .ensures ∙ field-said text at l Place _ refl (start .pre),
+    )
 
 pub release-at-spec : {M : Type 1} → statement M
 release-at-spec =

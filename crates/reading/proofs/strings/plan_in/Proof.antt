@@ -1,89 +1,117 @@
 -- `reading::strings::plan_in` meets its contract: the array holds the strings read so far, and the filler behind them.
-use Prim.Native.Nat.{ℕ, _-_, _≤_}
-use mathlib.Core.Path.{_≡_, sym, _∙_}
+use Prim.Native.Nat.{ℕ, _-_, _*_, _≤_}
+use mathlib.Core.Path.{_≡_, ap, _∙_}
 use mathlib.Core.List.{List, map}
 use native.Mathlib.Omega.{arith}
 use Rattle.lists.specs.Count.{filled}
 use Rattle.rules.specs.declared.BatteryString.{BatteryString}
 use Rattle.rules.specs.Plan.{noString}
-use Rattle.rules.specs.Layout.{version01, lineSize}
-use Rattle.rules.specs.Text.{stringOf}
-use Rattle.reading.specs.Positions.{linesAt}
-use Rattle.reading.proofs.Said.{a-is, run-is}
+use Rattle.rules.specs.Layout.{Frames, Run}
+use Rattle.rules.specs.Text.{runIn, stringOf}
+use Rattle.layouts.specs.Versions.{framesBy}
+use Rattle.layouts.proofs.Versions.{run-known, run-size, string-line, string-line-short, header-short, ten-short}
+use Rattle.reading.specs.Positions.{lineAt, linesAt}
+use Rattle.reading.proofs.Said.{field-room, field-said}
 use Rattle.reading.proofs.Standing.{stored-none, stored-more}
 use Rattle.reading.proofs.Whole.{plan-said}
 use Rattle.reading.proofs.strings.plan_in.Statement.{statement}
 use Rattle.reading.proofs.strings.plan_in.Tie as tie
 
-abbrev step : ℕ
-step = lineSize (version01 .string)
-
--- what is stored of i strings
-abbrev stored : List ℕ → ℕ → ℕ → List BatteryString
-stored text start i = filled 10 noString (map (stringOf version01) (linesAt text start step i))
+-- what is stored of i strings; each line takes step bytes
+abbrev stored : Frames → List ℕ → ℕ → ℕ → ℕ → List BatteryString
+stored v text start step i = filled 10 noString (map (stringOf v (lineAt text 0)) (linesAt text start step i))
 
 abbrev Inv-loop : tie.InvT-loop
-Inv-loop text start n strings₀ i₀ strings i = (i ≤ n) × (strings ≡ stored text start i)
+Inv-loop text start n version strings₀ i₀ strings i =
+    (i ≤ n) × (strings ≡ stored (framesBy version) text start (version .string .line) i)
 
 abbrev μ-loop : tie.MeasureT-loop
-μ-loop text start n strings₀ i₀ strings i = n - i
+μ-loop text start n version strings₀ i₀ strings i = n - i
 
 abbrev begin : tie.At-loop Inv-loop μ-loop → tie.Start Inv-loop μ-loop
 begin o = o .before .before
 
+abbrev reached : tie.After-struct-known Inv-loop μ-loop → tie.At-loop Inv-loop μ-loop
+reached c = c .before .before
+
+abbrev framesOf : tie.At-loop Inv-loop μ-loop → Frames
+framesOf o = framesBy (begin o .args .version)
+
+abbrev stepOf : tie.At-loop Inv-loop μ-loop → ℕ
+stepOf o = begin o .args .version .string .line
+
 few : (o : tie.At-loop Inv-loop μ-loop) → begin o .args .n ≤ 10
-few o = begin o .pre .1 .0 .2
+few o = begin o .pre .1 .1 .0 .2
+
+near : (o : tie.At-loop Inv-loop μ-loop) → o .loop .i * stepOf o ≤ 210
+near o =
+    let b = begin o in
+    ten-short (o .loop .i) (stepOf o) (omega (arith, o .loop .inv .0, few o)) (string-line-short (b .args .version) (b .pre .0))
 
 loop-holds : tie.Need-loop-holds Inv-loop μ-loop
 loop-holds c =
     let g = c .before .args in
-    (omega arith, stored-none noString (stringOf version01) 10 (g .text .now) (g .start) step)
+    (omega arith, stored-none noString (stringOf (framesBy (g .version)) _) 10 (g .text .now) (g .start) (g .version .string .line))
 
 mul-string-at : tie.Need-mul-string-at Inv-loop μ-loop
-mul-string-at c = omega (arith, few (c .before))
+mul-string-at c = omega (arith, near (reached c))
 
 add-string-at : tie.Need-add-string-at Inv-loop μ-loop
-add-string-at c = omega (arith, few (c .before), begin (c .before) .pre .1 .0 .0)
+add-string-at c =
+    let o = reached c in
+    omega (arith, near o, begin o .pre .1 .1 .0 .0, header-short (begin o .args .version .number))
 
 string-at-requires : tie.Need-string-at-requires Inv-loop μ-loop
-string-at-requires c κs = begin (c .before) .pre .1 .1 .each (c .before .loop .i) (omega arith)
+string-at-requires c κs =
+    let o = reached c in
+    let b = begin o in
+    let long = string-line (b .args .version) (b .pre .0) in
+    (b .pre .0, (b .pre .1 .0, rw long (b .pre .1 .1 .1 .each (o .loop .i) (omega arith))))
 
 mul-strings : tie.Need-mul-strings Inv-loop μ-loop
-mul-strings c = omega (arith, few (c .before .before))
+mul-strings c = omega (arith, few (reached (c .before)))
 
 array-set-from-strings : tie.Need-array-set-from-strings Inv-loop μ-loop
-array-set-from-strings c = omega (arith, few (c .before .before))
+array-set-from-strings c = omega (arith, few (reached (c .before)))
 
 add-i : tie.Need-add-i Inv-loop μ-loop
-add-i c = omega (arith, few (c .before .before))
+add-i c = omega (arith, few (reached (c .before)))
 
 loop-less : tie.Need-loop-less Inv-loop μ-loop
 loop-less c = omega arith
 
 loop-again : tie.Need-loop-again Inv-loop μ-loop
 loop-again c =
-    let o = c .before .before in
-    let g = begin o .args in
+    let o = reached (c .before) in
     let few = few o in (
       omega arith,
-      stored-more noString (stringOf version01) 10 _ _ step (o .loop .i) _ _ (omega arith) (o .loop .inv .1) (c .string-at .ensures),
+      stored-more noString (stringOf (framesOf o) _) 10 _ _ (stepOf o) (o .loop .i) _ _ (omega arith) (o .loop .inv .1)
+          (c .string-at .ensures),
     )
 
 field-at-requires : tie.Need-field-at-requires Inv-loop μ-loop
-field-at-requires c κs = omega (arith, begin (c .before) .pre .0 .digits)
-
-field-at-requires-2 : tie.Need-field-at-requires-2 Inv-loop μ-loop
-field-at-requires-2 c κs = omega (arith, begin (c .before .before) .pre .0 .digits)
+field-at-requires c κs =
+    let b = begin (c .before) in
+    let version = b .args .version in
+    field-room (b .args .text .now) 0 (framesBy version .header) Run _ (run-known version (b .pre .0)) (b .pre .1 .0)
+    (run-size version (b .pre .0))
 
 returns : tie.Need-returns Inv-loop μ-loop
+unfolding runIn
 returns c =
-    let o = c .before .before .before in
+    let o = c .before .before in
     let b = begin o in
+    let version = b .args .version in
+    let v = framesBy version in
     let text = b .args .text .now in
     let all : o .loop .i ≡ b .args .n = omega arith in
-    let said = plan-said version01 text (b .args .start) (b .args .n) (b .pre .0) (b .pre .1 .0 .0) (b .pre .1 .0 .1) (b .pre .1 .1) in
-    rw (c .before .field-at .ensures, c .field-at2 .ensures, o .loop .inv .1, all)
-    (sym (said ∙ rw (a-is version01 text (b .pre .0), run-is version01 text (b .pre .0))))
+    let known = b .pre .1 .1 .0 in
+    let run = c .field-at .ensures ∙ field-said text 0 (v .header) Run _ (run-known version (b .pre .0)) (b .pre .1 .0) in
+    let strings =
+    o .loop .inv .1 ∙ ap (stored v text (b .args .start) (stepOf o)) all
+    ∙ ap (λ step. stored v text (b .args .start) step (b .args .n)) (string-line version (b .pre .0))
+    in
+    plan-said v text (b .args .start) (b .args .n) (b .pre .1 .0) (known .0) (known .1) (b .pre .1 .1 .1) _ _ run strings
 
 pub plan-in-spec : {M : Type 1} → statement M
 plan-in-spec =
@@ -101,5 +129,4 @@ plan-in-spec =
     loop-less
     loop-again
     field-at-requires
-    field-at-requires-2
     returns)

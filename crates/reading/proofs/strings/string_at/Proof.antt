@@ -1,29 +1,62 @@
--- `reading::strings::string_at` meets its contract: the fields of a string frame stand at fixed positions.
-use mathlib.Core.Path.{sym}
+-- `reading::strings::string_at` meets its contract: T, C, D and X stand at the same positions in all versions.
+use Prim.Native.Nat.{ℕ}
+use mathlib.Core.Path.{_∙_}
 use native.Mathlib.Omega.{arith}
-use Rattle.rules.specs.Layout.{version01}
-use Rattle.reading.proofs.Said.{string-is}
+use borrow.Author.Needs.{needs}
+use Rattle.rules.specs.Layout.{Layout, X, T, C, D}
+use Rattle.layouts.specs.Versions.{framesBy}
+use Rattle.layouts.proofs.Versions.{x-place, t-place, c-place, d-place}
+use Rattle.reading.proofs.Said.{field-room, field-said, string-said}
 use Rattle.reading.proofs.strings.string_at.Statement.{statement}
 use Rattle.reading.proofs.strings.string_at.Tie as tie
 
+abbrev start : tie.After-field-at → tie.Start
+start c = c .before .before
+
+abbrev layoutOf : tie.Start → Layout
+layoutOf s = framesBy (s .args .version) .string
+
+abbrev numberOf : tie.Start → ℕ
+numberOf s = s .args .version .number
+
 field-at-requires : tie.Need-field-at-requires
-field-at-requires c κs = omega (arith, c .before .pre .digits)
+field-at-requires c κs =
+    let s = c .before in
+    field-room (s .args .text .now) (s .args .at) (layoutOf s) X _ (x-place (numberOf s)) (s .pre .1 .1) (omega arith)
 
 field-at-requires-2 : tie.Need-field-at-requires-2
-field-at-requires-2 c κs = omega (arith, c .before .before .pre .digits)
+field-at-requires-2 c κs =
+    let s = start c in
+    field-room (s .args .text .now) (s .args .at) (layoutOf s) T _ (t-place (numberOf s)) (s .pre .1 .1) (omega arith)
 
 field-at-requires-3 : tie.Need-field-at-requires-3
-field-at-requires-3 c κs = omega (arith, c .before .before .before .pre .digits)
+field-at-requires-3 c κs =
+    let s = start (c .before) in
+    field-room (s .args .text .now) (s .args .at) (layoutOf s) C _ (c-place (numberOf s)) (s .pre .1 .1) (omega arith)
 
 field-at-requires-4 : tie.Need-field-at-requires-4
-field-at-requires-4 c κs = omega (arith, c .before .before .before .before .pre .digits)
+field-at-requires-4 c κs =
+    let s = start (c .before .before) in
+    field-room (s .args .text .now) (s .args .at) (layoutOf s) D _ (d-place (numberOf s)) (s .pre .1 .1) (omega arith)
+
+cost-at-requires : tie.Need-cost-at-requires
+cost-at-requires c κs = search needs
 
 returns : tie.Need-returns
 returns c =
-    let start = c .before .before .before .before .before in
-    let t = c .before .before in
-    rw (c .field-at4 .ensures, c .before .field-at3 .ensures, t .field-at2 .ensures, t .before .field-at .ensures)
-    (sym (string-is version01 (start .args .text .now) (start .args .at) (start .pre)))
+    let d = c .before in
+    let t = d .before .before in
+    let s = start (t .before) in
+    let text = s .args .text .now in
+    let at = s .args .at in
+    let l = layoutOf s in
+    let frame = s .pre .1 .1 in
+    string-said (framesBy (s .args .version)) _ _ _ _ _ _ _
+    (t .field-at2 .ensures ∙ field-said text at l T _ (t-place (numberOf s)) frame)
+    (d .before .field-at3 .ensures ∙ field-said text at l C _ (c-place (numberOf s)) frame)
+    (d .field-at4 .ensures ∙ field-said text at l D _ (d-place (numberOf s)) frame)
+    (t .before .field-at .ensures ∙ field-said text at l X _ (x-place (numberOf s)) frame)
+    (c .cost-at .ensures)
 
 pub string-at-spec : {M : Type 1} → statement M
 string-at-spec =
@@ -33,4 +66,5 @@ string-at-spec =
     field-at-requires-2
     field-at-requires-3
     field-at-requires-4
+    cost-at-requires
     returns)

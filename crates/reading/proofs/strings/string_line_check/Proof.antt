@@ -4,37 +4,59 @@ use borrow.Author.Needs.{needs}
 use Rattle.faults.specs.declared.Checked.the-variants.{Lawful}
 use Rattle.faults.proofs.Checks.{then-lawful, then-refused}
 use Rattle.rules.specs.Plan.{stringLawful}
-use Rattle.rules.specs.Layout.{version01}
-use Rattle.rules.specs.Text.{Line, stringOf, stringLineCheck, layoutCheck}
+use Rattle.rules.specs.Layout.{Frames}
+use Rattle.rules.specs.Text.{Line, stringOf, stringLineCheck, frameCheck, layoutCheck}
+use Rattle.layouts.specs.declared.Layout as code
+use Rattle.layouts.specs.Versions.{framesBy}
+use Rattle.layouts.proofs.Versions.{string-known}
 use Rattle.reading.specs.Positions.{lineAt}
 use Rattle.reading.proofs.Framing.{frameCheck-frame}
 use Rattle.reading.proofs.strings.string_line_check.Statement.{statement}
 use Rattle.reading.proofs.strings.string_line_check.Tie as tie
 
+abbrev start : tie.After-frame-check → tie.Start
+start c = c .before .before
+
+abbrev framesOf : tie.After-frame-check → Frames
+framesOf c = framesBy (start c .args .version)
+
+abbrev headerOf : tie.After-frame-check → Line
+headerOf c = lineAt (start c .args .text .now) 0
+
+abbrev lineOf : tie.After-frame-check → Line
+lineOf c = lineAt (start c .args .text .now) (start c .args .at)
+
+abbrev checked : tie.After-enum-told → tie.After-frame-check
+checked c = c .before .before
+
 abbrev told : tie.After-string-lawful → tie.After-enum-told
 told c = c .before .before
 
-abbrev start : tie.After-enum-told → tie.Start
-start c = c .before .before .before .before
-
-abbrev lineOf : tie.After-enum-told → Line
-lineOf c = lineAt (start c .args .text .now) (start c .args .at)
-
 -- what the frame's check said, and what the bounds of the string say
-lawful : (c : tie.After-enum-told) → layoutCheck (start c .args .k) (version01 .string) (lineOf c) ≡ Lawful
-lawful c = sym (c .before .before .frame-check .ensures) ∙ c .enum-told .given .1
+framed : (c : tie.After-frame-check) → c .frame-check .result ≡ layoutCheck (start c .args .k) (framesOf c .string) (lineOf c)
+framed c =
+    let s = start c in
+    c .frame-check .ensures
+    ∙ ap (λ (l : code.Layout). frameCheck (s .args .k) (l .kind) (l .size) (lineOf c)) (string-known (s .args .version) (s .pre .0))
 
-judged : (c : tie.After-string-lawful) → c .string-lawful .result ≡ stringLawful (stringOf version01 (lineOf (told c)))
+lawful : (c : tie.After-enum-told)
+    → layoutCheck (start (checked c) .args .k) (framesOf (checked c) .string) (lineOf (checked c)) ≡ Lawful
+lawful c = sym (framed (checked c)) ∙ c .enum-told .given .1
+
+judged : (c : tie.After-string-lawful) → c .string-lawful .result
+    ≡ stringLawful (stringOf (framesOf (checked (told c))) (headerOf (checked (told c))) (lineOf (checked (told c))))
 judged c = c .string-lawful .ensures ∙ ap stringLawful (c .before .string-at .ensures)
 
 frame-check-requires : tie.Need-frame-check-requires
-frame-check-requires c κs = search needs
+frame-check-requires c κs = c .before .pre .1 .1
 
 enum-told : tie.Need-enum-told
 enum-told c = search needs
 
 string-at-requires : tie.Need-string-at-requires
-string-at-requires c κs = frameCheck-frame _ _ _ _ _ (lawful c)
+string-at-requires c κs =
+    let s = start (checked c) in
+    (s .pre .0, (s .pre .1 .0, frameCheck-frame _ _ _ _ _ (lawful c)))
 
 string-lawful-requires : tie.Need-string-lawful-requires
 string-lawful-requires c κs = search needs
@@ -54,7 +76,7 @@ returns-3 : tie.Need-returns-3
 unfolding stringLineCheck
 returns-3 c =
     let known = c .before in
-    sym (then-refused _ _ _ _ (sym (known .before .before .frame-check .ensures) ∙ known .frame .given .1))
+    sym (then-refused _ _ _ _ (sym (framed (known .before .before)) ∙ known .frame .given .1))
 
 pub string-line-check-spec : {M : Type 1} → statement M
 string-line-check-spec =

@@ -1,4 +1,4 @@
--- `rules::Plan::moving_cost` meets its contract: every string of a plan pays the same.
+-- `rules::Plan::moving_cost` meets its contract: a string pays its own cost.
 use mathlib.Core.Path.{refl}
 use Rattle.rules.specs.Demand.{movingCost}
 use Rattle.rules.proofs.Plan.moving_cost.Statement.{statement}

@@ -12,17 +12,17 @@ use Rattle.verdict.proofs.permissions.with_set.Statement.{statement}
 use Rattle.verdict.proofs.permissions.with_set.Tie as tie
 
 abbrev Inv-loop : tie.InvT-loop
-Inv-loop set n a run strings₀ rest₀ i₀ strings rest i =
+Inv-loop set n run strings₀ rest₀ i₀ strings rest i =
     (i ≤ 10)
     × (length strings ≡ 10)
     × (drop i strings ≡ drop i strings₀)
     × (take i strings ++ permit rest (drop i strings₀) ≡ permit set strings₀)
 
 abbrev μ-loop : tie.MeasureT-loop
-μ-loop set n a run strings₀ rest₀ i₀ strings rest i = 10 - i
+μ-loop set n run strings₀ rest₀ i₀ strings rest i = 10 - i
 
 loop-holds : tie.Need-loop-holds Inv-loop μ-loop
-loop-holds c = (omega arith, c .before .before .before .pre .ten, refl, refl)
+loop-holds c = (omega arith, c .before .before .pre .ten, refl, refl)
 
 mul-s : tie.Need-mul-s Inv-loop μ-loop
 mul-s c = omega arith
@@ -48,7 +48,7 @@ loop-less c = omega arith
 loop-again : tie.Need-loop-again Inv-loop μ-loop
 loop-again c =
     let at = c .before .before .before in
-    let start = at .before .before .before .before in
+    let start = at .before .before .before in
     let all = start .args .p .strings in
     let now = at .loop .strings in
     let i = at .loop .i in
@@ -66,13 +66,13 @@ returns : tie.Need-returns Inv-loop μ-loop
 unfolding withSet
 returns c =
     let at = c .before in
-    let start = at .before .before .before .before in
+    let start = at .before .before .before in
     let p = start .args .p in
     let inv = at .loop .inv in
     let ten = start .pre .ten in
     let done : at .loop .strings ≡ permit (start .args .set) (p .strings) =
     sym (done-all (p .strings) (at .loop .strings) (at .loop .rest) (at .loop .i) (omega (arith, inv .1)) (omega (arith, ten))) ∙ inv .3 in
-    ap (λ ss. record { n = p .n; a = p .a; run = p .run; strings = ss }) done
+    ap (λ ss. record { n = p .n; run = p .run; strings = ss }) done
 
 pub with-set-spec : {M : Type 1} → statement M
 with-set-spec =

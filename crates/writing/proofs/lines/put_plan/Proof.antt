@@ -1,120 +1,187 @@
 -- `put_plan` meets its contract: the header's line, then the strings' lines in the next part, then the releases' lines in the part after
 -- that.
 use Prim.Native.Nat.{ℕ, _+_, _-_, _*_, _≤_}
-use mathlib.Core.Path.{_≡_, ap, _∙_}
+use mathlib.Core.Path.{_≡_, refl, sym, ap, _∙_}
 use mathlib.Core.List.{List, [], _∷_, _++_, flatMap}
 use native.Mathlib.Omega.{arith}
 use lib.ListN.{length, take, drop, length-append, length-drop}
 use lib.Seq.{length-take-le}
 use borrow.Rule.Slice.PartMut.{putMid}
+use borrow.Author.Needs.{needs}
 use Rattle.rules.specs.declared.Plan.{Plan}
+use Rattle.rules.specs.declared.Release.{Release}
 use Rattle.rules.specs.declared.Releases.{Releases}
 use Rattle.rules.specs.Plan.{stringsOf}
 use Rattle.rules.specs.Release.{releasesOf}
-use Rattle.rules.specs.Layout.{version01}
+use Rattle.rules.specs.Layout.{Layout, Frames, lineSize, version01, framesFor}
+use Rattle.layouts.specs.declared.Version as code
+use Rattle.layouts.specs.Versions.{framesBy, Known}
+use Rattle.layouts.proofs.Versions.{by-version, same-release, header-line, string-line, string-line-short, header-line-short, ten-short}
 use Rattle.writing.specs.declared.cells.Cell.{Cell}
 use Rattle.writing.specs.Written.{headerText, headerSays, stringText, releaseText, planText}
 use Rattle.writing.specs.Cells.{cellsSize, cellsText, SaysFrame, PlanFits}
 use Rattle.writing.proofs.Texts.{lent-part, flatMap-length, Stands, stands-first, stands-next}
 use Rattle.writing.proofs.Rows.{headerText-length, stringText-length, releaseText-length, line-put, line-room, strings-long, text-long}
-use borrow.Author.Needs.{needs}
 use Rattle.writing.proofs.lines.put_plan.Statement.{statement}
 use Rattle.writing.proofs.lines.put_plan.Tie as tie
 
--- ---- The text by its lengths
+-- all versions write a release alike
+same-releases : (rs : List Release) (k : ℕ) → flatMap (releaseText version01) rs ≡ flatMap (releaseText (framesFor k)) rs
+unfolding releaseText
+same-releases rs k = by-version (λ v. flatMap (releaseText version01) rs ≡ flatMap (releaseText v) rs) refl refl k
 
-module _ (p : Plan) (rs : Releases) (k : ℕ) (fits : PlanFits p rs k) where
-  strings-many : length (stringsOf p) ≡ p .n
-  strings-many = length-take-le (p .n) (p .strings) (omega (arith, fits .strings .few, fits .strings .ten))
+release-long : (k : ℕ) → lineSize (framesFor k .release) ≡ 17
+release-long k = ap (λ (l : Layout). lineSize l) (same-release k)
 
-  releases-many : length (releasesOf rs) ≡ rs .count
-  releases-many = length-take-le (rs .count) (rs .list) (omega (arith, fits .releases .few, fits .releases .thousand))
+module _ (version : code.Version) (known : Known version) (p : Plan) (rs : Releases) (before : List ℕ)
+    (fits : PlanFits (framesBy version) p rs (length before))
+  where
+    -- ---- The text by its lengths, as the code counts them
 
-  room : 19 + p .n * 17 + rs .count * 17 ≤ k
-  room = omega (arith, fits .bytes, text-long p rs strings-many releases-many)
+    abbrev v : Frames
+    v = framesBy version
 
-module _ (p : Plan) (rs : Releases) (before : List ℕ) (fits : PlanFits p rs (length before)) where
-  -- ---- The header, the strings, the releases
+    abbrev header : ℕ
+    header = version .header .line
 
-  header-stands : (cells : List Cell) (part : List ℕ) → SaysFrame cells 5 (version01 .header) (headerSays 1 p)
-      → part ≡ (cellsText (take 5 cells) ++ (0x0a ∷ [])) ++ drop (cellsSize (take 5 cells) * 2 + 1) before → Stands before
-      (headerText version01 p) part
-  unfolding headerText
-  header-stands cells part says got =
-      stands-first before (headerText version01 p) part 19 (headerText-length p) (omega (arith, room p rs (length before) fits))
-      (line-put cells 5 (version01 .header) (headerSays 1 p) before part says got)
+    abbrev strings : ℕ
+    strings = p .n * version .string .line
 
-  strings-stand : (part next : List ℕ) → Stands before (headerText version01 p) part
-      → next ≡ flatMap (stringText version01) (stringsOf p) ++ drop (length (stringsOf p) * 17) (take (length part - 19) (drop 19 part))
-      → Stands before (headerText version01 p ++ flatMap (stringText version01) (stringsOf p)) (putMid 19 (length part - 19) part next)
-  strings-stand part next stands got =
-      stands-next before (headerText version01 p) (flatMap (stringText version01) (stringsOf p)) part next 19 (length (stringsOf p) * 17)
-      stands (headerText-length p)
-      (flatMap-length (stringText version01) 17 stringText-length (stringsOf p))
-      (omega (arith, room p rs (length before) fits, stands .size, ap (λ n. n * 17) (strings-many p rs (length before) fits))) got
+    strings-many : length (stringsOf p) ≡ p .n
+    strings-many = length-take-le (p .n) (p .strings) (omega (arith, fits .strings .few, fits .strings .ten))
 
-  releases-stand : (part next : List ℕ) → Stands before (headerText version01 p ++ flatMap (stringText version01) (stringsOf p)) part
-      → next ≡ flatMap (releaseText version01) (releasesOf rs) ++ drop (length (releasesOf rs) * 17)
-      (take (length part - (19 + p .n * 17)) (drop (19 + p .n * 17) part))
-      → Stands before (planText version01 p (releasesOf rs)) (putMid (19 + p .n * 17) (length part - (19 + p .n * 17)) part next)
-  unfolding planText
-  releases-stand part next stands got =
-      let head = headerText version01 p in
-      let strings = flatMap (stringText version01) (stringsOf p) in
-      let releases = flatMap (releaseText version01) (releasesOf rs) in
-      stands-next before (head ++ strings) releases part next (19 + p .n * 17) (length (releasesOf rs) * 17) stands
-      (length-append head strings ∙ omega
-      (arith, headerText-length p, strings-long p rs (strings-many p rs (length before) fits) (releases-many p rs (length before) fits)))
-      (flatMap-length (releaseText version01) 17 releaseText-length (releasesOf rs))
-      (omega (arith, room p rs (length before) fits, stands .size, ap (λ n. n * 17) (releases-many p rs (length before) fits))) got
+    releases-many : length (releasesOf rs) ≡ rs .count
+    releases-many = length-take-le (rs .count) (rs .list) (omega (arith, fits .releases .few, fits .releases .thousand))
+
+    strings-are : strings ≡ p .n * lineSize (v .string)
+    strings-are = ap (λ k. p .n * k) (string-line version known)
+
+    releases-are : rs .count * 17 ≡ rs .count * lineSize (v .release)
+    releases-are = ap (λ k. rs .count * k) (sym (release-long (version .number)))
+
+    room : header + strings + rs .count * 17 ≤ length before
+    room =
+        omega (
+          arith,
+          fits .bytes,
+          text-long v p rs strings-many releases-many,
+          header-line version known,
+          strings-are,
+          releases-are,
+        )
+
+    short : header + strings ≤ 1000
+    short =
+        let few = ten-short (p .n) (version .string .line) (fits .strings .few) (string-line-short version known) in
+        omega (arith, header-line-short version known)
+
+    -- ---- The header, the strings, the releases
+
+    header-stands : (cells : List Cell) (part : List ℕ) → SaysFrame cells 5 (v .header) (headerSays (v .version) p)
+        → part ≡ (cellsText (take 5 cells) ++ (0x0a ∷ [])) ++ drop (cellsSize (take 5 cells) * 2 + 1) before
+        → Stands before (headerText v p) part
+    unfolding headerText
+    header-stands cells part says got =
+        stands-first before (headerText v p) part (lineSize (v .header)) (headerText-length v p)
+        (omega (arith, room, header-line version known))
+        (line-put cells 5 (v .header) (headerSays (v .version) p) before part says got)
+
+    strings-stand : (part next : List ℕ) → Stands before (headerText v p) part
+        → next ≡ flatMap (stringText v) (stringsOf p)
+        ++ drop (length (stringsOf p) * lineSize (v .string)) (take (length part - header) (drop header part))
+        → Stands before (headerText v p ++ flatMap (stringText v) (stringsOf p)) (putMid header (length part - header) part next)
+    strings-stand part next stands got =
+        let many = ap (λ n. n * lineSize (v .string)) strings-many in
+        stands-next before (headerText v p) (flatMap (stringText v) (stringsOf p)) part next header
+        (length (stringsOf p) * lineSize (v .string)) stands
+        (headerText-length v p ∙ sym (header-line version known))
+        (flatMap-length (stringText v) (lineSize (v .string)) (stringText-length v) (stringsOf p))
+        (omega (arith, room, stands .size, strings-are)) got
+
+    releases-stand : (part next : List ℕ) → Stands before (headerText v p ++ flatMap (stringText v) (stringsOf p)) part
+        → next ≡ flatMap (releaseText version01) (releasesOf rs)
+        ++ drop (length (releasesOf rs) * 17) (take (length part - (header + strings)) (drop (header + strings) part))
+        → Stands before (planText v p (releasesOf rs)) (putMid (header + strings) (length part - (header + strings)) part next)
+    unfolding planText
+    releases-stand part next stands got =
+        let head = headerText v p in
+        let lines = flatMap (stringText v) (stringsOf p) in
+        let releases = flatMap (releaseText version01) (releasesOf rs) in
+        let many = ap (λ n. n * 17) releases-many in
+        rw (sym (same-releases (releasesOf rs) (version .number)))
+        (stands-next before (head ++ lines) releases part next (header + strings) (length (releasesOf rs) * 17) stands
+        (length-append head lines
+        ∙ omega
+        (arith, headerText-length v p, header-line version known, strings-long v p rs strings-many releases-many, strings-are))
+        (flatMap-length (releaseText version01) 17 (releaseText-length version01) (releasesOf rs))
+        (omega (arith, room, stands .size)) got)
 
 -- where the function starts
+abbrev begin : tie.After-put-frame → tie.Start
+begin c = c .before .before .before .before .before .before
+
 abbrev start : tie.After-slice-known2 → tie.Start
-start c = c .before .before .before .before .before .before
+start c = begin (c .before .before)
+
+abbrev later : tie.After-slice-known3 → tie.After-slice-known2
+later c = c .before .before .before .before
+
+-- what is asked of the page, at the start
+room-at : (s : tie.Start) → s .args .version .header .line + s .args .p .n * s .args .version .string .line + s .args .rs .count * 17
+    ≤ length (s .args .part .now)
+room-at s = room (s .args .version) (s .pre .0) (s .args .p) (s .args .rs) (s .args .part .now) (s .pre .1)
+
+short-at : (s : tie.Start) → s .args .version .header .line + s .args .p .n * s .args .version .string .line ≤ 1000
+short-at s = short (s .args .version) (s .pre .0) (s .args .p) (s .args .rs) (s .args .part .now) (s .pre .1)
+
+mul-strings : tie.Need-mul-strings
+mul-strings c = omega (arith, short-at (c .before .before .before))
 
 header-cells-requires : tie.Need-header-cells-requires
-header-cells-requires c κs = search needs
+header-cells-requires c κs =
+    let s = c .before .before .before .before in
+    (s .pre .0, (s .pre .1 .strings .some, s .pre .1 .strings .few))
 
 put-frame-requires : tie.Need-put-frame-requires
 put-frame-requires c κs =
-    let s = c .before .before .before in
-    line-room (c .header-cells .result) 5 (version01 .header) _ _ (c .header-cells .ensures) (omega arith)
-    (omega (arith, room (s .args .p) (s .args .rs) _ (s .pre)))
+    let s = c .before .before .before .before .before in
+    line-room (c .header-cells .result) 5 (framesBy (s .args .version) .header) _ _ (c .header-cells .ensures) (omega arith)
+    (omega (arith, room-at s, header-line (s .args .version) (s .pre .0)))
 
 -- ---- What stands after each part
 
 headed : (c : tie.After-slice-known2)
-    → Stands (start c .args .part .now) (headerText version01 (start c .args .p)) (c .before .before .put-frame .last .0)
+    → Stands (start c .args .part .now) (headerText (framesBy (start c .args .version)) (start c .args .p))
+    (c .before .before .put-frame .last .0)
 headed c =
     let s = start c in
-    header-stands (s .args .p) (s .args .rs) (s .args .part .now) (s .pre) _ _ (c .before .before .before .header-cells .ensures)
+    header-stands (s .args .version) (s .pre .0) (s .args .p) (s .args .rs) (s .args .part .now) (s .pre .1) _ _
+    (c .before .before .before .header-cells .ensures)
     (c .before .before .put-frame .ensures)
 
 -- the page after the strings
 abbrev page-two : (c : tie.After-slice-known3) → List ℕ
 page-two c =
-    let part = c .before .before .before .before .before .before .put-frame .last .0 in
-    putMid 19 (length part - 19) part (c .before .before .put-strings .last .0)
+    let known = later c in
+    let part = known .before .before .put-frame .last .0 in
+    let header = start known .args .version .header .line in
+    putMid header (length part - header) part (c .before .before .put-strings .last .0)
 
 stringed : (c : tie.After-slice-known3)
-    → Stands (start (c .before .before .before .before) .args .part .now)
-    (headerText version01 (start (c .before .before .before .before) .args .p)
-    ++ flatMap (stringText version01) (stringsOf (start (c .before .before .before .before) .args .p)))
+    → Stands (start (later c) .args .part .now)
+    (headerText (framesBy (start (later c) .args .version)) (start (later c) .args .p)
+    ++ flatMap (stringText (framesBy (start (later c) .args .version))) (stringsOf (start (later c) .args .p)))
     (page-two c)
 stringed c =
-    let s = start (c .before .before .before .before) in
-    strings-stand (s .args .p) (s .args .rs) (s .args .part .now) (s .pre) _ _ (headed (c .before .before .before .before))
+    let s = start (later c) in
+    strings-stand (s .args .version) (s .pre .0) (s .args .p) (s .args .rs) (s .args .part .now) (s .pre .1) _ _ (headed (later c))
     (c .before .before .put-strings .ensures)
 
--- there is room for all that follows
-room-at : (c : tie.After-slice-known2) → 19 + start c .args .p .n * 17 + start c .args .rs .count * 17 ≤ length (start c .args .part .now)
-room-at c = room (start c .args .p) (start c .args .rs) _ (start c .pre)
-
 sub-put-strings : tie.Need-sub-put-strings
-sub-put-strings c = omega (arith, headed c .size, room-at c)
+sub-put-strings c = omega (arith, headed c .size, room-at (start c))
 
 part-put-strings-start : tie.Need-part-put-strings-start
-part-put-strings-start c = omega (arith, headed c .size, room-at c)
+part-put-strings-start c = omega (arith, headed c .size, room-at (start c))
 
 part-put-strings-end : tie.Need-part-put-strings-end
 part-put-strings-end c = search needs
@@ -122,22 +189,29 @@ part-put-strings-end c = search needs
 put-strings-requires : tie.Need-put-strings-requires
 put-strings-requires c κs =
     let known = c .before in
+    let s = start known in
     let part = known .before .before .put-frame .last .0 in
-    let fit = start known .pre .strings in
-    rw (lent-part 19 part)
-    (record { few = fit .few; ten = fit .ten; bytes = omega (arith, headed known .size, room-at known, length-drop 19 part) })
-
-mul-put-releases : tie.Need-mul-put-releases
-mul-put-releases c = search needs
+    let fit = s .pre .1 .strings in
+    let header = s .args .version .header .line in
+    let long = strings-are (s .args .version) (s .pre .0) (s .args .p) (s .args .rs) (s .args .part .now) (s .pre .1) in (
+      s .pre .0,
+      rw (lent-part header part)
+          (record {
+            some = fit .some;
+            few = fit .few;
+            ten = fit .ten;
+            bytes = omega (arith, headed known .size, room-at s, length-drop header part, long);
+          }),
+    )
 
 add-put-releases : tie.Need-add-put-releases
-add-put-releases c = search needs
+add-put-releases c = omega (arith, short-at (start (later c)))
 
 sub-put-releases : tie.Need-sub-put-releases
-sub-put-releases c = omega (arith, stringed c .size, room-at (c .before .before .before .before))
+sub-put-releases c = omega (arith, stringed c .size, room-at (start (later c)))
 
 part-put-releases-start : tie.Need-part-put-releases-start
-part-put-releases-start c = omega (arith, stringed c .size, room-at (c .before .before .before .before))
+part-put-releases-start c = omega (arith, stringed c .size, room-at (start (later c)))
 
 part-put-releases-end : tie.Need-part-put-releases-end
 part-put-releases-end c = search needs
@@ -145,15 +219,15 @@ part-put-releases-end c = search needs
 put-releases-requires : tie.Need-put-releases-requires
 put-releases-requires c κs =
     let known = c .before in
-    let s = start (known .before .before .before .before) in
-    let place = 19 + s .args .p .n * 17 in
-    let fit = s .pre .releases in
+    let s = start (later known) in
+    let place = s .args .version .header .line + s .args .p .n * s .args .version .string .line in
+    let fit = s .pre .1 .releases in
     rw (lent-part place (page-two known))
     (record {
       few = fit .few;
       thousand = fit .thousand;
       places = fit .places;
-      bytes = omega (arith, stringed known .size, room-at (known .before .before .before .before), length-drop place (page-two known));
+      bytes = omega (arith, stringed known .size, room-at s, length-drop place (page-two known));
     })
 
 same-length : tie.Need-same-length
@@ -162,21 +236,21 @@ same-length c = search needs
 returns : tie.Need-returns
 returns c =
     let known = c .before .before .before .before in
-    let s = start (known .before .before .before .before) in
-    releases-stand (s .args .p) (s .args .rs) (s .args .part .now) (s .pre) (page-two known) _ (stringed known)
-    (c .before .before .put-releases .ensures) .is
+    let s = start (later known) in
+    releases-stand (s .args .version) (s .pre .0) (s .args .p) (s .args .rs) (s .args .part .now) (s .pre .1) (page-two known) _
+    (stringed known) (c .before .before .put-releases .ensures) .is
 
 pub put-plan-spec : {M : Type 1} → statement M
 put-plan-spec =
     tie.close
     (tie.spec
+    mul-strings
     header-cells-requires
     put-frame-requires
     sub-put-strings
     part-put-strings-start
     part-put-strings-end
     put-strings-requires
-    mul-put-releases
     add-put-releases
     sub-put-releases
     part-put-releases-start

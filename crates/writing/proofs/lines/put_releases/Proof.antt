@@ -19,17 +19,17 @@ use Rattle.writing.proofs.lines.put_releases.Tie as tie
 
 -- the lines of the first i releases
 abbrev Lines : List Release → ℕ → List ℕ → List ℕ → ℕ → Type 0
-Lines list count before part i = Rows (releaseText version01) 17 releaseText-length (take count list) noRelease before part i
+Lines list count before part i = Rows (releaseText version01) 17 (releaseText-length version01) (take count list) noRelease before part i
 
 -- all releases are there
-counted : (rs : Releases) (k : ℕ) → ReleasesFit rs k → length (releasesOf rs) ≡ rs .count
+counted : (rs : Releases) (k : ℕ) → ReleasesFit version01 rs k → length (releasesOf rs) ≡ rs .count
 counted rs k fit = length-take-le (rs .count) (rs .list) (omega (arith, fit .few, fit .thousand))
 
-next-room : (rs : Releases) (before part : List ℕ) (i : ℕ) → ReleasesFit rs (length before)
+next-room : (rs : Releases) (before part : List ℕ) (i : ℕ) → ReleasesFit version01 rs (length before)
     → Lines (rs .list) (rs .count) before part i → i < rs .count
     → i * 17 + 17 ≤ length part
 next-room rs before part i fit rows h =
-    rows-room (releaseText version01) 17 releaseText-length (releasesOf rs) noRelease before part i rows
+    rows-room (releaseText version01) 17 (releaseText-length version01) (releasesOf rs) noRelease before part i rows
     (omega (arith, counted rs (length before) fit))
     (omega (arith, ap (λ n. n * 17) (counted rs (length before) fit), fit .bytes))
 
@@ -42,7 +42,7 @@ abbrev μ-loop : tie.MeasureT-loop
 loop-holds : tie.Need-loop-holds Inv-loop μ-loop
 loop-holds c = (
   omega arith,
-  rows-start (releaseText version01) 17 releaseText-length (releasesOf (c .before .before .args .rs)) noRelease
+  rows-start (releaseText version01) 17 (releaseText-length version01) (releasesOf (c .before .before .args .rs)) noRelease
       _,
 )
 
@@ -119,7 +119,7 @@ loop-again c =
     let put = line-put (made .result) 4 (version01 .release) (releaseSays (getD (s .args .rs .list) i noRelease)) _ _ (made .ensures)
     (c .before .before .put-frame .ensures) in (
       omega arith,
-      rows-next (releaseText version01) 17 releaseText-length list noRelease (s .args .part .now) (o .loop .part)
+      rows-next (releaseText version01) 17 (releaseText-length version01) list noRelease (s .args .part .now) (o .loop .part)
           (c .before .before .put-frame .last .0) i (o .loop .inv .1)
           (omega (arith, counted (s .args .rs) _ (s .pre))) fits (rw this put),
     )
@@ -131,8 +131,8 @@ returns : tie.Need-returns Inv-loop μ-loop
 returns c =
     let o = c .before in
     let s = o .before .before .before in
-    rows-end (releaseText version01) 17 releaseText-length (releasesOf (s .args .rs)) noRelease (s .args .part .now) (o .loop .part)
-    (o .loop .i) (o .loop .inv .1)
+    rows-end (releaseText version01) 17 (releaseText-length version01) (releasesOf (s .args .rs)) noRelease
+    (s .args .part .now) (o .loop .part) (o .loop .i) (o .loop .inv .1)
     (omega (arith, counted (s .args .rs) _ (s .pre)))
 
 pub put-releases-spec : {M : Type 1} → statement M

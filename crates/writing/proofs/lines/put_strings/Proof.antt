@@ -1,94 +1,117 @@
 -- `put_strings` meets its contract. Invariant: the lines of the strings so far stand at the head of the part.
 use Prim.Native.Nat.{ℕ, _+_, _-_, _*_, _≤_, _<_}
-use mathlib.Core.Path.{_≡_, ap}
-use mathlib.Core.List.{List}
+use mathlib.Core.Path.{_≡_, sym, ap, _∙_}
+use mathlib.Core.List.{List, _++_, flatMap}
 use native.Mathlib.Omega.{arith}
-use lib.ListN.{length, take, getD, length-drop}
+use lib.ListN.{length, take, drop, getD, length-drop}
 use lib.Seq.{length-take-le, getD-take}
 use Rattle.rules.specs.declared.BatteryString.{BatteryString}
 use Rattle.rules.specs.declared.Plan.{Plan}
 use Rattle.rules.specs.Plan.{stringsOf, noString}
-use Rattle.rules.specs.Layout.{version01}
+use Rattle.rules.specs.Layout.{lineSize}
+use Rattle.layouts.specs.declared.Version as code
+use Rattle.layouts.specs.Versions.{framesBy, Known}
+use Rattle.layouts.proofs.Versions.{string-line}
 use Rattle.writing.specs.Written.{stringSays, stringText}
 use Rattle.writing.specs.Cells.{StringsFit}
-use Rattle.writing.proofs.Texts.{lent-part}
-use Rattle.writing.proofs.Rows.{Rows, rows-start, rows-next, rows-end, rows-room, stringText-length, line-put, line-room}
+use Rattle.writing.proofs.Texts.{lent-part, Stands}
+use Rattle.writing.proofs.Rows.{rows-start, rows-next, rows-end, rows-room, stringText-length, line-put, line-room}
 use Rattle.writing.proofs.lines.put_strings.Statement.{statement}
 use Rattle.writing.proofs.lines.put_strings.Tie as tie
 
+-- a string's line is as long as the version says
+each-long : (version : code.Version) → Known version → (s : BatteryString)
+    → length (stringText (framesBy version) s) ≡ version .string .line
+each-long version known s = stringText-length (framesBy version) s ∙ sym (string-line version known)
+
 -- the lines of the first i of n strings
-abbrev Lines : List BatteryString → ℕ → List ℕ → List ℕ → ℕ → Type 0
-Lines strings n before part i = Rows (stringText version01) 17 stringText-length (take n strings) noString before part i
+abbrev Lines : code.Version → List BatteryString → ℕ → List ℕ → List ℕ → ℕ → Type 0
+Lines version strings n before part i = Stands before (flatMap (stringText (framesBy version)) (take i (take n strings))) part
 
--- all n strings are there
-counted : (p : Plan) (k : ℕ) → StringsFit p k → length (stringsOf p) ≡ p .n
-counted p k fit = length-take-le (p .n) (p .strings) (omega (arith, fit .few, fit .ten))
+module _ (version : code.Version) (known : Known version) (p : Plan) (before : List ℕ)
+    (fit : StringsFit (framesBy version) p (length before))
+  where
+    -- all n strings are there, and the part holds their lines
+    counted : length (stringsOf p) ≡ p .n
+    counted = length-take-le (p .n) (p .strings) (omega (arith, fit .few, fit .ten))
 
-next-room : (p : Plan) (before part : List ℕ) (i : ℕ) → StringsFit p (length before) → Lines (p .strings) (p .n) before part i → i < p .n
-    → i * 17 + 17 ≤ length part
-next-room p before part i fit rows h =
-    rows-room (stringText version01) 17 stringText-length (stringsOf p) noString before part i rows
-    (omega (arith, counted p (length before) fit))
-    (omega (arith, ap (λ n. n * 17) (counted p (length before) fit), fit .bytes))
+    held : length (stringsOf p) * version .string .line ≤ length before
+    held =
+        omega (
+          arith,
+          ap (λ n. n * version .string .line) counted,
+          ap (λ k. p .n * k) (string-line version known),
+          fit .bytes,
+        )
+
+    next-room : (part : List ℕ) (i : ℕ) → Lines version (p .strings) (p .n) before part i → i < p .n
+        → i * version .string .line + version .string .line ≤ length part
+    next-room part i rows h =
+        rows-room (stringText (framesBy version)) (version .string .line) (each-long version known) (stringsOf p) noString
+        before part i rows
+        (omega (arith, counted)) held
 
 abbrev Inv-loop : tie.InvT-loop
-Inv-loop part₀ n strings i₀ part i = (i ≤ n) × Lines strings n part₀ part i
+Inv-loop part₀ version n strings line i₀ part i = (i ≤ n) × Lines version strings n part₀ part i
 
 abbrev μ-loop : tie.MeasureT-loop
-μ-loop part₀ n strings i₀ part i = n - i
+μ-loop part₀ version n strings line i₀ part i = n - i
+
+abbrev start : tie.At-loop Inv-loop μ-loop → tie.Start Inv-loop μ-loop
+start o = o .before .before .before
+
+-- there is room for the next line
+fits : (c : tie.In-loop Inv-loop μ-loop)
+    → c .before .loop .i * start (c .before) .args .version .string .line + start (c .before) .args .version .string .line
+    ≤ length (c .before .loop .part)
+fits c =
+    let o = c .before in
+    let s = start o in
+    next-room (s .args .version) (s .pre .0) (s .args .p) (s .args .part .now) (s .pre .1) (o .loop .part) (o .loop .i) (o .loop .inv .1)
+    (omega arith)
 
 loop-holds : tie.Need-loop-holds Inv-loop μ-loop
-loop-holds c = (omega arith, rows-start (stringText version01) 17 stringText-length (stringsOf (c .before .before .args .p)) noString _)
+loop-holds c =
+    let s = c .before .before in
+    let version = s .args .version in (
+      omega arith,
+      rows-start (stringText (framesBy version)) (version .string .line) (each-long version (s .pre .0))
+          (stringsOf (s .args .p)) noString _,
+    )
 
 mul-s : tie.Need-mul-s Inv-loop μ-loop
-mul-s c = omega arith
+mul-s c = omega (arith, start (c .before) .pre .1 .few)
 
 array-copy-out-s : tie.Need-array-copy-out-s Inv-loop μ-loop
-array-copy-out-s c = omega arith
+array-copy-out-s c = omega (arith, start (c .before) .pre .1 .few)
 
 mul-put-frame : tie.Need-mul-put-frame Inv-loop μ-loop
-mul-put-frame c =
-    let o = c .before .before in
-    let s = o .before .before .before in
-    let fits = next-room (s .args .p) (s .args .part .now) (o .loop .part) (o .loop .i) (s .pre) (o .loop .inv .1) (omega arith) in
-    omega arith
+mul-put-frame c = omega (arith, fits (c .before))
 
 sub-put-frame : tie.Need-sub-put-frame Inv-loop μ-loop
-sub-put-frame c =
-    let o = c .before .before in
-    let s = o .before .before .before in
-    let fits = next-room (s .args .p) (s .args .part .now) (o .loop .part) (o .loop .i) (s .pre) (o .loop .inv .1) (omega arith) in
-    omega arith
+sub-put-frame c = omega (arith, fits (c .before))
 
 part-put-frame-start : tie.Need-part-put-frame-start Inv-loop μ-loop
-part-put-frame-start c =
-    let o = c .before .before in
-    let s = o .before .before .before in
-    let fits = next-room (s .args .p) (s .args .part .now) (o .loop .part) (o .loop .i) (s .pre) (o .loop .inv .1) (omega arith) in
-    omega arith
+part-put-frame-start c = omega (arith, fits (c .before))
 
 part-put-frame-end : tie.Need-part-put-frame-end Inv-loop μ-loop
-part-put-frame-end c =
-    let o = c .before .before in
-    let s = o .before .before .before in
-    let fits = next-room (s .args .p) (s .args .part .now) (o .loop .part) (o .loop .i) (s .pre) (o .loop .inv .1) (omega arith) in
-    omega arith
+part-put-frame-end c = omega (arith, fits (c .before))
 
 string-cells-requires : tie.Need-string-cells-requires Inv-loop μ-loop
-string-cells-requires c κs = tt
+string-cells-requires c κs = start (c .before .before .before) .pre .0
 
 put-frame-requires : tie.Need-put-frame-requires Inv-loop μ-loop
 put-frame-requires c κs =
-    let o = c .before .before .before .before in
-    let s = o .before .before .before in
-    let fits = next-room (s .args .p) (s .args .part .now) (o .loop .part) (o .loop .i) (s .pre) (o .loop .inv .1) (omega arith) in
-    let a = o .loop .i * 17 in
+    let into = c .before .before .before in
+    let o = into .before in
+    let version = start o .args .version in
+    let a = o .loop .i * version .string .line in
     rw (lent-part a (o .loop .part))
-    (line-room (c .string-cells .result) 5 (version01 .string) _ _ (c .string-cells .ensures) (omega arith)
-    (omega (arith, length-drop a (o .loop .part))))
+    (line-room (c .string-cells .result) 6 (framesBy version .string) _ _ (c .string-cells .ensures) (omega arith)
+    (omega (arith, fits into, length-drop a (o .loop .part), string-line version (start o .pre .0))))
 
 add-i : tie.Need-add-i Inv-loop μ-loop
-add-i c = omega arith
+add-i c = omega (arith, start (c .before .before .before .before .before .before .before) .pre .1 .few)
 
 loop-less : tie.Need-loop-less Inv-loop μ-loop
 loop-less c = omega arith
@@ -96,20 +119,25 @@ loop-less c = omega arith
 loop-again : tie.Need-loop-again Inv-loop μ-loop
 unfolding stringText
 loop-again c =
-    let o = c .before .before .before .before .before .before .before in
-    let s = o .before .before .before in
-    let fits = next-room (s .args .p) (s .args .part .now) (o .loop .part) (o .loop .i) (s .pre) (o .loop .inv .1) (omega arith) in
-    let strings = stringsOf (s .args .p) in
+    let into = c .before .before .before .before .before .before in
+    let o = into .before in
+    let s = start o in
+    let version = s .args .version in
+    let v = framesBy version in
+    let p = s .args .p in
     let i = o .loop .i in
     let made = c .before .before .before .string-cells in
-    let this : getD strings i noString ≡ getD (s .args .p .strings) i noString = getD-take (s .args .p .n) (s .args .p .strings) i noString
-    (omega arith) in
-    let put = line-put (made .result) 5 (version01 .string) (stringSays (getD (s .args .p .strings) i noString)) _ _ (made .ensures)
-    (c .before .before .put-frame .ensures) in (
+    let this : getD (stringsOf p) i noString ≡ getD (p .strings) i noString = getD-take (p .n) (p .strings) i noString (omega arith) in
+    let put = line-put (made .result) 6 (v .string) (stringSays (getD (p .strings) i noString)) _ _ (made .ensures)
+    (c .before .before .put-frame .ensures) in
+    let part = o .loop .part in
+    let a = i * version .string .line in
+    let there = take (length part - a) (drop a part) in
+    let long = ap (λ k. stringText v (getD (p .strings) i noString) ++ drop k there) (sym (string-line version (s .pre .0))) in (
       omega arith,
-      rows-next (stringText version01) 17 stringText-length strings noString (s .args .part .now) (o .loop .part)
-          (c .before .before .put-frame .last .0) i (o .loop .inv .1)
-          (omega (arith, counted (s .args .p) _ (s .pre))) fits (rw this put),
+      rows-next (stringText v) (version .string .line) (each-long version (s .pre .0)) (stringsOf p) noString (s .args .part .now)
+          part (c .before .before .put-frame .last .0) i (o .loop .inv .1)
+          (omega (arith, counted version (s .pre .0) p (s .args .part .now) (s .pre .1))) (fits into) (rw this (put ∙ long)),
     )
 
 same-length : tie.Need-same-length Inv-loop μ-loop
@@ -118,10 +146,12 @@ same-length c = c .before .loop .inv .1 .size
 returns : tie.Need-returns Inv-loop μ-loop
 returns c =
     let o = c .before in
-    let s = o .before .before .before in
-    rows-end (stringText version01) 17 stringText-length (stringsOf (s .args .p)) noString (s .args .part .now) (o .loop .part)
-    (o .loop .i) (o .loop .inv .1)
-    (omega (arith, counted (s .args .p) _ (s .pre)))
+    let s = start o in
+    let version = s .args .version in
+    let p = s .args .p in
+    rows-end (stringText (framesBy version)) (lineSize (framesBy version .string)) (stringText-length (framesBy version)) (stringsOf p)
+    noString (s .args .part .now) (o .loop .part) (o .loop .i) (o .loop .inv .1)
+    (omega (arith, counted version (s .pre .0) p (s .args .part .now) (s .pre .1)))
 
 pub put-strings-spec : {M : Type 1} → statement M
 put-strings-spec =

@@ -1,20 +1,25 @@
--- `header_cells` meets its contract: cell by cell it is the layout of the header.
-use mathlib.Core.Path.{refl}
+-- `header_cells` meets its contract: cell by cell it is the header's layout in either version.
+use mathlib.Core.Path.{sym, ap}
 use borrow.Author.Needs.{needs}
-use mathlib.Core.List.{flatMap}
-use Rattle.lists.specs.Count.{sumOf}
-use Rattle.writing.specs.Written.{frameBytes}
-use Rattle.writing.specs.Cells.{cellsSize}
-use Rattle.writing.proofs.Texts.{cells-frame}
+use lib.Seq.{getD-take}
+use Rattle.rules.specs.declared.BatteryString.{BatteryString}
+use Rattle.rules.specs.Plan.{noString}
+use Rattle.writing.proofs.CellsSaid.{header-says}
 use Rattle.writing.proofs.says.header_cells.Statement.{statement}
 use Rattle.writing.proofs.says.header_cells.Tie as tie
 
-cast-t9 : tie.Need-cast-t9
-cast-t9 c = search needs
+array-copy-out-first : tie.Need-array-copy-out-first
+array-copy-out-first c = search needs
+
+cast-t14 : tie.Need-cast-t14
+cast-t14 c = search needs
 
 returns : tie.Need-returns
-unfolding cellsSize sumOf frameBytes flatMap
-returns c = record { seven = refl; size = refl; text = cells-frame 1 _ refl }
+returns c =
+    let s = c .before .before .before in
+    let p = s .args .p in
+    header-says (s .args .version) (s .pre .0) p _
+    (ap (λ (first : BatteryString). first .a .0) (sym (getD-take (p .n) (p .strings) 0 noString (s .pre .1 .0))))
 
 pub header-cells-spec : {M : Type 1} → statement M
-header-cells-spec = tie.close (tie.spec cast-t9 returns)
+header-cells-spec = tie.close (tie.spec array-copy-out-first cast-t14 returns)

@@ -1,0 +1,121 @@
+-- The versions of the plan file (document 02, W-207): which are read, and which moving costs they give. The strings of a lawful text are
+-- those that its string lines write, in either version.
+use Prim.Native.Nat.{ℕ, zero, suc, _≤_}
+use mathlib.Core.Path.{_≡_, refl, ap, _∙_}
+use mathlib.Core.Bool.{true, _&&_}
+use mathlib.Core.List.{List, [], _∷_, map}
+use native.Mathlib.Omega.{arith}
+use borrow.Author.Tests.{eq-eqb, ne-eqb, le-ltb}
+use lib.Dec.{ltb, eqb}
+use lib.ListN.{length, take, length-map}
+use lib.Seq.{take-at}
+use Rattle.days.specs.Days.{days}
+use Rattle.faults.specs.declared.Fault.the-variants.{TextTooLong, FrameWrong}
+use Rattle.faults.specs.declared.Checked.{Checked}
+use Rattle.faults.specs.declared.Checked.the-variants.{Lawful, Refused}
+use Rattle.faults.specs.Checks.{refuseIf}
+use Rattle.faults.proofs.Checks.{refused-not-lawful, then-first, then-second}
+use Rattle.lists.specs.Count.{All, any}
+use Rattle.lists.proofs.Lists.{by-bool}
+use Rattle.lists.proofs.Order.{all-of, all-mapped}
+use Rattle.rules.specs.declared.BatteryString.{BatteryString}
+use Rattle.rules.specs.Plan.{stringsOf}
+use Rattle.rules.specs.Layout.{Frames, kindIn, versionIn, hasField, fieldAmong, fieldIn, version01, version02, framesFor, Moving}
+use Rattle.rules.specs.Text.{Line, linesOf, wellFormed, frameOf, fieldOf, nIn, aIn, costOf, stringOf, planIn, frameCheck, versionCheck}
+use Rattle.rules.specs.Text.{headerCheck, stringLineCheck, stringLinesCheck, bodyCheck, linesCheck, textCheck}
+use Rattle.rules.specs.Text.{lawfulReading, readingIn, framesOf, readingOf}
+
+-- ---- The strings of a lawful text
+
+module _ (v : Frames) (header : Line) where
+  pub strings-many : (k m : ℕ) (lines : List Line) → stringLinesCheck v header k m lines ≡ Lawful → length (take m lines) ≡ m
+  unfolding stringLinesCheck
+  strings-many k zero lines h = refl
+  strings-many k (suc m) [] h = absurd (refused-not-lawful FrameWrong k h)
+  strings-many k (suc m) (line ∷ lines) h = ap suc (strings-many (suc k) m lines (then-second (stringLineCheck v header k line) _ h))
+
+  module _ (lines : List Line) (h : linesCheck v (header ∷ lines) ≡ Lawful) where
+    pub strings-lawful : stringLinesCheck v header 2 (nIn v header) lines ≡ Lawful
+    unfolding linesCheck bodyCheck planIn
+    strings-lawful =
+        let body = then-second (headerCheck v header) (bodyCheck v header (planIn v (header ∷ lines)) lines) h in
+        then-first (stringLinesCheck v header 2 (nIn v header) lines) _ body
+
+    pub strings-are : stringsOf (planIn v (header ∷ lines)) ≡ map (stringOf v header) (take (nIn v header) lines)
+    unfolding planIn
+    strings-are =
+        let n = nIn v header in
+        take-at (map (stringOf v header) (take n lines)) _ n
+        (length-map (take n lines) (stringOf v header) ∙ strings-many 2 n lines strings-lawful)
+
+-- ---- Moving costs
+
+-- version 01: the single cost goes to every string
+pub cost-01 : (header line : Line) → stringOf version01 header line .a ≡ days (aIn version01 header)
+unfolding stringOf costOf hasField any
+cost-01 header line = refl
+
+-- version 02: the string line says it
+pub cost-02 : (header line : Line) → stringOf version02 header line .a ≡ days (fieldOf (version02 .string) Moving line)
+unfolding stringOf costOf hasField any
+cost-02 header line = refl
+
+-- a lawful version 01 text reads as a plan in which every string has the cost that its header says
+pub one-cost : (header : Line) (lines : List Line) → linesCheck version01 (header ∷ lines) ≡ Lawful
+    → All (λ s. s .a ≡ days (aIn version01 header)) (stringsOf (planIn version01 (header ∷ lines)))
+one-cost header lines h =
+    let Same : BatteryString → Type 0 = λ s. s .a ≡ days (aIn version01 header) in
+    let written = take (nIn version01 header) lines in
+    let said = stringOf version01 header in
+    rw (strings-are version01 header lines h)
+    (all-mapped Same said written (all-of (λ line. Same (said line)) (cost-01 header) written))
+
+-- ---- Which version a text is held to
+
+module _ (header : Line) (lines : List Line) where
+  pub held-to-02 : versionIn (frameOf header) ≡ 2 → framesOf (header ∷ lines) ≡ version02
+  unfolding framesOf framesFor
+  held-to-02 h = rw (eq-eqb (versionIn (frameOf header)) 2 h)
+
+  pub held-to-01 : (versionIn (frameOf header) ≡ 2 → ⊥) → framesOf (header ∷ lines) ≡ version01
+  unfolding framesOf framesFor
+  held-to-01 h = rw (ne-eqb (versionIn (frameOf header)) 2 h)
+
+-- a reading that is lawful was found so
+pub reading-checked : (v : Frames) (c : Checked) (lines : List Line) → lawfulReading v c lines .checked ≡ Lawful → c ≡ Lawful
+unfolding lawfulReading
+reading-checked v Lawful lines h = refl
+reading-checked v (Refused f at) lines h = h
+
+pub lines-checked : (v : Frames) (text : List ℕ) → readingIn v text .checked ≡ Lawful → linesCheck v (linesOf text) ≡ Lawful
+unfolding readingIn textCheck
+lines-checked v text h =
+    then-second (refuseIf (ltb 65536 (length text)) TextTooLong 0) (linesCheck v (linesOf text))
+    (reading-checked v (textCheck v text) (linesOf text) h)
+
+pub reading-plan : (v : Frames) (text : List ℕ) → readingIn v text .checked ≡ Lawful → readingIn v text .plan ≡ planIn v (linesOf text)
+unfolding readingIn lawfulReading
+reading-plan v text h = rw (reading-checked v (textCheck v text) (linesOf text) h)
+
+module _ (text : List ℕ) (header : Line) (lines : List Line) (said : linesOf text ≡ header ∷ lines) where
+  -- a lawful text whose header names version 01: each string of its plan has the cost that the header says
+  pub version01-one-cost : versionIn (frameOf header) ≡ 1 → readingOf text .checked ≡ Lawful
+      → All (λ s. s .a ≡ days (aIn version01 header)) (stringsOf (readingOf text .plan))
+  unfolding readingOf
+  version01-one-cost one h =
+      let held : framesOf (linesOf text) ≡ version01 = ap framesOf said ∙ held-to-01 header lines (λ two. omega arith) in
+      let lawful : readingIn version01 text .checked ≡ Lawful = rw held at h in
+      let found : linesCheck version01 (header ∷ lines) ≡ Lawful = rw said at (lines-checked version01 text lawful) in
+      rw (held, reading-plan version01 text lawful, said) (one-cost header lines found)
+
+  -- any version but 01 and 02 is 3 at line 1, whatever the length of its header
+  pub other-version : length text ≤ 65536 → wellFormed header ≡ true → (versionIn (frameOf header) ≡ 1 → ⊥)
+      → (versionIn (frameOf header) ≡ 2 → ⊥) → readingOf text .checked ≡ Refused FrameWrong 1
+  unfolding
+      readingOf readingIn textCheck linesCheck headerCheck frameCheck versionCheck lawfulReading fieldOf fieldIn fieldAmong
+  other-version short good not-1 not-2 =
+      let frame = frameOf header in
+      let held : framesOf (linesOf text) ≡ version01 = ap framesOf said ∙ held-to-01 header lines not-2 in
+      by-bool (eqb (length frame) 9 && eqb (kindIn frame) 1)
+      (λ t. rw (held, said, le-ltb 65536 (length text) short, good, t, ne-eqb (versionIn frame) 1 not-1))
+      (λ e. rw (held, said, le-ltb 65536 (length text) short, good, e))

@@ -1,0 +1,79 @@
+-- Old files and new (document 02, W-207): a version 01 text reads as the version 02 plan in which every string has the moving cost that its
+-- header says. The version 02 text of what was read has that cost in every string frame, and reads to the same plan and releases.
+use Prim.Native.Nat.{ℕ, _-_, _≤_}
+use mathlib.Core.Path.{_≡_, refl, sym, ap, _∙_}
+use mathlib.Core.List.{List, [], _∷_, map}
+use native.Mathlib.Omega.{arith}
+use lib.ListN.{length, drop, length-append, length-replicate, length-take}
+use lib.Seq.{take-at}
+use Rattle.lists.specs.Count.{filled}
+use Rattle.faults.specs.declared.Fault.the-variants.{FrameWrong}
+use Rattle.faults.specs.declared.Checked.the-variants.{Lawful}
+use Rattle.faults.proofs.Checks.{refused-not-lawful}
+use Rattle.rules.specs.declared.Plan.{Plan}
+use Rattle.rules.specs.declared.Releases.{Releases}
+use Rattle.rules.specs.declared.Reading.{Reading}
+use Rattle.rules.specs.Plan.{stringsOf, noString}
+use Rattle.rules.specs.Release.{releasesOf, noRelease}
+use Rattle.rules.specs.Layout.{Frames, version01, version02}
+use Rattle.rules.specs.Text.{Line, linesOf, nIn, releaseOf, planIn, releasesIn, linesCheck, textCheck, lawfulReading}
+use Rattle.rules.specs.Text.{readingIn, readingOf}
+use Rattle.laws.proofs.Versions.{strings-are, reading-checked, lines-checked}
+use Rattle.laws.specs.Lawful.{LawfulRun}
+use Rattle.laws.proofs.Releases.{runCheck-lawful}
+use Rattle.writing.specs.Saved.{savedText}
+use Rattle.onetext.specs.OneText.{blankPlan, blankReleases, lawfulText}
+use Rattle.onetext.proofs.ReadBack.{reading-the-new}
+use Rattle.promise.proofs.ReadLawful.{text-read}
+
+filled-length {ℓ} : {A : Type ℓ} (k : ℕ) (z : A) (xs : List A) → length xs ≤ k → length (filled k z xs) ≡ k
+filled-length k z xs h = length-append xs _ ∙ omega (arith, length-replicate (k - length xs) z)
+
+-- ---- What is read is blank behind what counts
+
+module _ (v : Frames) where
+  plan-blank : (lines : List Line) → linesCheck v lines ≡ Lawful → blankPlan (planIn v lines) ≡ planIn v lines
+  unfolding linesCheck planIn
+  plan-blank [] h = absurd (refused-not-lawful FrameWrong 1 h)
+  plan-blank (header ∷ lines) h = rw (strings-are v header lines h)
+
+  releases-blank : (lines : List Line) → linesCheck v lines ≡ Lawful → blankReleases (releasesIn v lines) ≡ releasesIn v lines
+  unfolding linesCheck releasesIn
+  releases-blank [] h = absurd (refused-not-lawful FrameWrong 1 h)
+  releases-blank (header ∷ lines) h = rw (take-at (map (releaseOf v) (drop (nIn v header) lines)) _ _ refl)
+
+  module _ (text : List ℕ) (h : readingIn v text .checked ≡ Lawful) where
+    read-blank : lawfulText (readingIn v text .plan) (readingIn v text .releases) ≡ readingIn v text
+    unfolding readingIn lawfulReading
+    read-blank =
+        let lines = lines-checked v text h in
+        rw (reading-checked v (textCheck v text) (linesOf text) h, plan-blank (linesOf text) lines, releases-blank (linesOf text) lines)
+
+    abbrev plan : Plan
+    plan = readingIn v text .plan
+
+    abbrev releases : Releases
+    releases = readingIn v text .releases
+
+    run-is : LawfulRun plan releases
+    run-is = runCheck-lawful plan releases (text-read v text h)
+
+    ten : length (plan .strings) ≡ 10
+    ten =
+        let blank = ap (λ (r : Reading). length (r .plan .strings)) read-blank in
+        sym blank ∙ filled-length 10 noString (stringsOf plan) (omega (arith, length-take (plan .n) (plan .strings), run-is .plan .nMax))
+
+    thousand : length (releases .list) ≡ 1000
+    thousand =
+        let blank = ap (λ (r : Reading). length (r .releases .list)) read-blank in
+        sym blank
+        ∙ filled-length 1000 noRelease (releasesOf releases) (omega (arith, length-take (releases .count) (releases .list), run-is .few))
+
+    -- what a text of any version says, its version 02 text says too
+    pub reads-as-new : readingOf (savedText version02 plan releases) ≡ readingIn v text
+    reads-as-new = reading-the-new plan releases ten thousand (text-read v text h) ∙ read-blank
+
+-- an old file: the version 02 text reads to the same plan and releases
+pub old-reads-as-new : (text : List ℕ) → readingIn version01 text .checked ≡ Lawful
+    → readingOf (savedText version02 (readingIn version01 text .plan) (readingIn version01 text .releases)) ≡ readingIn version01 text
+old-reads-as-new text h = reads-as-new version01 text h

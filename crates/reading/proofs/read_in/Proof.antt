@@ -1,0 +1,89 @@
+-- `reading::read_in` meets its contract: the length decides first, then the first line, then the body.
+use Prim.Native.Nat.{ℕ}
+use mathlib.Core.Path.{_≡_, sym, _∙_}
+use mathlib.Core.List.{List}
+use native.Mathlib.Omega.{arith}
+use borrow.Author.Needs.{needs}
+use Rattle.faults.specs.declared.Checked.the-variants.{Lawful}
+use Rattle.rules.specs.Layout.{Frames}
+use Rattle.rules.specs.Text.{headerCheck}
+use Rattle.layouts.specs.Versions.{framesBy}
+use Rattle.reading.specs.Positions.{lineAt}
+use Rattle.reading.proofs.Whole.{header-read, read-long, read-empty, read-refused, read-body}
+use Rattle.reading.proofs.read_in.Statement.{statement}
+use Rattle.reading.proofs.read_in.Tie as tie
+
+abbrev start : tie.After-header-check → tie.Start
+start c = c .before .before .before .before
+
+abbrev textOf : tie.Start → List ℕ
+textOf s = s .args .text .now
+
+abbrev versionOf : tie.Start → Frames
+versionOf s = framesBy (s .args .version)
+
+-- what the header's check said
+lawful : (c : tie.After-enum-told)
+    → headerCheck (versionOf (start (c .before .before))) (lineAt (textOf (start (c .before .before))) 0) ≡ Lawful
+lawful c = sym (c .before .before .header-check .ensures) ∙ c .enum-told .given .1
+
+refusal-requires : tie.Need-refusal-requires
+refusal-requires c κs = search needs
+
+returns : tie.Need-returns
+returns c = c .refusal .ensures ∙ sym (read-long (versionOf (c .before .before .before)) _ (c .before .if1 .taken))
+
+refusal-requires-2 : tie.Need-refusal-requires-2
+refusal-requires-2 c κs = search needs
+
+returns-2 : tie.Need-returns-2
+returns-2 c =
+    let first = c .before .before in
+    c .refusal2 .ensures ∙ sym (read-empty (versionOf (first .before .before)) _ (first .if1 .left) (c .before .if2 .taken))
+
+header-check-requires : tie.Need-header-check-requires
+header-check-requires c κs = search needs
+
+enum-told : tie.Need-enum-told
+enum-told c = search needs
+
+read-body-requires : tie.Need-read-body-requires
+read-body-requires c κs =
+    let s = start (c .before .before) in
+    (s .pre, header-read (versionOf s) _ (lawful c))
+
+enum-known-header : tie.Need-enum-known-header
+enum-known-header c = search needs
+
+refusal-requires-3 : tie.Need-refusal-requires-3
+refusal-requires-3 c κs = search needs
+
+returns-3 : tie.Need-returns-3
+returns-3 c =
+    let told = c .before in
+    let some = told .before .before .before in
+    c .read-body .ensures ∙ sym (read-body (versionOf (start (told .before .before))) _ (some .before .if1 .left) (lawful told))
+
+returns-4 : tie.Need-returns-4
+returns-4 c =
+    let known = c .before .before in
+    let checked = known .before .before in
+    let some = checked .before in
+    let refused = sym (checked .header-check .ensures) ∙ known .header .given .1 in
+    c .refusal3 .ensures ∙ sym (read-refused (versionOf (start checked)) _ (some .before .if1 .left) (omega arith) _ _ refused)
+
+pub read-in-spec : {M : Type 1} → statement M
+read-in-spec =
+    tie.close
+    (tie.spec
+    refusal-requires
+    returns
+    refusal-requires-2
+    returns-2
+    header-check-requires
+    enum-told
+    read-body-requires
+    enum-known-header
+    refusal-requires-3
+    returns-3
+    returns-4)
