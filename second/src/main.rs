@@ -18,6 +18,7 @@ mod saving;
 mod selftest;
 mod stop;
 mod tally;
+mod turning;
 mod writing;
 
 use calendar::ask::{first_difference, print_all, Asked};

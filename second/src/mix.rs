@@ -4,6 +4,7 @@ use crate::chance::Chance;
 use crate::faults::{bytes, cuts, lines, long, noise, release_count, several, values, versions};
 use crate::plans::{border, claim, cycles, extreme, far, load, releases, shaped, strings, takings};
 use crate::rules::plan::Plan;
+use crate::writing::Version;
 use crate::{faults, writing};
 
 /// A kind of file. The turn counts the files of this kind, from 0.
@@ -105,6 +106,52 @@ pub fn make_at_the_border(seed: u64, file: u64) -> Made {
     let kind = named.expect("every kind at the border is in the table");
     let text = (KINDS[kind].make)(&mut chance, file);
     Made { kind, text }
+}
+
+/// The file of this number under this seed: every other one of any kind; the rest lawful, with moving
+/// costs that are equal, equal but for one string, or different, and one in eight then damaged.
+pub fn make_to_turn(seed: u64, file: u64) -> Made {
+    if file % 2 == 0 {
+        return make(seed, file);
+    }
+    let mut chance = Chance::new(seed, file);
+    let limit = strings::cost_limit(&mut chance, 2_000_000);
+    let mut plan = strings::mixed(&mut chance, 8, limit);
+    let most = chance.between(0, 30) as usize;
+    releases::fill(&mut chance, &mut plan, most);
+    let moving = chance.between(0, 1_000);
+    let version = match file / 2 % 4 {
+        0 => {
+            plan.set_moving(moving);
+            Version::Old
+        }
+        1 => {
+            plan.set_moving(moving);
+            Version::New
+        }
+        2 => {
+            plan.set_moving(moving);
+            let one = chance.index(plan.strings.len());
+            plan.strings[one].moving = if moving > 0 { moving - 1 } else { 1 };
+            Version::New
+        }
+        _ => {
+            for string in &mut plan.strings {
+                string.moving = chance.between(0, 3);
+            }
+            Version::New
+        }
+    };
+    let mut text = writing::lines(&plan, version).concat();
+    if chance.one_in(8) {
+        let at = chance.index(text.len());
+        text[at] = chance.pick(b"0123456789abcdef\nG");
+    }
+    let lawful = KINDS.iter().position(|kind| kind.name == "lawful");
+    Made {
+        kind: lawful.expect("the table has lawful files"),
+        text,
+    }
 }
 
 fn kind_and_turn(file: u64) -> (usize, u64) {

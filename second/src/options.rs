@@ -6,7 +6,7 @@ use std::str::FromStr;
 
 pub const USAGE: &str =
     "usage: second --desk PATH [--files N] [--seed S] [--batch B] [--keep DIR] [--tally]
-       second --clerk PATH [--about save|quick] [--files N] [--seed S] [--batch B] [--keep DIR] [--tally]
+       second --clerk PATH [--about save|quick|turn] [--files N] [--seed S] [--batch B] [--keep DIR] [--tally]
        second --answer FILE
        second --calendar
        second --dates [--ask CLERK] [--questions N] [--seed S]
@@ -33,6 +33,8 @@ pub enum Subject {
     Save,
     /// Quick verdicts.
     Quick,
+    /// Files of one version turned into the other.
+    Turn,
 }
 
 impl FromStr for Subject {
@@ -42,6 +44,7 @@ impl FromStr for Subject {
         match word {
             "save" => Ok(Subject::Save),
             "quick" => Ok(Subject::Quick),
+            "turn" => Ok(Subject::Turn),
             _ => Err(()),
         }
     }

@@ -2,13 +2,15 @@
 
 use crate::chance::Chance;
 use crate::edges::pages;
-use crate::mix::{make, make_at_the_border, Made};
+use crate::mix::{make, make_at_the_border, make_to_turn, Made};
 use crate::options::Subject;
 use crate::rules::frames::read;
 use crate::rules::plan::Plan;
 use crate::rules::quick::quick;
 use crate::rules::rule::verdict;
 use crate::saving::{into_page, saved, Saved};
+use crate::turning::turned;
+use crate::writing::Version;
 
 /// The words of a command about a file of some name, and its answer.
 pub struct Asked {
@@ -21,6 +23,7 @@ pub fn file(subject: Subject, seed: u64, file: u64) -> Made {
     match subject {
         Subject::Save => make(seed, file),
         Subject::Quick => make_at_the_border(seed, file),
+        Subject::Turn => make_to_turn(seed, file),
     }
 }
 
@@ -34,6 +37,7 @@ pub fn about(
     match subject {
         Subject::Save => about_saving(chance, text, name),
         Subject::Quick => about_quick_verdicts(text, name),
+        Subject::Turn => about_turning(text, name),
     }
 }
 
@@ -59,6 +63,27 @@ fn about_saving(chance: &mut Chance, text: &[u8], name: &str) -> Result<Vec<Aske
         command: format!("save {name} {} {}", page.size, page.place),
         answer: into_page(&whole, page),
     }));
+    Ok(asked)
+}
+
+/// Both ways. A file that is turned says the same plan, and turned back it has the bytes that it had.
+fn about_turning(text: &[u8], name: &str) -> Result<Vec<Asked>, &'static str> {
+    let mut asked = Vec::new();
+    for (word, from) in [("to-02", Version::Old), ("to-01", Version::New)] {
+        let answer = turned(text, from);
+        if let Ok(other) = &answer {
+            if read(other) != read(text) {
+                return Err("a turned file says another plan");
+            }
+            if turned(other, from.other()).as_deref() != Ok(text) {
+                return Err("a file turned and turned back is another");
+            }
+        }
+        asked.push(Asked {
+            command: format!("{word} {name}"),
+            answer,
+        });
+    }
     Ok(asked)
 }
 

@@ -9,7 +9,8 @@ use crate::rules::rule::{verdict, Verdict};
 use crate::rules::run::{run, Outcome};
 use crate::rules::search::search;
 use crate::saving::{into_page, saved, written, Page};
-use crate::writing;
+use crate::turning::turned;
+use crate::writing::{self, Version};
 
 /// The names of the cases that do not come out as the document says.
 pub fn wrong_cases() -> Vec<&'static str> {
@@ -21,6 +22,7 @@ pub fn wrong_cases() -> Vec<&'static str> {
         readings(),
         versions(),
         writings(),
+        turnings(),
         dates(),
     ]
     .concat();
@@ -267,6 +269,30 @@ fn writings() -> Cases {
             "a refused file in a page",
             into_page(&saved(b""), Page { size: 0, place: 1 }) == refused(3, 1),
         ),
+    ]
+}
+
+fn turnings() -> Cases {
+    let (old, new) = (Version::Old, Version::New);
+    let mut last = two_strings();
+    last.strings[1].moving = 2;
+    let mut first = three_strings();
+    first.strings[0].moving = 4;
+    let late = [&writing::text(&last), b"00\n".as_slice()].concat();
+    vec![
+        ("old to new", turned(SAMPLE, old) == Ok(SAMPLE_02.to_vec())),
+        ("new to old", turned(SAMPLE_02, new) == Ok(SAMPLE.to_vec())),
+        ("new is not old", turned(SAMPLE_02, old) == refused(3, 1)),
+        ("old is not new", turned(SAMPLE, new) == refused(3, 1)),
+        (
+            "the last cost differs",
+            turned(&writing::text(&last), new) == refused(12, 3),
+        ),
+        (
+            "all differ from the first",
+            turned(&writing::text(&first), new) == refused(12, 3),
+        ),
+        ("a fault before 12", turned(&late, new) == refused(3, 4)),
     ]
 }
 

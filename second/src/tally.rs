@@ -13,7 +13,7 @@ pub struct Tally {
     /// By place in the table; empty where no file has been counted.
     kinds: Vec<u64>,
     /// By refusal number; the first is not used.
-    refused: [u64; 10],
+    refused: [u64; 13],
     /// Texts, pages and lines that the clerk has to write.
     saved: u64,
     overload: u64,

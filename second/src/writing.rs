@@ -45,6 +45,13 @@ impl Version {
         }
     }
 
+    pub fn number(self) -> u8 {
+        match self {
+            Version::Old => 1,
+            Version::New => 2,
+        }
+    }
+
     /// Where the header says N.
     pub fn days(self) -> Field {
         match self {

@@ -8,6 +8,7 @@ mod plans;
 mod quick;
 mod save;
 mod say;
+mod turn;
 mod words;
 
 use commands::same;

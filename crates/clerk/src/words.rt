@@ -7,6 +7,8 @@ use super::dates::yearly_days;
 use super::quick::quick_verdict;
 use super::save::save;
 use super::say;
+use super::turn::to_new;
+use super::turn::to_old;
 
 pub(crate) fn answer(command: &[u8]) {
     let first = word(command, 0);
@@ -14,6 +16,10 @@ pub(crate) fn answer(command: &[u8]) {
         save(command);
     } else if same(first, b"quick") {
         quick_verdict(command);
+    } else if same(first, b"to-02") {
+        to_new(command);
+    } else if same(first, b"to-01") {
+        to_old(command);
     } else if same(first, b"date") {
         date(command);
     } else if same(first, b"day") {
@@ -37,6 +43,8 @@ fn help() {
     say::answer(b"quick FILE              the quick verdict on the plan in FILE\n");
     say::answer(b"save FILE               write the plan in FILE back\n");
     say::answer(b"save FILE SIZE PLACE    write it into a page of SIZE bytes, from PLACE on\n");
+    say::answer(b"to-01 FILE              write the version 02 file FILE as version 01\n");
+    say::answer(b"to-02 FILE              write the version 01 file FILE as version 02\n");
     say::answer(b"yearly MM-DD EDITION FIRST LAST\n");
     say::answer(
         b"                        the days on which a yearly test falls between two dates\n",

@@ -15,6 +15,7 @@ pub enum Fault {
     NoRoom,
     NoSuchDate,
     NoSuchEdition,
+    CostsDiffer,
 }
 
 // Whether all rules were met; if not, the first fault, and where: a line, a place, or 0 for the whole.
@@ -39,5 +40,6 @@ pub fn fault_number(f: Fault) -> u32
         Fault::NoRoom => 9,
         Fault::NoSuchDate => 10,
         Fault::NoSuchEdition => 11,
+        Fault::CostsDiffer => 12,
     }
 }

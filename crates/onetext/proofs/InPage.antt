@@ -28,11 +28,23 @@ or-right : (a b : Bool) → (a || b) ≡ false → b ≡ false
 or-right true b h = cc
 or-right false b h = h
 
-answered : (c : Checked) (long len : ℕ) → onSaved c long ≡ Text len → (c ≡ checked.Lawful) × (long ≡ len)
+pub answered : (c : Checked) (long len : ℕ) → onSaved c long ≡ Text len → (c ≡ checked.Lawful) × (long ≡ len)
 answered checked.Lawful long len h = (refl, cc)
 answered (checked.Refused f at) long len h =
     let z : _≡_ {A = ℕ} 0 1 = cc in
     absurd (omega arith)
+
+pub room-inside : (page : List ℕ) (at : ℕ) (text : List ℕ) → noRoom page at text ≡ false → at ≤ length page
+unfolding noRoom
+room-inside page at text fits =
+    ltb-false (length page) at (or-right (ltb (length (drop at page)) (length text)) (ltb (length page) at) fits)
+
+-- a text put into a page stands there from its place on
+pub patched-stands : (page : List ℕ) (at : ℕ) (text : List ℕ) → at ≤ length page
+    → take (length text) (drop at (patched page at text)) ≡ text
+patched-stands page at text inside =
+    let rest = drop (at + length text) page in
+    ap (take (length text)) (drop-at (take at page) (text ++ rest) at (length-take-le at page inside)) ∙ take-append-seam text rest
 
 module _ (v : Frames) (p : Plan) (rs : Releases) (page : List ℕ) (at len : ℕ) (h : savedAnswer v p rs page at ≡ Text len) where
   saved : (saveCheck v p rs page at ≡ checked.Lawful) × (length (savedText v p rs) ≡ len)
@@ -47,12 +59,11 @@ module _ (v : Frames) (p : Plan) (rs : Releases) (page : List ℕ) (at len : ℕ
   text-lawful = then-first (runCheck p rs) (refuseIf (noRoom page at (savedText v p rs)) NoRoom 0) (saved .0)
 
   inside : at ≤ length page
-  unfolding saveCheck noRoom
+  unfolding saveCheck
   inside =
-      let room = refuseIf (noRoom page at (savedText v p rs)) NoRoom 0 in
-      ltb-false (length page) at
-      (or-right (ltb (length (drop at page)) (length (savedText v p rs))) (ltb (length page) at)
-      (refuseIf-not (noRoom page at (savedText v p rs)) NoRoom 0 (then-second (runCheck p rs) room (saved .0))))
+      let full = noRoom page at (savedText v p rs) in
+      room-inside page at (savedText v p rs)
+      (refuseIf-not full NoRoom 0 (then-second (runCheck p rs) (refuseIf full NoRoom 0) (saved .0)))
 
   pub page-is : savedPage v p rs page at ≡ patched page at (savedText v p rs)
   unfolding savedPage
@@ -62,10 +73,8 @@ module _ (v : Frames) (p : Plan) (rs : Releases) (page : List ℕ) (at len : ℕ
   pub text-stands : take len (drop at (savedPage v p rs page at)) ≡ savedText v p rs
   text-stands =
       let text = savedText v p rs in
-      let rest = drop (at + length text) page in
       ap (λ whole. take len (drop at whole)) page-is
-      ∙ ap (take len) (drop-at (take at page) (text ++ rest) at (length-take-le at page inside))
-      ∙ ap (λ k. take k (text ++ rest)) (sym text-long) ∙ take-append-seam text rest
+      ∙ ap (λ k. take k (drop at (patched page at text))) (sym text-long) ∙ patched-stands page at text inside
 
 -- a text of version 02 that is written stands in the page and reads back to the plan
 pub reading-the-page : (p : Plan) (rs : Releases) (page : List ℕ) (at len : ℕ) → savedAnswer version02 p rs page at ≡ Text len

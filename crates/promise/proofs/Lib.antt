@@ -1,13 +1,12 @@
--- The user's demands, of what the code answered. UserWords: demand 2. QuickAgrees: both engines say the same. ReadLawful, NeverMisses:
--- demand 3. OneText: reading and writing undo each other. OldAsNew: what an old file says. ThreeLines: what a file's answer can hold.
--- ShutOut, OnlyOne: what the contracts rule out.
+-- The user's demands, of what the code answered. UserWords: demand 2. QuickAgrees: both engines say the same. NeverMisses: demand 3.
+-- OneText: reading and writing undo each other. Turning: old files to new and back. ThreeLines: what a file's answer can hold. ShutOut,
+-- OnlyOne: what the contracts rule out.
 pub mod UserWords
 pub mod QuickAgrees
-pub mod ReadLawful
 pub mod NeverMisses
 pub mod ThreeLines
 pub mod OneText
-pub mod OldAsNew
+pub mod Turning
 pub mod ShutOut
 pub mod Dates
 pub mod OnlyOne

@@ -47,7 +47,7 @@ use Rattle.verdict.proofs.search.Reads as search-takers
 use Rattle.run.proofs.run.Reads as run
 use Rattle.answers.proofs.answer.Reads as answer
 use Rattle.promise.specs.NeverMiss.{NeverMiss}
-use Rattle.promise.proofs.ReadLawful.{read-lawful}
+use Rattle.onetext.proofs.ReadLawful.{read-lawful}
 use Rattle.promise.proofs.UserWords.{search-finds, verdict-with-is}
 
 -- ---- A verdict that says pass means the rule at every interval

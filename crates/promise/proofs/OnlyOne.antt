@@ -65,6 +65,9 @@ use Rattle.reading.proofs.read_old.Reads as read-old
 use Rattle.reading.proofs.read_new.Reads as read-new
 use Rattle.writing.specs.declared.Saved.{Saved}
 use Rattle.writing.proofs.write.Reads as write
+use Rattle.writing.proofs.write_old.Reads as write-old
+use Rattle.turning.proofs.to_new.Reads as to-new
+use Rattle.turning.proofs.to_old.Reads as to-old
 use Rattle.verdict.proofs.verdict.Reads as verdict
 use Rattle.verdict.proofs.verdict_with.Reads as verdict-with
 use Rattle.verdict.proofs.quick.Reads as quick
@@ -204,6 +207,19 @@ one-read-new κs a e f r s h k = (h .0 ∙ sym (k .0), h .1 ∙ sym (k .1))
 pub one-write : (κs : Lfts 1) (a : _) (e f : _) (r s : Saved) → write.Learnt κs a r e → write.Learnt κs a s f
     → (r ≡ s) × (e .1 .1 .0 .now ≡ f .1 .1 .0 .now)
 one-write κs a e f r s h k = (h .0 ∙ sym (k .0), h .1 ∙ sym (k .1))
+
+pub one-write-old : (κs : Lfts 1) (a : _) (e f : _) (r s : Saved) → write-old.Learnt κs a r e → write-old.Learnt κs a s f
+    → (r ≡ s) × (e .1 .1 .0 .now ≡ f .1 .1 .0 .now)
+one-write-old κs a e f r s h k = (h .0 ∙ sym (k .0), h .1 ∙ sym (k .1))
+
+-- turning: the text and the page are lent
+pub one-to-new : (κs : Lfts 2) (a : _) (e f : _) (r s : Saved) → to-new.Learnt κs a r e → to-new.Learnt κs a s f
+    → (r ≡ s) × (e .1 .0 .now ≡ f .1 .0 .now) × (e .0 .now ≡ f .0 .now)
+one-to-new κs a e f r s h k = (h .0 ∙ sym (k .0), h .1 .0 ∙ sym (k .1 .0), h .1 .1 ∙ sym (k .1 .1))
+
+pub one-to-old : (κs : Lfts 2) (a : _) (e f : _) (r s : Saved) → to-old.Learnt κs a r e → to-old.Learnt κs a s f
+    → (r ≡ s) × (e .1 .0 .now ≡ f .1 .0 .now) × (e .0 .now ≡ f .0 .now)
+one-to-old κs a e f r s h k = (h .0 ∙ sym (k .0), h .1 .0 ∙ sym (k .1 .0), h .1 .1 ∙ sym (k .1 .1))
 
 -- verdict
 pub one-verdict : (κs : Lfts 0) (a : _) (e f : _) (r s : Verdict) → verdict.Learnt κs a r e → verdict.Learnt κs a s f → r ≡ s

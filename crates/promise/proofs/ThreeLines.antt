@@ -30,7 +30,7 @@ use Rattle.rules.specs.Said.{Said, overload, verdictSays, assignSays, outcomeSa
 use Rattle.laws.proofs.Answers.{verdict-lawful, search-lawful, run-lawful}
 use Rattle.answers.proofs.answer.Reads as answer
 use Rattle.promise.specs.Wrong.{Refuses}
-use Rattle.promise.proofs.ReadLawful.{read-lawful}
+use Rattle.onetext.proofs.ReadLawful.{read-lawful}
 use Rattle.promise.proofs.NeverMisses.{Parts, answered-parts}
 
 -- ---- What the rules answer is no refusal

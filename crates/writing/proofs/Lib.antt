@@ -3,3 +3,4 @@ pub mod Texts
 pub mod Rows
 pub mod Saving
 pub mod CellsSaid
+pub mod FirstOther

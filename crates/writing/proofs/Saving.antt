@@ -4,28 +4,29 @@ use mathlib.Core.Path.{_≡_, refl, sym, ap, _∙_}
 use mathlib.Core.Bool.{Bool, true, false, _||_}
 use mathlib.Core.List.{List, _++_}
 use native.Mathlib.Omega.{arith}
-use borrow.Author.Tests.{lt-ltb, le-ltb}
-use lib.Dec.{ltb}
+use borrow.Author.Tests.{lt-ltb, le-ltb, le-leb, lt-leb}
+use lib.Dec.{ltb, leb}
 use lib.ListN.{length, take, drop, length-drop}
 use lib.Seq.{length-take-le, drop-drop}
 use borrow.Rule.Slice.PartMut.{putMid}
 use Rattle.lists.specs.Count.{All}
 use Rattle.lists.proofs.Lists.{all-by}
 use Rattle.faults.specs.declared.Fault.{Fault}
-use Rattle.faults.specs.declared.Fault.the-variants.{NoRoom}
+use Rattle.faults.specs.declared.Fault.the-variants.{NoRoom, CostsDiffer}
 use Rattle.faults.specs.declared.Checked.the-variants as checked
 use Rattle.rules.specs.declared.Plan.{Plan}
 use Rattle.rules.specs.declared.Releases.{Releases}
 use Rattle.rules.specs.Plan.{stringsOf}
 use Rattle.rules.specs.Release.{releasesOf, noRelease}
 use Rattle.rules.specs.Refusal.{runCheck}
-use Rattle.rules.specs.Layout.{Frames}
+use Rattle.rules.specs.Layout.{Frames, version01}
 use Rattle.laws.specs.Lawful.{LawfulRun}
 use Rattle.laws.proofs.Releases.{runCheck-lawful}
 use Rattle.laws.proofs.ReleaseList.{release-lawful}
 use Rattle.writing.specs.declared.Saved.the-variants.{Refused, Text}
 use Rattle.writing.specs.Written.{planText}
 use Rattle.writing.specs.Saved.{savedText, noRoom, saveCheck, savedAnswer, savedPage}
+use Rattle.writing.specs.Saved.{firstOther, costsCheck, oldCheck, oldAnswer, oldPage}
 use Rattle.writing.specs.Cells.{PlanFits}
 use Rattle.writing.proofs.Texts.{lent-part, lent-back}
 use Rattle.writing.proofs.Rows.{longAs, text-long}
@@ -116,3 +117,21 @@ module _ (v : Frames) (p : Plan) (rs : Releases) (page : List ℕ) (at : ℕ) wh
                 rw (lawful, fits, size),
                 rw (lawful, fits) (sym (lent-back at page next here ∙ rw (got, lent-part at page, drop-drop (length text) at page))),
               )
+
+-- ---- In version 01 the moving costs are looked at between the plan and the room
+
+module _ (p : Plan) (rs : Releases) (page : List ℕ) (at : ℕ) where
+  pub old-refused : (f : Fault) (k : ℕ) → runCheck p rs ≡ checked.Refused f k
+      → (oldAnswer p rs page at ≡ Refused f k) × (oldPage p rs page at ≡ page)
+  unfolding oldAnswer oldPage oldCheck
+  old-refused f k h = (rw h, rw h)
+
+  module _ (lawful : runCheck p rs ≡ checked.Lawful) where
+    pub old-differs : firstOther p ≤ p .n → (oldAnswer p rs page at ≡ Refused CostsDiffer (firstOther p)) × (oldPage p rs page at ≡ page)
+    unfolding oldAnswer oldPage oldCheck costsCheck
+    old-differs h = (rw (lawful, le-leb (firstOther p) (p .n) h), rw (lawful, le-leb (firstOther p) (p .n) h))
+
+    pub old-alike : p .n < firstOther p
+        → (oldAnswer p rs page at ≡ savedAnswer version01 p rs page at) × (oldPage p rs page at ≡ savedPage version01 p rs page at)
+    unfolding oldAnswer oldPage oldCheck costsCheck savedAnswer savedPage saveCheck
+    old-alike h = (rw (lawful, lt-leb (firstOther p) (p .n) h), rw (lawful, lt-leb (firstOther p) (p .n) h))

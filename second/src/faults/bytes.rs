@@ -3,7 +3,7 @@
 use super::sheet::{Kind, Sheet};
 use crate::chance::Chance;
 
-/// Bytes of the longest header line with its 0a, of the longest string's line and of a release's.
+/// Bytes of the longest header line with its 0a, of the longest string line, and of a release line.
 const HEADER: u64 = 19;
 const STRING: u64 = 21;
 const RELEASE: u64 = 17;
@@ -14,6 +14,7 @@ pub fn one_byte(chance: &mut Chance, turn: u64) -> Vec<u8> {
     let mut sheet = Sheet::draw(chance);
     let (kind, at) = position(turn % POSITIONS);
     let line = sheet.line_of(chance, kind);
+    // a line that is shorter in its version has its first bytes changed instead
     let at = at % sheet.lines[line].len();
     sheet.lines[line][at] = (turn / POSITIONS % 256) as u8;
     sheet.text()

@@ -31,6 +31,16 @@ pub fn read(text: &[u8]) -> Result<Plan, Refusal> {
     Ok(plan)
 }
 
+/// The same of a text that has to be of one version: a header that names another is 3 at line 1.
+pub fn read_version(text: &[u8], version: u8) -> Result<Plan, Refusal> {
+    let end = text.iter().position(|byte| *byte == b'\n');
+    let header = end.and_then(|end| bytes_of(&text[..=end]));
+    let named = header.and_then(|header| header.get(1).copied());
+    let other = named.map_or(false, |named| named != version);
+    require(text.len() > MOST_BYTES || !other, 3, 1)?;
+    read(text)
+}
+
 fn require(holds: bool, number: usize, line: usize) -> Result<(), Refusal> {
     if holds {
         Ok(())

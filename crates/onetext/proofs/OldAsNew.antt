@@ -22,9 +22,9 @@ use Rattle.laws.proofs.Versions.{strings-are, reading-checked, lines-checked}
 use Rattle.laws.specs.Lawful.{LawfulRun}
 use Rattle.laws.proofs.Releases.{runCheck-lawful}
 use Rattle.writing.specs.Saved.{savedText}
 use Rattle.onetext.specs.OneText.{blankPlan, blankReleases, lawfulText}
 use Rattle.onetext.proofs.ReadBack.{reading-the-new}
-use Rattle.promise.proofs.ReadLawful.{text-read}
+use Rattle.onetext.proofs.ReadLawful.{text-read}
 
 filled-length {ℓ} : {A : Type ℓ} (k : ℕ) (z : A) (xs : List A) → length xs ≤ k → length (filled k z xs) ≡ k
 filled-length k z xs h = length-append xs _ ∙ omega (arith, length-replicate (k - length xs) z)
@@ -43,7 +43,7 @@ module _ (v : Frames) where
   releases-blank (header ∷ lines) h = rw (take-at (map (releaseOf v) (drop (nIn v header) lines)) _ _ refl)
 
   module _ (text : List ℕ) (h : readingIn v text .checked ≡ Lawful) where
-    read-blank : lawfulText (readingIn v text .plan) (readingIn v text .releases) ≡ readingIn v text
+    pub read-blank : lawfulText (readingIn v text .plan) (readingIn v text .releases) ≡ readingIn v text
     unfolding readingIn lawfulReading
     read-blank =
         let lines = lines-checked v text h in
@@ -55,15 +55,15 @@ module _ (v : Frames) where
     abbrev releases : Releases
     releases = readingIn v text .releases
 
-    run-is : LawfulRun plan releases
+    pub run-is : LawfulRun plan releases
     run-is = runCheck-lawful plan releases (text-read v text h)
 
-    ten : length (plan .strings) ≡ 10
+    pub ten : length (plan .strings) ≡ 10
     ten =
         let blank = ap (λ (r : Reading). length (r .plan .strings)) read-blank in
         sym blank ∙ filled-length 10 noString (stringsOf plan) (omega (arith, length-take (plan .n) (plan .strings), run-is .plan .nMax))
 
-    thousand : length (releases .list) ≡ 1000
+    pub thousand : length (releases .list) ≡ 1000
     thousand =
         let blank = ap (λ (r : Reading). length (r .releases .list)) read-blank in
         sym blank

@@ -1,0 +1,49 @@
+-- Where a text is answered with, the turned text stands in the page from the named place on.
+use Prim.Native.Nat.{ℕ}
+use mathlib.Core.Path.{_≡_, sym, ap, _∙_}
+use mathlib.Core.List.{List}
+use lib.ListN.{length, take, drop}
+use Rattle.faults.specs.declared.Fault.the-variants.{NoRoom}
+use Rattle.faults.specs.declared.Checked.{Checked}
+use Rattle.faults.specs.declared.Checked.the-variants.{Lawful}
+use Rattle.faults.specs.Checks.{then, refuseIf}
+use Rattle.faults.proofs.Checks.{then-first, then-second, refuseIf-not}
+use Rattle.rules.specs.Layout.{Frames}
+use Rattle.rules.specs.Text.{readingIn}
+use Rattle.writing.specs.declared.Saved.the-variants.{Text}
+use Rattle.writing.specs.Saved.{noRoom, patched}
+use Rattle.onetext.proofs.InPage.{answered, room-inside, patched-stands}
+use Rattle.turning.specs.Turned.{alikeCheck, turnedText, turnCheck, turnedAnswer, turnedPage}
+
+module _ (v w : Frames) (text page : List ℕ) (at len : ℕ) (h : turnedAnswer v w text page at ≡ Text len) where
+  turned : (turnCheck v w text page at ≡ Lawful) × (length (turnedText v w text) ≡ len)
+  unfolding turnedAnswer
+  turned = answered (turnCheck v w text page at) (length (turnedText v w text)) len h
+
+  abbrev alike : Checked
+  alike = alikeCheck w (readingIn v text .plan)
+
+  abbrev room : Checked
+  room = refuseIf (noRoom page at (turnedText v w text)) NoRoom 0
+
+  pub turned-read : readingIn v text .checked ≡ Lawful
+  unfolding turnCheck
+  turned-read = then-first (readingIn v text .checked) (then alike room) (turned .0)
+
+  costs-and-room : then alike room ≡ Lawful
+  unfolding turnCheck
+  costs-and-room = then-second (readingIn v text .checked) (then alike room) (turned .0)
+
+  pub turned-alike : alike ≡ Lawful
+  turned-alike = then-first alike room costs-and-room
+
+  page-is : turnedPage v w text page at ≡ patched page at (turnedText v w text)
+  unfolding turnedPage
+  page-is = rw (turned .0)
+
+  pub turned-stands : take len (drop at (turnedPage v w text page at)) ≡ turnedText v w text
+  turned-stands =
+      let new = turnedText v w text in
+      let fits = refuseIf-not (noRoom page at new) NoRoom 0 (then-second alike room costs-and-room) in
+      ap (λ whole. take len (drop at whole)) page-is
+      ∙ ap (λ k. take k (drop at (patched page at new))) (sym (turned .1)) ∙ patched-stands page at new (room-inside page at new fits)
