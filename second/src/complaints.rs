@@ -14,9 +14,12 @@ const COMPLAINTS: [(&[&str], &str); 19] = [
         &["save", "x.plan", "7"],
         "save FILE, or save FILE SIZE PLACE",
     ),
-    (&["save", "x.plan"], "cannot read x.plan"),
-    (&["save", "x.plan", "65536", "0"], "cannot read x.plan"),
-    (&["save", "."], "cannot read ."),
+    (&["save", "x.plan"], "cannot read x.plan: no such file"),
+    (
+        &["save", "x.plan", "65536", "0"],
+        "cannot read x.plan: no such file",
+    ),
+    (&["save", "."], "cannot read .: a folder"),
     (
         &["save", "x.plan", "65537", "0"],
         "65537 is no size of a page: 0 to 65536",
@@ -31,12 +34,12 @@ const COMPLAINTS: [(&[&str], &str); 19] = [
     ),
     (&["quick"], "quick FILE"),
     (&["quick", "x.plan", "7"], "quick FILE"),
-    (&["quick", "x.plan"], "cannot read x.plan"),
+    (&["quick", "x.plan"], "cannot read x.plan: no such file"),
     (&["to-02"], "to-02 FILE"),
     (&["to-01", "x.plan", "7"], "to-01 FILE"),
-    (&["to-02", "x.plan"], "cannot read x.plan"),
-    (&["to-01", "x.plan"], "cannot read x.plan"),
-    (&["each", "x"], "cannot read x"),
+    (&["to-02", "x.plan"], "cannot read x.plan: no such file"),
+    (&["to-01", "x.plan"], "cannot read x.plan: no such file"),
+    (&["each", "x"], "cannot read x: no such file"),
 ];
 
 pub fn compare(clerk: &Path, folder: &Path) -> Result<(), Stop> {

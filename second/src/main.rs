@@ -1,6 +1,7 @@
 //! A second program, written from documents 01 and 02 alone, that the desk and the clerk are compared with.
 
 mod batch;
+mod board;
 mod calendar;
 mod chance;
 mod clerk;
@@ -20,11 +21,13 @@ mod stop;
 mod tally;
 mod turning;
 mod writing;
+mod wrong;
 
 use calendar::ask::{first_difference, print_all, Asked};
 use compare::compare_all;
 use options::{task, Comparison, Task, USAGE};
 use rules::answer::Answer;
+use rules::frames::read;
 use std::path::Path;
 use std::process::ExitCode;
 use stop::Stop;
@@ -35,7 +38,9 @@ const UNABLE: u8 = 2;
 fn main() -> ExitCode {
     match task(std::env::args().skip(1)) {
         Some(Task::Compare(job)) => run_comparison(&job),
-        Some(Task::Answer(path)) => show_answer(&path),
+        Some(Task::Answer(path)) => show_answer(&path, Answer::of_text),
+        Some(Task::Days(path)) => show_days(&path),
+        Some(Task::Wrong(mistake, path)) => show_answer(&path, |text| wrong::answer(mistake, text)),
         Some(Task::Selftest) => run_selftest(),
         Some(Task::Calendar) => show_calendar(),
         Some(Task::Dates(asked)) => run_dates(&asked),
@@ -69,10 +74,23 @@ fn run_comparison(job: &Comparison) -> ExitCode {
     }
 }
 
-fn show_answer(path: &Path) -> ExitCode {
+fn show_answer(path: &Path, answer: impl Fn(&[u8]) -> Answer) -> ExitCode {
     match std::fs::read(path) {
         Ok(text) => {
-            print!("{}", Answer::of_text(&text));
+            print!("{}", answer(&text));
+            ExitCode::SUCCESS
+        }
+        Err(error) => unable(&format!("{}: {error}", path.display())),
+    }
+}
+
+fn show_days(path: &Path) -> ExitCode {
+    match std::fs::read(path) {
+        Ok(text) => {
+            match read(&text) {
+                Ok(plan) => print!("{}", board::days(&plan)),
+                Err(refusal) => print!("{}", Answer::Refused(refusal)),
+            }
             ExitCode::SUCCESS
         }
         Err(error) => unable(&format!("{}: {error}", path.display())),

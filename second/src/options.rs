@@ -1,6 +1,7 @@
 //! What the program is asked to do.
 
 use crate::calendar::ask::Asked;
+use crate::wrong::Mistake;
 use std::path::PathBuf;
 use std::str::FromStr;
 
@@ -8,6 +9,8 @@ pub const USAGE: &str =
     "usage: second --desk PATH [--files N] [--seed S] [--batch B] [--keep DIR] [--tally]
        second --clerk PATH [--about save|quick|turn] [--files N] [--seed S] [--batch B] [--keep DIR] [--tally]
        second --answer FILE
+       second --days FILE
+       second --wrong equation-7|one-by-one|stop-at-dmax|load-equal-to-h|start-early|stopped-pays FILE
        second --calendar
        second --dates [--ask CLERK] [--questions N] [--seed S]
        second --selftest";
@@ -15,6 +18,8 @@ pub const USAGE: &str =
 pub enum Task {
     Compare(Comparison),
     Answer(PathBuf),
+    Days(PathBuf),
+    Wrong(Mistake, PathBuf),
     Selftest,
     Calendar,
     Dates(Asked),
@@ -77,6 +82,8 @@ pub fn task(mut words: impl Iterator<Item = String>) -> Option<Task> {
     while let Some(word) = words.next() {
         match word.as_str() {
             "--answer" => return words.next().map(|path| Task::Answer(path.into())),
+            "--days" => return words.next().map(|path| Task::Days(path.into())),
+            "--wrong" => return Some(Task::Wrong(value(&mut words)?, value(&mut words)?)),
             "--selftest" => return Some(Task::Selftest),
             "--calendar" => return Some(Task::Calendar),
             "--dates" => return asked(words).map(Task::Dates),

@@ -27,13 +27,27 @@ fn take(fd: i32, room: &mut [u8]) -> Got {
 pub(crate) fn read_file(name: &[u8], room: &mut [u8]) -> Got {
     let fd = os::open_read(name);
     if fd < 0 {
-        complain_of(b"cannot read ", name, b"");
+        cannot_read(name);
         return Got::Nothing;
     }
     let got = take(fd, room);
-    libc::close(fd);
     if let Got::Nothing = got {
+        cannot_read(name);
+    }
+    libc::close(fd);
+    got
+}
+
+// The system's reason is that of its last call.
+fn cannot_read(name: &[u8]) {
+    let reason = os::errno();
+    if reason == libc::ENOENT {
+        complain_of(b"cannot read ", name, b": no such file");
+    } else if reason == libc::EISDIR {
+        complain_of(b"cannot read ", name, b": a folder");
+    } else if reason == libc::EACCES {
+        complain_of(b"cannot read ", name, b": no permission");
+    } else {
         complain_of(b"cannot read ", name, b"");
     }
-    got
 }

@@ -8,7 +8,9 @@ ghost use Prim.Native.Nat.{_≤_};
 ghost use lib.ListN.{length};
 
 pub(crate) fn answer(text: &[u8]) {
-    io::write_all(STDOUT_FILENO, text);
+    if !io::write_all(STDOUT_FILENO, text) {
+        complain(b"the answer could not be written");
+    }
 }
 
 pub(crate) fn answer_page(page: Page)

@@ -10,12 +10,18 @@ fn ended(fd: i32) -> bool {
     libc::read(fd, &mut more) == 0
 }
 
+fn write(text: &[u8]) {
+    if !io::write_all(libc::STDOUT_FILENO, text) {
+        complain(b"the answer could not be written", b"", b"");
+    }
+}
+
 fn write_page(page: Page)
     requires { ⌜ page .len ≤ length (page .bytes) ⌝ }
 {
     let n = page.len;
     let bytes = page.bytes;
-    io::write_all(libc::STDOUT_FILENO, &bytes[..n]);
+    write(&bytes[..n]);
 }
 
 // The answer for what a descriptor gives, under its name where that is asked. False where it cannot be read to its end.
@@ -29,17 +35,33 @@ fn answer_from(fd: i32, name: &[u8], titled: bool) -> bool {
         }
     }
     if titled {
-        io::write_all(libc::STDOUT_FILENO, name);
-        io::write_all(libc::STDOUT_FILENO, b"\n");
+        write(name);
+        write(b"\n");
     }
     write_page(lines::written(answers::answer(&text[..n])));
     true
 }
 
-fn cannot_read(name: &[u8]) {
-    io::write_all(libc::STDERR_FILENO, b"desk: cannot read ");
+fn complain(what: &[u8], name: &[u8], why: &[u8]) {
+    io::write_all(libc::STDERR_FILENO, b"desk: ");
+    io::write_all(libc::STDERR_FILENO, what);
     io::write_all(libc::STDERR_FILENO, name);
+    io::write_all(libc::STDERR_FILENO, why);
     io::write_all(libc::STDERR_FILENO, b"\n");
+}
+
+// The system's reason is that of its last call.
+fn cannot_read(name: &[u8]) {
+    let reason = os::errno();
+    if reason == libc::ENOENT {
+        complain(b"cannot read ", name, b": no such file");
+    } else if reason == libc::EISDIR {
+        complain(b"cannot read ", name, b": a folder");
+    } else if reason == libc::EACCES {
+        complain(b"cannot read ", name, b": no permission");
+    } else {
+        complain(b"cannot read ", name, b"");
+    }
 }
 
 fn answer_file(name: &[u8], titled: bool) {
@@ -59,7 +81,7 @@ fn answer_named(i: usize, several: bool) {
     let mut word = io::buffer();
     let n = os::arg(i, &mut word);
     if n == 0 {
-        cannot_read(b"a file whose name is empty or too long");
+        complain(b"a file's name is empty or too long", b"", b"");
         return;
     }
     answer_file(&word[..n], several);

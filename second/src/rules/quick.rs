@@ -1,7 +1,7 @@
 //! The quick verdict (document 02, W-204): only pairs at which, with the blocking held, some string's job count has grown.
 
 use super::plan::{BatteryString, Length, Plan};
-use super::rule::{blocking_limit, demand, jobs, load, Verdict};
+use super::rule::{blocking_limit, demand, jobs, load, Verdict, PAGE};
 
 /// The quick verdict on a plan within its bounds, with the X that it carries.
 pub fn quick(plan: &Plan, cycle: Length) -> Verdict {
@@ -10,7 +10,7 @@ pub fn quick(plan: &Plan, cycle: Length) -> Verdict {
     }
     let mut pairs = 0;
     for interval in 1..plan.largest_d() + cycle {
-        for blocking in 0..=blocking_limit(plan, interval) {
+        for blocking in 0..=blocking_limit(&PAGE, plan, interval) {
             if !some_count_grows(plan, interval, blocking) {
                 continue;
             }

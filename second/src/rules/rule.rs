@@ -17,14 +17,37 @@ pub enum Verdict {
     },
 }
 
+/// How the page is read where planners read it wrongly.
+#[derive(Clone, Copy)]
+pub struct Rule {
+    /// The longest that a job of a string blocks others.
+    pub blocker: fn(&Plan, &BatteryString) -> Length,
+    /// The last interval that is compared.
+    pub last: fn(&Plan, Length) -> Length,
+    /// Whether a load is too much for a cycle.
+    pub overloaded: fn(Length, Length) -> bool,
+}
+
+/// As the page says it.
+pub const PAGE: Rule = Rule {
+    // it has already worked a day
+    blocker: |plan, string| plan.hold(string) - 1,
+    last: |plan, cycle| plan.largest_d() + cycle - 1,
+    overloaded: |load, cycle| load > cycle,
+};
+
 /// The verdict on a plan within its bounds, with the X that it carries.
 pub fn verdict(plan: &Plan, cycle: Length) -> Verdict {
-    if load(plan, cycle) > cycle {
+    verdict_by(&PAGE, plan, cycle)
+}
+
+pub fn verdict_by(rule: &Rule, plan: &Plan, cycle: Length) -> Verdict {
+    if (rule.overloaded)(load(plan, cycle), cycle) {
         return Verdict::Overload;
     }
     let mut pairs = 0;
-    for interval in 1..plan.largest_d() + cycle {
-        for blocking in 0..=blocking_limit(plan, interval) {
+    for interval in 1..=(rule.last)(plan, cycle) {
+        for blocking in 0..=blocking_limit(rule, plan, interval) {
             pairs += 1;
             let demand = demand(plan, interval, blocking);
             if demand > interval {
@@ -42,7 +65,11 @@ pub fn verdict(plan: &Plan, cycle: Length) -> Verdict {
 
 /// Whether the plan passes: an overloaded plan breaks the rule at some interval.
 pub fn passes(plan: &Plan, cycle: Length) -> bool {
-    matches!(verdict(plan, cycle), Verdict::Pass { .. })
+    passes_by(&PAGE, plan, cycle)
+}
+
+pub fn passes_by(rule: &Rule, plan: &Plan, cycle: Length) -> bool {
+    matches!(verdict_by(rule, plan, cycle), Verdict::Pass { .. })
 }
 
 /// The days of the bank that all strings together may ask for in one cycle.
@@ -54,7 +81,7 @@ pub fn load(plan: &Plan, cycle: Length) -> Length {
 }
 
 /// B at an interval: how long a job due after it can stand in the way.
-pub fn blocking_limit(plan: &Plan, interval: Length) -> Length {
+pub fn blocking_limit(rule: &Rule, plan: &Plan, interval: Length) -> Length {
     if interval < plan.smallest_d() {
         return 0;
     }
@@ -62,10 +89,10 @@ pub fn blocking_limit(plan: &Plan, interval: Length) -> Length {
         .strings
         .iter()
         .filter(|string| string.d > interval)
-        .map(|string| plan.hold(string) - 1)
+        .map(|string| (rule.blocker)(plan, string))
         .max();
     // Nothing is due later exactly from the largest D on.
-    longest.map_or(0, |hold| hold.min(interval))
+    longest.map_or(0, |days| days.min(interval))
 }
 
 pub fn demand(plan: &Plan, interval: Length, blocking: Length) -> Length {

@@ -17,13 +17,13 @@ pub enum Outcome {
 }
 
 /// A job that has work or moving left; a job with nothing left is gone.
-struct Job {
-    place: u64,
+pub struct Job {
+    pub place: u64,
     taker: bool,
     release: Day,
-    deadline: Day,
-    work: Length,
-    moving: Length,
+    pub deadline: Day,
+    pub work: Length,
+    pub moving: Length,
 }
 
 /// What a day of the bank went into.
@@ -34,13 +34,31 @@ enum Use {
 }
 
 /// The jobs of a day: at most one on the bank, the others waiting.
-struct Hall {
-    bank: Option<Job>,
-    waiting: Vec<Job>,
+pub struct Hall {
+    pub bank: Option<Job>,
+    pub waiting: Vec<Job>,
+}
+
+/// How the steps of a day are read where planners read them wrongly.
+#[derive(Clone, Copy, Default)]
+pub struct Policy {
+    /// Each release takes or gets the bank before the day's next one joins.
+    pub starts_early: bool,
+    /// The moving is charged to the job that was stopped.
+    pub stopped_pays: bool,
 }
 
 /// Runs a lawful list of releases over all N days.
 pub fn run(plan: &Plan) -> Outcome {
+    run_by(Policy::default(), plan)
+}
+
+pub fn run_by(policy: Policy, plan: &Plan) -> Outcome {
+    run_watched(policy, plan, |_, _| ())
+}
+
+/// The same; somebody looks on each day at the hall after step 4, before the day is used.
+pub fn run_watched(policy: Policy, plan: &Plan, mut watch: impl FnMut(Day, &Hall)) -> Outcome {
     let mut hall = Hall {
         bank: None,
         waiting: Vec::new(),
@@ -53,9 +71,12 @@ pub fn run(plan: &Plan) -> Outcome {
         }
         while let Some(release) = releases.next_if(|release| release.day == day) {
             hall.waiting.push(job(plan, release));
+            if policy.starts_early {
+                hall.take_and_give(policy, day, plan);
+            }
         }
-        hall.take_bank(day, plan);
-        hall.give_bank();
+        hall.take_and_give(policy, day, plan);
+        watch(day, &hall);
         match hall.use_day() {
             Use::Work => work += 1,
             Use::Moving => moving += 1,
@@ -94,9 +115,15 @@ impl Hall {
             .min()
     }
 
+    /// Steps 3 and 4.
+    fn take_and_give(&mut self, policy: Policy, today: Day, plan: &Plan) {
+        self.take_bank(policy, today, plan);
+        self.give_bank();
+    }
+
     /// Step 3: a taker released today with a strictly earlier deadline stops the job on the bank,
     /// and pays its own string's cost.
-    fn take_bank(&mut self, today: Day, plan: &Plan) {
+    fn take_bank(&mut self, policy: Policy, today: Day, plan: &Plan) {
         let stopped = match &self.bank {
             Some(job) => job,
             None => return,
@@ -107,8 +134,13 @@ impl Hall {
             .filter(|job| job.taker && job.release == today && job.deadline < stopped.deadline)
             .min_by_key(|job| (job.deadline, job.place));
         if let Some(payer) = payer {
-            payer.moving += plan.strings[payer.place as usize - 1].moving;
-            self.waiting.extend(self.bank.take());
+            let cost = plan.strings[payer.place as usize - 1].moving;
+            let mut stopped = self.bank.take();
+            match &mut stopped {
+                Some(stopped) if policy.stopped_pays => stopped.moving += cost,
+                _ => payer.moving += cost,
+            }
+            self.waiting.extend(stopped);
         }
     }
 

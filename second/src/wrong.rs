@@ -1,0 +1,112 @@
+//! What a plan file gives where a mistake is made that planners make: the wrong answer is computed, never typed.
+
+use crate::rules::answer::Answer;
+use crate::rules::frames::read;
+use crate::rules::plan::{Length, Plan};
+use crate::rules::rule::{blocking_limit, demand, passes, verdict_by, Rule, PAGE};
+use crate::rules::run::{run_by, Policy};
+use crate::rules::search::search_by;
+use std::str::FromStr;
+
+/// The mistakes of document 01, "Where planners go wrong".
+#[derive(Clone, Copy, PartialEq)]
+pub enum Mistake {
+    /// Equation 7 as printed: the blocker's work alone.
+    Equation7,
+    /// The source's Algorithm 3.
+    OneByOne,
+    /// The largest D is the last interval.
+    StopAtDmax,
+    /// A load of exactly H is taken for an overload.
+    LoadEqualToH,
+    StartEarly,
+    StoppedPays,
+}
+
+const NAMES: [(&str, Mistake); 6] = [
+    ("equation-7", Mistake::Equation7),
+    ("one-by-one", Mistake::OneByOne),
+    ("stop-at-dmax", Mistake::StopAtDmax),
+    ("load-equal-to-h", Mistake::LoadEqualToH),
+    ("start-early", Mistake::StartEarly),
+    ("stopped-pays", Mistake::StoppedPays),
+];
+
+impl FromStr for Mistake {
+    type Err = ();
+
+    fn from_str(word: &str) -> Result<Mistake, ()> {
+        let found = NAMES.iter().find(|(name, _)| *name == word);
+        found.map(|(_, mistake)| *mistake).ok_or(())
+    }
+}
+
+/// The three lines with the mistake in them; a refusal is the same.
+pub fn answer(mistake: Mistake, text: &[u8]) -> Answer {
+    match read(text) {
+        Ok(plan) => answer_for(mistake, &plan),
+        Err(refusal) => Answer::Refused(refusal),
+    }
+}
+
+fn answer_for(mistake: Mistake, plan: &Plan) -> Answer {
+    let cycle = plan.cycle().expect("a plan that was read has H in bounds");
+    let rule = rule(mistake);
+    let policy = Policy {
+        starts_early: mistake == Mistake::StartEarly,
+        stopped_pays: mistake == Mistake::StoppedPays,
+    };
+    let set = if mistake == Mistake::OneByOne {
+        switched_on(plan, cycle)
+    } else {
+        search_by(&rule, plan, cycle)
+    };
+    Answer::Given {
+        verdict: verdict_by(&rule, plan, cycle),
+        set,
+        outcome: run_by(policy, plan),
+    }
+}
+
+fn rule(mistake: Mistake) -> Rule {
+    match mistake {
+        Mistake::Equation7 => Rule {
+            blocker: |_, string| string.c,
+            ..PAGE
+        },
+        Mistake::StopAtDmax => Rule {
+            last: |plan, _| plan.largest_d(),
+            ..PAGE
+        },
+        Mistake::LoadEqualToH => Rule {
+            overloaded: |load, cycle| load >= cycle,
+            ..PAGE
+        },
+        Mistake::OneByOne | Mistake::StartEarly | Mistake::StoppedPays => PAGE,
+    }
+}
+
+/// Algorithm 3: the strings by rising D; whenever the rule breaks from the k-th D up to the next, the k-th and those before
+/// it are given permission, the latest first, as long as it breaks. What is on stays on.
+fn switched_on(plan: &Plan, cycle: Length) -> Option<u32> {
+    let mut order: Vec<usize> = (0..plan.strings.len()).collect();
+    order.sort_by_key(|at| plan.strings[*at].d);
+    let mut set = 0;
+    for k in 0..order.len() - 1 {
+        let (from, to) = (plan.strings[order[k]].d, plan.strings[order[k + 1]].d);
+        for &at in order[..=k].iter().rev() {
+            if set >> at & 1 == 1 || !breaks_between(&plan.with_set(set), from, to) {
+                break;
+            }
+            set |= 1 << at;
+        }
+    }
+    passes(&plan.with_set(set), cycle).then(|| set)
+}
+
+fn breaks_between(plan: &Plan, from: Length, to: Length) -> bool {
+    (from..to).any(|interval| {
+        (0..=blocking_limit(&PAGE, plan, interval))
+            .any(|blocking| demand(plan, interval, blocking) > interval)
+    })
+}
