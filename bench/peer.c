@@ -285,13 +285,11 @@ int main(void) {
     same_cost(&first, 1);
     Plan fails = {3, 20, {{100, 3, 6, 0}, {100, 1, 12, 1}, {100, 2, 50, 0}}};
     same_cost(&fails, 5);
-    Plan daily = {1, 20, {{1, 1, 1, 0}}};
     clocked_quick("quick, 590,000 pairs", &blocked, 1);
     clocked_quick("quick, no taker", &kept, 1);
     clocked_quick("quick, steps on most days", &dense, 1);
     clocked_quick("quick, periods 7 30 90 365", &page, 1);
     clocked_quick("quick, P1", &first, 1000);
     clocked_quick("quick, P5", &fails, 1000);
-    clocked_quick("quick, P10", &daily, 1000);
     return 0;
 }

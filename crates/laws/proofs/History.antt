@@ -4,7 +4,7 @@ use mathlib.Core.Path.{_≡_, refl, ap, _∙_}
 use mathlib.Core.Bool.{Bool, cond}
 use mathlib.Core.List.{List, [], _∷_}
 use native.Mathlib.Omega.{arith}
-use borrow.Author.Tests.{lt-ltb, le-ltb, lt-leb, le-leb}
+use borrow.Author.Tests.{lt-ltb, le-ltb, ltb-false, lt-leb, le-leb}
 use lib.Dec.{ltb}
 use lib.ListN.{length, length-append}
 use Rattle.days.specs.Days.{day}
@@ -16,7 +16,7 @@ use Rattle.rules.specs.declared.Outcome.the-variants.{Clean, Miss}
 use Rattle.lists.specs.Count.{countOf}
 use Rattle.rules.specs.Run.{useOn, history, isWork, isMove, isIdle, daysOf, lateOn, missDay, runOf}
 use Rattle.lists.proofs.Counts.{countOf-append, countOf-one}
-use Rattle.lists.proofs.Least.{leastFrom-none, leastFrom-unique}
+use Rattle.lists.proofs.Least.{leastFrom-none, leastFrom-before, leastFrom-unique}
 
 -- ---- Counts
 
@@ -65,6 +65,13 @@ missDay-none p rs h =
     leastFrom-none (λ t. ltb 0 (lateOn p rs t)) 0 (suc (p .run .0))
     (λ t a b. le-ltb 0 (lateOn p rs t) (omega (arith, h t (omega arith)))) in
     omega arith
+
+-- a day before it is not late
+pub missDay-before : (p : Plan) (rs : List Release) (i : ℕ) → i < missDay p rs → lateOn p rs i ≡ 0
+unfolding missDay
+missDay-before p rs i h =
+    let not = leastFrom-before (λ t. ltb 0 (lateOn p rs t)) 0 (suc (p .run .0)) i (omega arith) h in
+    omega (arith, ltb-false 0 (lateOn p rs i) not)
 
 -- the day of a miss is the only day that is late with none late before it
 pub missDay-is : (p : Plan) (rs : List Release) (t : ℕ) → t ≤ p .run .0 → 1 ≤ lateOn p rs t → ((i : ℕ) → i < t → lateOn p rs i ≡ 0)

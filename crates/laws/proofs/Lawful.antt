@@ -10,13 +10,13 @@ use Rattle.rules.specs.declared.BatteryString.{BatteryString}
 use Rattle.rules.specs.declared.Plan.{Plan}
 use Rattle.faults.specs.declared.Fault.the-variants.{StringCount, OutOfBounds, MultipleOver}
 use Rattle.faults.specs.declared.Checked.the-variants.{Lawful, Refused}
-use Rattle.rules.specs.Plan.{stringsOf, noString, costLawful, stringLawful, commonMultiple, multipleOf}
+use Rattle.rules.specs.Plan.{stringsOf, noString, costLawful, stringLawful, commonMultiple, multipleOf, dMax}
 use Rattle.rules.specs.Demand.{movingCost}
 use Rattle.faults.specs.Checks.{inBounds, then}
 use Rattle.faults.proofs.Checks.{refused-not-lawful, then-first, then-second, refuseIf-not}
 use Rattle.faults.proofs.Checks.{inBounds-low, inBounds-high, inBounds-yes, inBounds-not}
 use Rattle.rules.specs.Refusal.{countCheck, runLengthCheck, headCheck, costCheck, stringsCheck, multipleCheck, planCheck}
-use Rattle.lists.proofs.Lists.{All, all-map, every-all, by-bool, and-left, and-right}
+use Rattle.lists.proofs.Lists.{All, all-map, every-all, largest-le, by-bool, and-left, and-right}
 use Rattle.lists.proofs.Least.{leastFrom-low, leastFrom-passes, leastFrom-before, leastFrom-unique, leastFrom-none}
 pub use Rattle.laws.specs.Lawful.{LawfulString, LawfulPlan, PlanString}
 
@@ -125,6 +125,13 @@ stringsCheck-all k (s ∷ ss) h =
 pub plan-strings : (p : Plan) → LawfulPlan p → All (PlanString p) (stringsOf p)
 unfolding movingCost
 plan-strings p ok = all-map LawfulString (PlanString p) (λ s h. record { lawful = h; costMax = h .aMax }) (stringsOf p) (ok .each)
+
+-- no D is over 1,000
+pub dMax-le : (p : Plan) → LawfulPlan p → dMax p ≤ 1000
+unfolding dMax
+dMax-le p ok =
+    largest-le (λ s. s .d .0) 1000 (stringsOf p)
+    (all-map LawfulString (λ s. s .d .0 ≤ 1000) (λ s h. omega (arith, h .dMax, h .tMax)) (stringsOf p) (ok .each))
 
 -- where no string is, nothing is paid
 pub noString-cost : (p : Plan) → movingCost p noString ≤ 1000

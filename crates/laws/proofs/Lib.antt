@@ -7,6 +7,7 @@ pub mod Demand
 pub mod Powers
 pub mod Releases
 pub mod ReleaseList
+pub mod Listing
 pub mod Answers
 pub mod Says
 pub mod JobParts

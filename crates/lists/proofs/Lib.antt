@@ -3,6 +3,7 @@ pub mod Lists
 pub mod Least
 pub mod Order
 pub mod Sums
+pub mod Adding
 pub mod Filling
 pub mod Counts
 pub mod FirstOf

@@ -1,12 +1,14 @@
 -- Sums over the places 0 to n − 1 of a function of the place: what the account of a run needs of them.
 use Prim.Native.Nat.{ℕ, zero, suc, _+_, _*_, _≤_, _<_}
-use mathlib.Core.Path.{_≡_, refl}
+use mathlib.Core.Path.{_≡_, refl, sym}
+use mathlib.Core.Bool.{Bool, cond}
 use mathlib.Core.List.{List, [], _∷_}
 use native.Mathlib.Omega.{arith}
 use native.Mathlib.Decide.{decLe, ℕ-discrete}
-use native.Mathlib.Nat.{le-refl, add-mul}
+use native.Mathlib.Nat.{le-refl, add-mul, zero-mul, one-mul}
 use lib.ListN.{length, getD}
 use Rattle.lists.specs.Count.{sumOf}
+use Rattle.lists.proofs.Lists.{by-bool}
 
 unfoldable pub sumTo : ℕ → (ℕ → ℕ) → ℕ
 sumTo zero f = 0
@@ -83,6 +85,36 @@ sumTo-part (suc n) f i k =
           omega arith
     ]
 
+pub sumTo-eq : (n : ℕ) (f g : ℕ → ℕ) → ((j : ℕ) → j < n → f j ≡ g j) → sumTo n f ≡ sumTo n g
+unfolding sumTo
+sumTo-eq zero f g h = refl
+sumTo-eq (suc n) f g h =
+    let rest = sumTo-eq n f g (λ j k. h j (omega arith)) in
+    let last = h n (omega arith) in
+    omega arith
+
+-- those that pass, each weighed by c
+pub sumTo-weigh : (n c : ℕ) (ok : ℕ → Bool) → sumTo n (λ j. cond (ok j) c 0) ≡ sumTo n (λ j. cond (ok j) 1 0) * c
+unfolding sumTo
+sumTo-weigh zero c ok = sym (zero-mul c)
+sumTo-weigh (suc n) c ok =
+    let rest = sumTo-weigh n c ok in
+    let before = sumTo n (λ j. cond (ok j) 1 0) in
+    by-bool (ok n)
+    (λ t. rw t (omega (arith, add-mul before 1 c, one-mul c)))
+    (λ e. rw e (omega (arith, add-mul before 0 c, zero-mul c)))
+
+-- the first m, and n more
+pub sumTo-split : (m n : ℕ) (f : ℕ → ℕ) → sumTo (m + n) f ≡ sumTo m f + sumTo n (λ j. f (m + j))
+unfolding sumTo
+sumTo-split m zero f =
+    let whole : m + 0 ≡ m = omega arith in
+    rw whole (omega arith)
+sumTo-split m (suc n) f =
+    let rest = sumTo-split m n f in
+    let whole : m + suc n ≡ suc (m + n) = omega arith in
+    rw whole (omega arith)
+
 -- the first place apart
 pub sumTo-first : (n : ℕ) (f : ℕ → ℕ) → sumTo (suc n) f ≡ f 0 + sumTo n (λ j. f (suc j))
 unfolding sumTo
@@ -98,6 +130,17 @@ unfolding sumTo sumOf
 sumTo-sumOf f g [] z h = le-refl 0
 sumTo-sumOf f g (x ∷ xs) z h =
     let rest = sumTo-sumOf (λ j. f (suc j)) g xs z (λ j k. h (suc j) (omega arith)) in
+    let head = h 0 (omega arith) in
+    let split = sumTo-first (length xs) f in
+    omega arith
+
+-- place by place below a function of the place, the sum over the list is below the sum over the places
+pub sumOf-sumTo {ℓ} : {A : Type ℓ} (f : ℕ → ℕ) (g : A → ℕ) (xs : List A) (z : A) → ((j : ℕ) → j < length xs → g (getD xs j z) ≤ f j)
+    → sumOf g xs ≤ sumTo (length xs) f
+unfolding sumTo sumOf
+sumOf-sumTo f g [] z h = le-refl 0
+sumOf-sumTo f g (x ∷ xs) z h =
+    let rest = sumOf-sumTo (λ j. f (suc j)) g xs z (λ j k. h (suc j) (omega arith)) in
     let head = h 0 (omega arith) in
     let split = sumTo-first (length xs) f in
     omega arith

@@ -78,7 +78,7 @@ module _ (p : Plan) (rs : List Release) (lawful : LawfulPlan p) (listed : firstU
         let mode = mode-at t t so-far in
         account-closes p rs lawful passes t (mode .start) (mode .b) (mode .k) (stateAt p rs t) (mode .account)
 
-    pub due-done : (t : ℕ) → Punctual p rs t → (j : ℕ) → j < length (stringsOf p) → at (stateAt p rs t) j .deadline .0 ≤ t
+    due-done : (t : ℕ) → Punctual p rs t → (j : ℕ) → j < length (stringsOf p) → at (stateAt p rs t) j .deadline .0 ≤ t
         → left (at (stateAt p rs t) j .job) ≡ 0
     unfolding backlog
     due-done t so-far j a due =

@@ -21,9 +21,9 @@ use Rattle.laws.proofs.History.{history-next}
 use Rattle.laws.proofs.ReleaseList.{str, release-lawful}
 use Rattle.sound.proofs.Using.{spent-using}
 use Rattle.sound.proofs.Orderly.{live-if-left}
-use Rattle.sound.proofs.Arriving.{lawful-str, morning-orderly}
+use Rattle.sound.proofs.Arriving.{lawful-str, later-due, morning-orderly}
 use Rattle.sound.proofs.Morning.{fee, morning-place}
-use Rattle.sound.proofs.Clean.{Punctual, orderly-at, due-done, punctual}
+use Rattle.sound.proofs.Clean.{Punctual, orderly-at, punctual}
 use Rattle.sound.proofs.Progress.{Progress, toCome, serving, past, morning-progress, using-progress}
 
 module _ (p : Plan) (rs : List Release) (lawful : LawfulPlan p) (listed : firstUnlawful p rs ≡ 0)
@@ -68,32 +68,33 @@ module _ (p : Plan) (rs : List Release) (lawful : LawfulPlan p) (listed : firstU
   progress-at zero so-far = toCome (omega arith) refl refl
   progress-at (suc t) so-far = progress-day t so-far (progress-at t (λ i a. so-far i (omega arith)))
 
-  module _ (passes : Passes p) where
-    -- by its deadline the slot has nothing left for it
-    nothing-owed : (e : ℕ) → getD rs m noRelease .day .0 + str p j .d .0 ≤ e → at (stateAt p rs e) j .serves ≡ suc m
-        → left (at (stateAt p rs e) j .job) ≡ 0
-    nothing-owed e due named =
-        let s = at (stateAt p rs e) j in
-        let so-far = punctual p rs lawful listed passes e in
-        elim (decLe 1 (left (s .job))) [
-          | yes some ↦
-              let l = live-if-left p rs e j s (orderly-at p rs lawful listed e so-far .sits j there) some in
-              let this : l .released .0 ≡ m = omega (arith, l .named) in
-              let day : getD rs (l .released .0) noRelease .day .0 ≡ getD rs m noRelease .day .0 = ap (λ i. getD rs i noRelease .day .0)
-              this in
-              due-done p rs lawful listed passes e so-far j there (omega (arith, l .released .3, l .due))
-          | no none ↦ omega arith
-        ]
+  -- by its deadline the slot has nothing left for it, where nobody has been late
+  nothing-owed : (e : ℕ) → Punctual p rs (suc e) → getD rs m noRelease .day .0 + str p j .d .0 ≤ e → at (stateAt p rs e) j .serves ≡ suc m
+      → left (at (stateAt p rs e) j .job) ≡ 0
+  unfolding lateOn
+  nothing-owed e so-far due named =
+      let s = at (stateAt p rs e) j in
+      let o = orderly-at p rs lawful listed e (λ i a. so-far i (omega arith)) in
+      elim (decLe 1 (left (s .job))) [
+        | yes some ↦
+            let l = live-if-left p rs e j s (o .sits j there) some in
+            let this : l .released .0 ≡ m = omega (arith, l .named) in
+            let day : getD rs (l .released .0) noRelease .day .0 ≡ getD rs m noRelease .day .0 = ap (λ i. getD rs i noRelease .day .0)
+            this in
+            let later = later-due p rs lawful listed e (stateAt p rs e) o (so-far e (omega arith)) j there l in
+            absurd (omega (arith, l .released .3, l .due))
+        | no none ↦ omega arith
+      ]
 
-    served-by : (e : ℕ) → getD rs m noRelease .day .0 + str p j .d .0 ≤ e → Sofar e
-        → (works e ≡ getD rs m noRelease .need .0) × (moves e ≡ owed)
-    served-by e due (toCome before w v) = absurd (omega (arith, lawful-str p lawful j there .dPos))
-    served-by e due (serving before named w v) =
-        let s = at (stateAt p rs e) j in
-        let none = nothing-owed e due named in
-        let parts = parts-left (s .job) in
-        (omega arith, omega arith)
-    served-by e due (past before named w v) = (w, v)
+  served-by : (e : ℕ) → Punctual p rs (suc e) → getD rs m noRelease .day .0 + str p j .d .0 ≤ e → Sofar e
+      → (works e ≡ getD rs m noRelease .need .0) × (moves e ≡ owed)
+  served-by e so-far due (toCome before w v) = absurd (omega (arith, lawful-str p lawful j there .dPos))
+  served-by e so-far due (serving before named w v) =
+      let s = at (stateAt p rs e) j in
+      let none = nothing-owed e so-far due named in
+      let parts = parts-left (s .job) in
+      (omega arith, omega arith)
+  served-by e so-far due (past before named w v) = (w, v)
 
   -- before its release nothing is done for it
   untouched-by : (e : ℕ) → e ≤ getD rs m noRelease .day .0 → Sofar e → (works e ≡ 0) × (moves e ≡ 0)
@@ -131,18 +132,21 @@ module _ (p : Plan) (rs : List Release) (lawful : LawfulPlan p) (listed : firstU
 
   -- ---- By its deadline
 
-  module _ (passes : Passes p) where
-    served-index : (m e : ℕ) → m < length rs → dueOf p (getD rs m noRelease) ≤ e → Served p rs (suc m) e
-    served-index m e h due =
-        let j = getD rs m noRelease .place - 1 in
-        let so-far = progress-at p rs lawful listed m j h (placed m h) e (punctual p rs lawful listed passes e) in
-        let done = served-by p rs lawful listed m j h (placed m h) passes e due so-far in
-        let number : suc m - 1 ≡ m = omega arith in
-        record { work = rw number (done .0); moving = done .1 ∙ caused-fee p rs m j (placed m h) }
+  served-index : (m e : ℕ) → m < length rs → Punctual p rs (suc e) → dueOf p (getD rs m noRelease) ≤ e → Served p rs (suc m) e
+  served-index m e h so-far due =
+      let j = getD rs m noRelease .place - 1 in
+      let progress = progress-at p rs lawful listed m j h (placed m h) e (λ i a. so-far i (omega arith)) in
+      let done = served-by p rs lawful listed m j h (placed m h) e so-far due progress in
+      let number : suc m - 1 ≡ m = omega arith in
+      record { work = rw number (done .0); moving = done .1 ∙ caused-fee p rs m j (placed m h) }
 
-    -- the k-th release, in the history up to any day e from its deadline on. Where e is at most N this is the history of the run; after it
-    -- the definition goes on with no further release.
-    pub served : (k e : ℕ) → 1 ≤ k → k ≤ length rs → dueOf p (released rs k) ≤ e → Served p rs k e
-    served k e low high due =
-        let number : suc (k - 1) ≡ k = omega arith in
-        subst (λ n. Served p rs n e) number (served-index (k - 1) e (omega arith) due)
+  -- the k-th release, in the history up to any day e from its deadline on, in any run that has not missed up to e
+  pub served-punctual : (k e : ℕ) → 1 ≤ k → k ≤ length rs → Punctual p rs (suc e) → dueOf p (released rs k) ≤ e → Served p rs k e
+  served-punctual k e low high so-far due =
+      let number : suc (k - 1) ≡ k = omega arith in
+      subst (λ n. Served p rs n e) number (served-index (k - 1) e (omega arith) so-far due)
+
+  -- In a run of a plan that passes. Where e is at most N this is the history of the run; after it the definition goes on with no further
+  -- release.
+  pub served : Passes p → (k e : ℕ) → 1 ≤ k → k ≤ length rs → dueOf p (released rs k) ≤ e → Served p rs k e
+  served passes k e low high due = served-punctual k e low high (punctual p rs lawful listed passes (suc e)) due

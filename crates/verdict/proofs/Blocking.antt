@@ -7,26 +7,15 @@ use native.Mathlib.Nat.{mul-le-mul, div-le-self}
 use borrow.Author.Tests.{lt-leb}
 use Rattle.rules.specs.declared.BatteryString.{BatteryString}
 use Rattle.rules.specs.declared.Plan.{Plan}
-use Rattle.rules.specs.Plan.{stringsOf, dMin, dMax}
+use Rattle.rules.specs.Plan.{dMin, dMax}
 use Rattle.rules.specs.Demand.{holdOf, blockLimit}
-use Rattle.lists.proofs.Lists.{all-map, largest-le}
-use Rattle.laws.proofs.Lawful.{LawfulString, LawfulPlan, PlanString}
+use Rattle.laws.proofs.Lawful.{LawfulPlan, PlanString, dMax-le}
 use Rattle.laws.proofs.Demand.{holdOf-le, blockLimit-late, blockLimit-interval}
 
 -- before the smallest D nothing blocks
 pub blockLimit-early : (p : Plan) (l : ℕ) → l < dMin p → blockLimit p l ≡ 0
 unfolding blockLimit
 blockLimit-early p l h = rw (lt-leb (dMin p) l h)
-
-pub dMax-le : (p : Plan) → LawfulPlan p → dMax p ≤ 1000
-unfolding dMax
-dMax-le p ok = largest-le (λ s. s .d .0) 1000 (stringsOf p) (all-map LawfulString (λ s. s .d .0 ≤ 1000) short (stringsOf p) (ok .each))
-  where
-    short : (s : BatteryString) → LawfulString s → s .d .0 ≤ 1000
-    short s lawful =
-        let d = lawful .dMax in
-        let t = lawful .tMax in
-        omega arith
 
 -- only intervals shorter than the largest D are blocked, and no blocking is longer than its interval
 pub blockLimit-short : (p : Plan) (l : ℕ) → LawfulPlan p → blockLimit p l ≤ 1000

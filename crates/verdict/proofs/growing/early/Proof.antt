@@ -13,7 +13,7 @@ use Rattle.growth.specs.Quick.{grows, quickPairs}
 use Rattle.verdict.specs.Asked.{askedBy}
 use Rattle.verdict.specs.Steps.{Due, Mark, Looked, RowKnown, onward, pairsOf}
 use Rattle.verdict.proofs.Asked.{askedBy-le}
-use Rattle.verdict.proofs.Blocking.{dMax-le}
+use Rattle.laws.proofs.Lawful.{dMax-le}
 use Rattle.verdict.proofs.KeptRows.{kept-row, kept-rows}
 use Rattle.verdict.proofs.Stepping.{asked-early}
 use Rattle.verdict.proofs.Looking.{early-still, mark-early, mark-next, looked-next}

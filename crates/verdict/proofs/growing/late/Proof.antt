@@ -14,7 +14,7 @@ use Rattle.growth.specs.Quick.{grows}
 use Rattle.verdict.specs.Asked.{askedBy}
 use Rattle.verdict.specs.Steps.{Due}
 use Rattle.verdict.proofs.Asked.{askedBy-le}
-use Rattle.verdict.proofs.Blocking.{dMax-le}
+use Rattle.laws.proofs.Lawful.{dMax-le}
 use Rattle.verdict.proofs.Onward.{Onto, onto-soonest, dMax-pos, dMax-grows, demand-unblocked, onward-bad, onward-good, onward-end}
 use Rattle.verdict.proofs.growing.late.Statement.{statement}
 use Rattle.verdict.proofs.growing.late.Tie as tie

@@ -11,10 +11,9 @@ use Rattle.rules.specs.Verdict.{allPairs}
 use Rattle.days.specs.Days.{days}
 use Rattle.rules.specs.declared.Verdict.the-variants.{Fail}
 use Rattle.rules.specs.Demand.{demand}
-use Rattle.laws.proofs.Lawful.{LawfulPlan}
+use Rattle.laws.proofs.Lawful.{LawfulPlan, dMax-le}
 use Rattle.horizon.proofs.Pairs.{rowFrom, rows, scanFrom, allPairs-rows, scan-row, scan-good, scan-bad, scan-row-end, scan-end}
 use Rattle.verdict.proofs.Asked.{askedBy-le}
-use Rattle.verdict.proofs.Blocking.{dMax-le}
 use Rattle.verdict.proofs.Rows.{Latest, Row, latest-start, latest-next, row-short, row-within, row-limit, row-past, row-takers, row-demand}
 use Rattle.verdict.proofs.pairs.scan.Statement.{statement}
 use Rattle.verdict.proofs.pairs.scan.Tie as tie
