@@ -33,7 +33,8 @@ use Rattle.onetext.proofs.ReadLawful.{text-read}
 use Rattle.onetext.proofs.ReadBack.{reading-what-was-written, written-names, alike-new}
 use Rattle.onetext.proofs.WriteBack.{writing-what-was-read}
 use Rattle.onetext.proofs.OldAsNew.{read-blank, run-is, ten, thousand}
-use Rattle.turning.specs.Turned.{OneCost, lineOf, alikeCheck, turnedText, turnCheck, turnedAnswer}
+use Rattle.onetext.specs.OneText.{OneCost}
+use Rattle.turning.specs.Turned.{lineOf, alikeCheck, turnedText, turnCheck, turnedAnswer}
 
 refused-not-text : (f : Fault) (at len : ℕ) → Refused f at ≡ Text len → ⊥
 refused-not-text f at len h =
