@@ -49,7 +49,8 @@ module _ (ed : ℕ) (t : YearlyDate) (a e : ℕ) where
       let d = dateOf k in
       let there = dateOf-exists k (f .inCalendar) in
       let x = existing d there in
-      let year = mapped-of-member (inYear ed t) (d .year) years (upFrom-member (d .year) 2000 400 (x .from-2000) (omega (arith, x .to-2399))) in
+      let inside = upFrom-member (d .year) 2000 400 (x .from-2000) (omega (arith, x .to-2399)) in
+      let year = mapped-of-member (inYear ed t) (d .year) years inside in
       let date = kept-of-member dateExists d (map (inYear ed t) years) (rw (← f .is) at year) there in
       let day = mapped-of-member dayNumber d (datesIn ed t years) date in
       kept-of-member (λ j. inBounds a j e) k (map dayNumber (datesIn ed t years)) (rw (dayNumber-dateOf k (f .inCalendar)) at day)

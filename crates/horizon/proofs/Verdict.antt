@@ -191,8 +191,8 @@ module _ (p : Plan) where
     where
       found : (o : Option Pair) → firstBroken p (allPairs p) ≡ o → firstBroken p (allPairs p) ≡ some (pair l b)
       found none e =
-          let holds = each-of-pairs p (λ q. broken p q ≡ false) (firstOf-none (broken p) (allPairs p) .0 e) l b (first .pos) (first .inRange)
-          (first .allowed) in
+          let unbroken = firstOf-none (broken p) (allPairs p) .0 e in
+          let holds = each-of-pairs p (λ q. broken p q ≡ false) unbroken l b (first .pos) (first .inRange) (first .allowed) in
           absurd (omega (arith, first .breaks, unbroken-holds p (pair l b) holds))
       found (some q) e =
           let same = firstBreak-unique p (q .l) (q .b) l b (firstBroken-names p (q .l) (q .b) e) first in

@@ -1,6 +1,6 @@
--- Where moving is free the code's answers are exact: what it said fail or overload of has a list on which its run says miss, by the day after
--- the interval; for a fail at the pair that it names, for an overload at H with no blocking. `Learnt` is what a function's contract says of
--- its answer.
+-- Where moving is free the code's answers are exact: what it said fail or overload of has a list on which its run says miss, by the day
+-- after the interval; for a fail at the pair that it names, for an overload at H with no blocking. `Learnt` is what a function's contract
+-- says of its answer.
 use Prim.Native.Nat.{ℕ, _+_, _≤_, _<_, zero-le}
 use mathlib.Core.Path.{_≡_, refl, sym, _∙_, subst}
 use native.Mathlib.Omega.{arith}
