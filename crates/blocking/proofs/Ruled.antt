@@ -3,16 +3,15 @@
 use Prim.Native.Nat.{ℕ, suc, _+_, _-_, _≤_}
 use mathlib.Core.Path.{_≡_, refl, sym, _∙_}
 use mathlib.Core.Bool.{Bool, true, false, cond}
-use mathlib.Core.List.{List, [], _∷_}
 use native.Mathlib.Omega.{arith}
 use borrow.Author.Tests.{le-ltb, le-leb, leb-true}
 use lib.Dec.{leb}
 use Rattle.rules.specs.declared.Plan.{Plan}
-use Rattle.lists.specs.Count.{All, every, upFrom}
+use Rattle.lists.specs.Count.{every, upFrom}
 use Rattle.rules.specs.Plan.{multipleOf, dMin, dMax}
 use Rattle.rules.specs.Demand.{demand, overloaded}
-use Rattle.lists.proofs.Lists.{by-bool, true-not-false, every-all}
-use Rattle.lists.proofs.Order.{all-upFrom, upFrom-all}
+use Rattle.lists.proofs.Lists.{by-bool, true-not-false, all-of-every, every-of-all}
+use Rattle.lists.proofs.Order.{all-upFrom, each-of-upFrom}
 use Rattle.laws.proofs.Lawful.{LawfulPlan}
 use Rattle.horizon.proofs.Range.{range-suffices-for}
 use Rattle.blocking.specs.Blockers.{Blocker, limitBy, PassesBy}
@@ -29,11 +28,6 @@ keeps h p = every (keepsAt h p) (upFrom 1 (dMax p + multipleOf p - 1))
 unfoldable pub ruling : Blocker → Plan → Ruling
 ruling h p = cond (keeps h p) passes fails
 
-all-every : (f : ℕ → Bool) (xs : List ℕ) → All (λ x. f x ≡ true) xs → every f xs ≡ true
-unfolding every
-all-every f [] all = refl
-all-every f (x ∷ xs) (here, rest) = rw here (all-every f xs rest)
-
 module _ (h : Blocker) (p : Plan) where
   limit-late : (l : ℕ) → dMax p ≤ l → limitBy h p l ≡ 0
   unfolding limitBy
@@ -42,33 +36,33 @@ module _ (h : Blocker) (p : Plan) where
       by-bool (leb (dMin p) l) (λ t. rw (t, late)) (λ e. rw e)
 
   -- a rule that passes is kept on the range
-  passes-keeps : PassesBy h p → keeps h p ≡ true
+  keeps-of-passesBy : PassesBy h p → keeps h p ≡ true
   unfolding keeps keepsAt
-  passes-keeps rule =
-      all-every (keepsAt h p) (upFrom 1 (dMax p + multipleOf p - 1))
+  keeps-of-passesBy rule =
+      every-of-all (keepsAt h p) (upFrom 1 (dMax p + multipleOf p - 1))
       (all-upFrom (λ l. keepsAt h p l ≡ true) 1 (dMax p + multipleOf p - 1) (λ l low high.
-      all-every (λ b. leb (demand p l b) l) (upFrom 0 (suc (limitBy h p l)))
+      every-of-all (λ b. leb (demand p l b) l) (upFrom 0 (suc (limitBy h p l)))
       (all-upFrom (λ b. leb (demand p l b) l ≡ true) 0 (suc (limitBy h p l)) (λ b from under.
       le-leb (demand p l b) l (rule l b low (omega arith))))))
 
   module _ (ok : LawfulPlan p) (light : overloaded p ≡ false) where
     -- and one that is kept on the range passes
-    keeps-passes : keeps h p ≡ true → PassesBy h p
+    passesBy-of-keeps : keeps h p ≡ true → PassesBy h p
     unfolding keeps keepsAt
-    keeps-passes kept = range-suffices-for p ok (limitBy h p) limit-late light near
+    passesBy-of-keeps kept = range-suffices-for p ok (limitBy h p) limit-late light near
       where
         near : (l b : ℕ) → 1 ≤ l → l ≤ dMax p + multipleOf p - 1 → b ≤ limitBy h p l → demand p l b ≤ l
         near l b low high under =
-            let rows = every-all (keepsAt h p) (upFrom 1 (dMax p + multipleOf p - 1)) kept in
+            let rows = all-of-every (keepsAt h p) (upFrom 1 (dMax p + multipleOf p - 1)) kept in
             let row : keepsAt h p l ≡ true =
-            upFrom-all (λ k. keepsAt h p k ≡ true) 1 (dMax p + multipleOf p - 1) rows l low (omega arith) in
+            each-of-upFrom (λ k. keepsAt h p k ≡ true) 1 (dMax p + multipleOf p - 1) rows l low (omega arith) in
             let holds : ℕ → Bool = λ k. leb (demand p l k) l in
-            let pairs = every-all holds (upFrom 0 (suc (limitBy h p l))) row in
+            let pairs = all-of-every holds (upFrom 0 (suc (limitBy h p l))) row in
             leb-true (demand p l b) l
-            (upFrom-all (λ k. holds k ≡ true) 0 (suc (limitBy h p l)) pairs b (omega arith) (omega arith))
+            (each-of-upFrom (λ k. holds k ≡ true) 0 (suc (limitBy h p l)) pairs b (omega arith) (omega arith))
 
     -- so a ruling is true at every interval
     pub ruling-true : Truly (ruling h p) h p
     unfolding ruling
     ruling-true =
-        by-bool (keeps h p) (λ t. rw t (keeps-passes t)) (λ e. rw e (λ rule. true-not-false (sym (passes-keeps rule) ∙ e)))
+        by-bool (keeps h p) (λ t. rw t (passesBy-of-keeps t)) (λ e. rw e (λ rule. true-not-false (sym (keeps-of-passesBy rule) ∙ e)))

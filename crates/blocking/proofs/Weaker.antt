@@ -19,7 +19,7 @@ use Rattle.rules.specs.Search.{assigned, withSet, setPasses, ordered, searchOf}
 use Rattle.lists.proofs.Lists.{by-bool, true-not-false, largest-mono}
 use Rattle.lists.proofs.Order.{all-of}
 use Rattle.laws.proofs.Lawful.{LawfulPlan}
-use Rattle.sets.proofs.Search.{setPasses-exactly, search-none, search-fewest}
+use Rattle.sets.proofs.Search.{setPasses-exactly, none-of-nobody, search-fewest}
 use Rattle.blocking.specs.Blockers.{Blocker, holdLess, daysBy, limitBy, PassesBy}
 
 -- ---- Shorter blockers
@@ -72,7 +72,7 @@ found-with-fewer p ok k below rule = which (firstOf (setPasses p) (ordered (p .n
     which : (o : Option ℕ) → firstOf (setPasses p) (ordered (p .n)) ≡ o → (m : ℕ) × (searchOf p ≡ Takers m) × (ones m ≤ ones k)
     which none e =
         let nobody : searchOf p ≡ Nobody = unfold searchOf in ap assigned e in
-        absurd (true-not-false (sym passes ∙ search-none p nobody k below))
+        absurd (true-not-false (sym passes ∙ none-of-nobody p nobody k below))
     which (some m) e =
         let found : searchOf p ≡ Takers m = unfold searchOf in ap assigned e in
         (m, found, search-fewest p m found k below passes)

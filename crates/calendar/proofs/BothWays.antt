@@ -12,7 +12,7 @@ use Rattle.calendar.specs.Dates.{date, epoch, dateExists, earlier, dateA
 use Rattle.calendar.specs.Numbers.{daysBeforeYear, daysBeforeMonth, dayNumber, dateOf, lastDay}
 use Rattle.calendar.proofs.Months.{monthLength-bounds, daysBeforeMonth-first, daysBeforeMonth-next, daysBeforeMonth-all}
 use Rattle.calendar.proofs.Existing.{Existing, existing, exists, daysBeforeYear-next, daysBeforeYear-2000, daysBeforeYear-2400, dayNumber-january, dayNumber-last}
-use Rattle.calendar.proofs.Order.{Compared, sooner, same, later, compared, before-number, before-earlier, earlier-before}
+use Rattle.calendar.proofs.Order.{Compared, sooner, same, later, compared, before-number, earlier-of-before, before-of-earlier}
 
 -- ---- The next sheet
 
@@ -120,7 +120,7 @@ dayNumber-in-range d h = dayNumber-last d (existing d h)
 
 -- the order of dates is the order of their numbers
 pub order-kept : (d e : Date) → dateExists d ≡ true → dateExists e ≡ true → (earlier d e ≡ true) ↔ (dayNumber d < dayNumber e)
-order-kept d e h g = ((λ t. before-number d e x z (earlier-before d e t)), (λ less. by-order less (compared d e)))
+order-kept d e h g = ((λ t. before-number d e x z (before-of-earlier d e t)), (λ less. by-order less (compared d e)))
   where
     x : Existing d
     x = existing d h
@@ -129,7 +129,7 @@ order-kept d e h g = ((λ t. before-number d e x z (earlier-before d e t)), (λ 
     z = existing e g
 
     by-order : dayNumber d < dayNumber e → Compared d e → earlier d e ≡ true
-    by-order less (sooner b) = before-earlier d e b
+    by-order less (sooner b) = earlier-of-before d e b
     by-order less (same p) = absurd (omega (arith, ap dayNumber p))
     by-order less (later b) = absurd (omega (arith, before-number e d z x b))
 

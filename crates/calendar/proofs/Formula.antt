@@ -6,7 +6,7 @@ use mathlib.Core.Path.{_≡_}
 use native.Mathlib.Omega.{arith}
 use lib.ListN.{take, getD}
 use Rattle.lists.specs.Count.{sumOf, upFrom}
-use Rattle.lists.proofs.Order.{upFrom-all}
+use Rattle.lists.proofs.Order.{each-of-upFrom}
 use Rattle.calendar.specs.Years.{monthsWith}
 use Rattle.calendar.specs.Places.{InMonth}
 
@@ -20,18 +20,18 @@ oddDays m = (m + m / 8) % 2
 pub start-early : (f m : ℕ) → 1 ≤ m → m ≤ 2 → sumOf (λ n. n) (take (m - 1) (monthsWith f)) ≡ fullStart m
 unfolding upFrom monthsWith sumOf
 start-early f m low high =
-    upFrom-all (λ m. sumOf (λ n. n) (take (m - 1) (monthsWith f)) ≡ fullStart m) 1 2 (omega arith) m low (omega arith)
+    each-of-upFrom (λ m. sumOf (λ n. n) (take (m - 1) (monthsWith f)) ≡ fullStart m) 1 2 (omega arith) m low (omega arith)
 
 -- later months start as many days earlier as February lacks
 pub start-late : (f m : ℕ) → f ≤ 30 → 3 ≤ m → m ≤ 12 → sumOf (λ n. n) (take (m - 1) (monthsWith f)) + (30 - f) ≡ fullStart m
 unfolding upFrom monthsWith sumOf
 start-late f m few low high =
-    upFrom-all (λ m. sumOf (λ n. n) (take (m - 1) (monthsWith f)) + (30 - f) ≡ fullStart m) 3 10 (omega arith) m low (omega arith)
+    each-of-upFrom (λ m. sumOf (λ n. n) (take (m - 1) (monthsWith f)) + (30 - f) ≡ fullStart m) 3 10 (omega arith) m low (omega arith)
 
 pub month-lengths : (f m : ℕ) → 1 ≤ m → m ≤ 12 → (m ≡ 2 → ⊥) → getD (monthsWith f) (m - 1) 0 ≡ 30 + oddDays m
 unfolding upFrom monthsWith
 month-lengths f m low high =
-    upFrom-all (λ m. (m ≡ 2 → ⊥) → getD (monthsWith f) (m - 1) 0 ≡ 30 + oddDays m) 1 12 (omega arith) m low (omega arith)
+    each-of-upFrom (λ m. (m ≡ 2 → ⊥) → getD (monthsWith f) (m - 1) 0 ≡ 30 + oddDays m) 1 12 (omega arith) m low (omega arith)
 
 -- ---- The month of a day of the year
 
@@ -39,12 +39,12 @@ month-lengths f m low high =
 full-starts : (m : ℕ) → 1 ≤ m → m ≤ 12 → sumOf (λ n. n) (take (m - 1) (monthsWith 30)) ≡ fullStart m
 unfolding upFrom monthsWith sumOf
 full-starts m low high =
-    upFrom-all (λ m. sumOf (λ n. n) (take (m - 1) (monthsWith 30)) ≡ fullStart m) 1 12 (omega arith) m low (omega arith)
+    each-of-upFrom (λ m. sumOf (λ n. n) (take (m - 1) (monthsWith 30)) ≡ fullStart m) 1 12 (omega arith) m low (omega arith)
 
 full-lengths : (m : ℕ) → 1 ≤ m → m ≤ 12 → fullStart m + getD (monthsWith 30) (m - 1) 0 ≡ fullStart (m + 1)
 unfolding upFrom monthsWith
 full-lengths m low high =
-    upFrom-all (λ m. fullStart m + getD (monthsWith 30) (m - 1) 0 ≡ fullStart (m + 1)) 1 12 (omega arith) m low (omega arith)
+    each-of-upFrom (λ m. fullStart m + getD (monthsWith 30) (m - 1) 0 ≡ fullStart (m + 1)) 1 12 (omega arith) m low (omega arith)
 
 pub full-month : (day : ℕ) → day ≤ 366 → InMonth 30 day ((12 * day + 373) / 367) (day - fullStart ((12 * day + 373) / 367))
 full-month day h =
@@ -67,7 +67,7 @@ module _ (f day m rest : ℕ) (few : f ≤ 30) where
   month-early early x =
       let first : m ≤ 2 = omega (arith, full-starts m (x .january) (x .december)) in
       let both =
-      upFrom-all
+      each-of-upFrom
       (λ m. sumOf (λ n. n) (take (m - 1) (monthsWith 30)) + rest ≡ day → rest < getD (monthsWith 30) (m - 1) 0
       → (sumOf (λ n. n) (take (m - 1) (monthsWith f)) + rest ≡ day) × (rest < getD (monthsWith f) (m - 1) 0))
       1 2 (omega arith) m (x .january) (omega arith) (x .adds) (x .within) in
@@ -92,4 +92,4 @@ module _ (f day m rest : ℕ) (few : f ≤ 30) where
 pub month-longest : (f m : ℕ) → f ≤ 29 → 1 ≤ m → m ≤ 12 → getD (monthsWith f) (m - 1) 0 ≤ getD (monthsWith 29) (m - 1) 0
 unfolding upFrom monthsWith
 month-longest f m few low high =
-    upFrom-all (λ m. getD (monthsWith f) (m - 1) 0 ≤ getD (monthsWith 29) (m - 1) 0) 1 12 (omega arith) m low (omega arith)
+    each-of-upFrom (λ m. getD (monthsWith f) (m - 1) 0 ≤ getD (monthsWith 29) (m - 1) 0) 1 12 (omega arith) m low (omega arith)

@@ -11,7 +11,7 @@ use native.Mathlib.Decide.{decLe, ℕ-discrete}
 use borrow.Author.Tests.{eq-eqb, eqb-true}
 use lib.Dec.{eqb}
 use Rattle.lists.specs.Count.{All, sumOf, upFrom, keep, every}
-use Rattle.lists.proofs.Lists.{by-bool, true-not-false, all-map, every-all}
+use Rattle.lists.proofs.Lists.{by-bool, true-not-false, all-map, all-of-every}
 use Rattle.lists.proofs.Order.{Rising}
 use Rattle.faults.specs.Checks.{inBounds}
 use Rattle.faults.proofs.Checks.{inBounds-low, inBounds-yes, inBounds-not}
@@ -241,7 +241,7 @@ pub edition-1-leap-gaps : (a e : ℕ) → All LeapGap (gaps (yearlyDays 1 leapDa
 unfolding daysIn
 edition-1-leap-gaps a e =
     let days = map dayNumber (datesIn 1 leapDay years) in
-    let all = all-map (λ g. (eqb g 1461 || eqb g 2921) ≡ true) LeapGap leap-gap (gaps days) (every-all _ (gaps days) leap-gaps) in
+    let all = all-map (λ g. (eqb g 1461 || eqb g 2921) ≡ true) LeapGap leap-gap (gaps days) (all-of-every _ (gaps days) leap-gaps) in
     gaps-between LeapGap a e days (all-rising 1 leapDay) all
 
 -- and both occur: the gaps of 29 February by edition 1 and by edition 2, from 1 January 2096 to 31 December 2108

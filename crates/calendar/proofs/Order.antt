@@ -23,9 +23,9 @@ or-cases {ℓ} : {A : Type ℓ} (a b : Bool) → (a || b) ≡ true → (a ≡ tr
 or-cases true b h f g = f refl
 or-cases false b h f g = g h
 
-pub earlier-before : (d e : Date) → earlier d e ≡ true → Before d e
+pub before-of-earlier : (d e : Date) → earlier d e ≡ true → Before d e
 unfolding earlier
-earlier-before d e h =
+before-of-earlier d e h =
     or-cases (ltb (d .year) (e .year)) _ h
     (λ y. by-year (ltb-true (d .year) (e .year) y))
     (λ rest.
@@ -36,12 +36,12 @@ earlier-before d e h =
     by-day same (eqb-true (d .month) (e .month) (and-left (eqb (d .month) (e .month)) (ltb (d .day) (e .day)) days))
     (ltb-true (d .day) (e .day) (and-right (eqb (d .month) (e .month)) (ltb (d .day) (e .day)) days))))
 
-pub before-earlier : (d e : Date) → Before d e → earlier d e ≡ true
+pub earlier-of-before : (d e : Date) → Before d e → earlier d e ≡ true
 unfolding earlier
-before-earlier d e (by-year y) = rw (lt-ltb (d .year) (e .year) y)
-before-earlier d e (by-month y m) =
+earlier-of-before d e (by-year y) = rw (lt-ltb (d .year) (e .year) y)
+earlier-of-before d e (by-month y m) =
     rw (le-ltb (d .year) (e .year) (omega arith), eq-eqb (d .year) (e .year) y, lt-ltb (d .month) (e .month) m)
-before-earlier d e (by-day y m k) =
+earlier-of-before d e (by-day y m k) =
     rw (
       le-ltb (d .year) (e .year) (omega arith),
       eq-eqb (d .year) (e .year) y,

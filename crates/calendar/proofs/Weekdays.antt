@@ -5,7 +5,7 @@ use native.Mathlib.Omega.{arith}
 use native.Mathlib.Nat.{add-mod-right}
 use lib.ListN.{getD}
 use Rattle.lists.specs.Count.{upFrom}
-use Rattle.lists.proofs.Order.{upFrom-all}
+use Rattle.lists.proofs.Order.{each-of-upFrom}
 use Rattle.calendar.specs.declared.Weekday.the-variants.{Saturday}
 use Rattle.calendar.specs.Weekdays.{week, weekdayOf, weekdayNumber}
 
@@ -22,4 +22,4 @@ pub weekday-counts : (k : ℕ) → weekdayNumber (weekdayOf k) ≡ k % 7
 unfolding upFrom
 weekday-counts k =
     ap weekdayNumber (sym (weekdayOf-place k (k % 7) refl))
-    ∙ upFrom-all (λ p. weekdayNumber (getD week p Saturday) ≡ p) 0 7 (omega arith) (k % 7) (omega arith) (omega arith)
+    ∙ each-of-upFrom (λ p. weekdayNumber (getD week p Saturday) ≡ p) 0 7 (omega arith) (k % 7) (omega arith) (omega arith)

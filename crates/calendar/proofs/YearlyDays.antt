@@ -7,7 +7,7 @@ use mathlib.Core.List.{[], map}
 use native.Mathlib.Omega.{arith}
 use Rattle.lists.specs.Count.{keep, Member}
 use Rattle.lists.proofs.Order.{Rising, all-of, all-keep, rising-keep, rising-map, rising-within, rising-mapped, rising-upFrom}
-use Rattle.lists.proofs.Members.{keep-member, member-keep, keep-none, map-member, member-map, upFrom-member}
+use Rattle.lists.proofs.Members.{kept-of-member, member-of-kept, keep-none, mapped-of-member, member-of-mapped, upFrom-member}
 use Rattle.faults.specs.Checks.{inBounds}
 use Rattle.faults.proofs.Checks.{inBounds-low, inBounds-high, inBounds-yes, inBounds-not}
 use Rattle.calendar.specs.declared.Date.{Date}
@@ -49,20 +49,21 @@ module _ (ed : ℕ) (t : YearlyDate) (a e : ℕ) where
       let d = dateOf k in
       let there = dateOf-exists k (f .inCalendar) in
       let x = existing d there in
-      let year = map-member (inYear ed t) (d .year) years (upFrom-member (d .year) 2000 400 (x .from-2000) (omega (arith, x .to-2399))) in
-      let date = keep-member dateExists d (map (inYear ed t) years) (rw (← f .is) at year) there in
-      let day = map-member dayNumber d (datesIn ed t years) date in
-      keep-member (λ j. inBounds a j e) k (map dayNumber (datesIn ed t years)) (rw (dayNumber-dateOf k (f .inCalendar)) at day)
+      let inside = upFrom-member (d .year) 2000 400 (x .from-2000) (omega (arith, x .to-2399)) in
+      let year = mapped-of-member (inYear ed t) (d .year) years inside in
+      let date = kept-of-member dateExists d (map (inYear ed t) years) (rw (← f .is) at year) there in
+      let day = mapped-of-member dayNumber d (datesIn ed t years) date in
+      kept-of-member (λ j. inBounds a j e) k (map dayNumber (datesIn ed t years)) (rw (dayNumber-dateOf k (f .inCalendar)) at day)
       (inBounds-yes a k e (f .from) (f .to))
 
   falls : (k : ℕ) → Member k (yearlyDays ed t a e) → FallsBetween ed t a e k
   unfolding daysIn datesIn
   falls k m =
-      let between = member-keep (λ j. inBounds a j e) k (map dayNumber (datesIn ed t years)) m in
-      let day = member-map dayNumber k (datesIn ed t years) (between .0) in
+      let between = member-of-kept (λ j. inBounds a j e) k (map dayNumber (datesIn ed t years)) m in
+      let day = member-of-mapped dayNumber k (datesIn ed t years) (between .0) in
       let d = day .0 in
-      let date = member-keep dateExists d (map (inYear ed t) years) (day .1) in
-      let year = member-map (inYear ed t) d years (date .0) in
+      let date = member-of-kept dateExists d (map (inYear ed t) years) (day .1) in
+      let year = member-of-mapped (inYear ed t) d years (date .0) in
       let is : dateOf k ≡ d = ap dateOf (day .2) ∙ dateOf-dayNumber d (date .1) in
       record {
         inCalendar = omega (arith, day .2, dayNumber-in-range d (date .1));

@@ -7,9 +7,10 @@ use super::files::read_file;
 use super::say;
 use writing::Saved;
 
-pub(crate) fn to_new(command: &[u8]) {
+// Turned into the old version, or into the new one; `wanted` is how the command is to be said.
+pub(crate) fn turn(command: &[u8], old: bool, wanted: &[u8]) {
     if word_count(command) != 2 {
-        say::complain(b"to-02 FILE");
+        say::complain(wanted);
         return;
     }
     let mut text = [0u8; 65537];
@@ -18,23 +19,15 @@ pub(crate) fn to_new(command: &[u8]) {
         return;
     };
     let mut page = [0u8; 65536];
-    let saved = turning::to_new(first(&text, count), &mut page, 0);
+    let saved = turned(first(&text, count), &mut page, old);
     answer_turned(saved, &page);
 }
 
-pub(crate) fn to_old(command: &[u8]) {
-    if word_count(command) != 2 {
-        say::complain(b"to-01 FILE");
-        return;
+fn turned(text: &[u8], page: &mut [u8], old: bool) -> Saved {
+    if old {
+        return turning::to_old(text, page, 0);
     }
-    let mut text = [0u8; 65537];
-    let got = read_file(word(command, 1), &mut text);
-    let Got::Bytes { count } = got else {
-        return;
-    };
-    let mut page = [0u8; 65536];
-    let saved = turning::to_old(first(&text, count), &mut page, 0);
-    answer_turned(saved, &page);
+    turning::to_new(text, page, 0)
 }
 
 // The turned text at the head of the page, or the refusal.

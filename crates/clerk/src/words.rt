@@ -7,8 +7,7 @@ use super::dates::yearly_days;
 use super::quick::quick_verdict;
 use super::save::save;
 use super::say;
-use super::turn::to_new;
-use super::turn::to_old;
+use super::turn::turn;
 
 pub(crate) fn answer(command: &[u8]) {
     let first = word(command, 0);
@@ -17,9 +16,9 @@ pub(crate) fn answer(command: &[u8]) {
     } else if same(first, b"quick") {
         quick_verdict(command);
     } else if same(first, b"to-02") {
-        to_new(command);
+        turn(command, false, b"to-02 FILE");
     } else if same(first, b"to-01") {
-        to_old(command);
+        turn(command, true, b"to-01 FILE");
     } else if same(first, b"date") {
         date(command);
     } else if same(first, b"day") {

@@ -23,8 +23,8 @@ module _
     (p : Plan) (ok : LawfulPlan p) (limit : ℕ → ℕ) (from : ℕ)
     (early : (l : ℕ) → l < from → NoJobs p l) (rises : Rises limit from) where
   -- where no job fits the interval before, some count grows
-  grows-first : (l b : ℕ) → FirstBreakUnder limit p (suc l) b → NoJobs p l → grows p (pair (suc l) b) ≡ false → ⊥
-  grows-first l b first none still =
+  before-any-job : (l b : ℕ) → FirstBreakUnder limit p (suc l) b → NoJobs p l → grows p (pair (suc l) b) ≡ false → ⊥
+  before-any-job l b first none still =
       omega (arith, demand-still p ok l b still, demand-no-jobs p ok l b none, first .breaks, first .allowed, rises .capped (suc l))
 
   -- where the limit at the interval before falls short of b
@@ -47,11 +47,11 @@ module _
 
   not-still : (l b : ℕ) → FirstBreakUnder limit p l b → grows p (pair l b) ≡ false → ⊥
   not-still zero b first still = omega (arith, first .pos)
-  not-still (suc zero) b first still = grows-first zero b first (start-no-jobs p ok) still
+  not-still (suc zero) b first still = before-any-job zero b first (start-no-jobs p ok) still
   not-still (suc (suc l)) b first still =
       elim (decLe from (suc l)) [
         | yes late ↦ grows-later (suc l) b first (omega arith) late still
-        | no before ↦ grows-first (suc l) b first (early (suc l) (omega arith)) still
+        | no before ↦ before-any-job (suc l) b first (early (suc l) (omega arith)) still
       ]
 
   -- the first broken pair grows

@@ -19,7 +19,7 @@ use Rattle.laws.proofs.Lawful.{LawfulPlan}
 use Rattle.lists.proofs.Order.{all-of}
 use Rattle.laws.proofs.Demand.{holdOf-work, need-taker, need-keeper}
 use Rattle.horizon.proofs.Range.{overload-at-period}
-use Rattle.horizon.proofs.Verdict.{pass-passes}
+use Rattle.horizon.proofs.Verdict.{passes-of-pass}
 use Rattle.horizon.proofs.Sets.{permitted, permit-sumOf, withSet-strings, withSet-lawful}
 
 unfoldable pub workOf : ℕ → BatteryString → ℕ
@@ -76,7 +76,7 @@ module _ (p : Plan) (ok : LawfulPlan p) where
   unfolding setPasses
   work-alone-breaks l pos over m =
       by-bool (setPasses p m)
-      (λ t. absurd (omega (arith, withSet-work p m l, pass-passes (withSet p m) (withSet-lawful p m ok) t l 0 pos zero-le)))
+      (λ t. absurd (omega (arith, withSet-work p m l, passes-of-pass (withSet p m) (withSet-lawful p m ok) t l 0 pos zero-le)))
       (λ e. e)
 
   -- where the work alone is an overload, no set passes

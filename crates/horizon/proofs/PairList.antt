@@ -13,8 +13,8 @@ use Rattle.rules.specs.Plan.{multipleOf, dMax}
 use Rattle.rules.specs.Demand.{blockLimit}
 use Rattle.rules.specs.Verdict.{Pair, pairsAt, allPairs, broken, compared}
 use Rattle.lists.proofs.Lists.{All}
-use Rattle.lists.proofs.Order.{Rising, all-mapped, mapped-all, all-flat, flat-all}
-use Rattle.lists.proofs.Order.{all-upFrom, upFrom-all, rising-map, rising-mapped, rising-flat, rising-upFrom}
+use Rattle.lists.proofs.Order.{Rising, all-mapped, each-of-mapped, all-flat, each-of-flat}
+use Rattle.lists.proofs.Order.{all-upFrom, each-of-upFrom, rising-map, rising-mapped, rising-flat, rising-upFrom}
 use Rattle.horizon.proofs.Pairs.{pair}
 
 module _ (p : Plan) where
@@ -41,10 +41,10 @@ module _ (p : Plan) where
       all-mapped P (pair l) (upFrom 0 (suc (blockLimit p l)))
       (all-upFrom (λ b. P (pair l b)) 0 (suc (blockLimit p l)) (λ b low high. f b (omega arith)))
 
-  pub row-all : (P : Pair → Type 0) (l : ℕ) → All P (pairsAt p l) → (b : ℕ) → b ≤ blockLimit p l → P (pair l b)
+  pub each-of-row : (P : Pair → Type 0) (l : ℕ) → All P (pairsAt p l) → (b : ℕ) → b ≤ blockLimit p l → P (pair l b)
   unfolding pairsAt
-  row-all P l h b m =
-      upFrom-all (λ c. P (pair l c)) 0 (suc (blockLimit p l)) (mapped-all P (pair l) (upFrom 0 (suc (blockLimit p l))) h) b zero-le
+  each-of-row P l h b m =
+      each-of-upFrom (λ c. P (pair l c)) 0 (suc (blockLimit p l)) (each-of-mapped P (pair l) (upFrom 0 (suc (blockLimit p l))) h) b zero-le
       (omega arith)
 
   -- the pairs are those with l from 1 to Dmax + H − 1 and b up to the blocking limit
@@ -58,14 +58,14 @@ module _ (p : Plan) where
       (all-upFrom (λ l. All P (pairsAt p l)) 1 (dMax p + multipleOf p - 1) (λ l low high.
       all-row P l (λ b m. f l b low (omega arith) m)))
 
-  pub pairs-all :
+  pub each-of-pairs :
       (P : Pair → Type 0) → All P (allPairs p)
       → (l b : ℕ) → 1 ≤ l → l ≤ dMax p + multipleOf p - 1 → b ≤ blockLimit p l → P (pair l b)
   unfolding allPairs
-  pairs-all P h l b low high m =
-      row-all P l
-      (upFrom-all (λ i. All P (pairsAt p i)) 1 (dMax p + multipleOf p - 1)
-      (flat-all P (pairsAt p) (upFrom 1 (dMax p + multipleOf p - 1)) h) l low (omega arith))
+  each-of-pairs P h l b low high m =
+      each-of-row P l
+      (each-of-upFrom (λ i. All P (pairsAt p i)) 1 (dMax p + multipleOf p - 1)
+      (each-of-flat P (pairsAt p) (upFrom 1 (dMax p + multipleOf p - 1)) h) l low (omega arith))
       b m
 
   -- they stand in order

@@ -20,7 +20,7 @@ use Rattle.lists.proofs.Lists.{by-bool, true-not-false}
 use Rattle.laws.proofs.Lawful.{LawfulPlan}
 use Rattle.horizon.proofs.Pairs.{pair, broken-no, broken-over, unbroken-holds, scanFrom, verdictOver-overload, verdictOver-scan}
 use Rattle.horizon.proofs.Range.{overload-at-period, range-suffices}
-use Rattle.horizon.proofs.PairList.{Within, Before, all-pairs, pairs-all, pairs-rising}
+use Rattle.horizon.proofs.PairList.{Within, Before, all-pairs, each-of-pairs, pairs-rising}
 use Rattle.lists.proofs.FirstOf.{firstOf-none, firstOf-passes, firstOf-in, firstOf-least}
 use Rattle.horizon.proofs.PairList.{compared-all}
 use Rattle.horizon.specs.FirstBreak.{FirstBreak}
@@ -78,17 +78,17 @@ module _ (p : Plan) where
       rw (light, none-is, whole)
 
 module _ (p : Plan) (ok : LawfulPlan p) where
-  pub pass-passes : isPass (verdictOf p) ≡ true → Passes p
-  pass-passes h =
+  pub passes-of-pass : isPass (verdictOf p) ≡ true → Passes p
+  passes-of-pass h =
       range-suffices p ok (pass-not-overloaded p h) (λ l b low high limit.
       unbroken-holds p (pair l b) (whole l b low high limit))
     where
       whole : (l b : ℕ) → 1 ≤ l → l ≤ dMax p + multipleOf p - 1 → b ≤ blockLimit p l → broken p (pair l b) ≡ false
-      whole = pairs-all p (λ q. broken p q ≡ false) (firstOf-none (broken p) (allPairs p) .0 (pass-none-broken p h))
+      whole = each-of-pairs p (λ q. broken p q ≡ false) (firstOf-none (broken p) (allPairs p) .0 (pass-none-broken p h))
 
-  pub passes-pass : Passes p → isPass (verdictOf p) ≡ true
+  pub pass-of-passes : Passes p → isPass (verdictOf p) ≡ true
   unfolding verdictOver judged isPass
-  passes-pass rule =
+  pass-of-passes rule =
       let light : overloaded p ≡ false =
       by-bool (overloaded p)
       (λ t. absurd (omega (arith, overload-at-period p ok t, rule (multipleOf p) 0 (ok .hPos) zero-le)))
@@ -99,7 +99,7 @@ module _ (p : Plan) (ok : LawfulPlan p) where
 
   -- the verdict is Pass exactly where the plan passes
   pub pass-exactly : (isPass (verdictOf p) ≡ true) ↔ Passes p
-  pass-exactly = (pass-passes, passes-pass)
+  pass-exactly = (passes-of-pass, pass-of-passes)
 
 -- ---- Fail
 
@@ -124,7 +124,7 @@ module _ (p : Plan) where
           (m c : ℕ) → 1 ≤ m → m ≤ dMax p + multipleOf p - 1 → c ≤ blockLimit p m
           → broken p (pair m c) ≡ true → (pair l b ≡ pair m c) ⊎ Before (pair l b) (pair m c)
       least =
-          pairs-all p (λ r. broken p r ≡ true → (pair l b ≡ r) ⊎ Before (pair l b) r)
+          each-of-pairs p (λ r. broken p r ≡ true → (pair l b ≡ r) ⊎ Before (pair l b) r)
           (firstOf-least (broken p) Before (allPairs p) (pair l b) (pairs-rising p) h)
 
       not-after : (m c : ℕ) → Before (pair m c) (pair l b) → (pair l b ≡ pair m c) ⊎ Before (pair l b) (pair m c) → ⊥
@@ -191,8 +191,8 @@ module _ (p : Plan) where
     where
       found : (o : Option Pair) → firstBroken p (allPairs p) ≡ o → firstBroken p (allPairs p) ≡ some (pair l b)
       found none e =
-          let holds = pairs-all p (λ q. broken p q ≡ false) (firstOf-none (broken p) (allPairs p) .0 e) l b (first .pos) (first .inRange)
-          (first .allowed) in
+          let unbroken = firstOf-none (broken p) (allPairs p) .0 e in
+          let holds = each-of-pairs p (λ q. broken p q ≡ false) unbroken l b (first .pos) (first .inRange) (first .allowed) in
           absurd (omega (arith, first .breaks, unbroken-holds p (pair l b) holds))
       found (some q) e =
           let same = firstBreak-unique p (q .l) (q .b) l b (firstBroken-names p (q .l) (q .b) e) first in

@@ -16,7 +16,7 @@ use Rattle.faults.specs.Checks.{inBounds, then}
 use Rattle.faults.proofs.Checks.{refused-not-lawful, then-first, then-second, refuseIf-not}
 use Rattle.faults.proofs.Checks.{inBounds-low, inBounds-high, inBounds-yes, inBounds-not}
 use Rattle.rules.specs.Refusal.{countCheck, runLengthCheck, headCheck, costCheck, stringsCheck, multipleCheck, planCheck}
-use Rattle.lists.proofs.Lists.{All, all-map, every-all, largest-le, by-bool, and-left, and-right}
+use Rattle.lists.proofs.Lists.{All, all-map, all-of-every, largest-le, by-bool, and-left, and-right}
 use Rattle.lists.proofs.Least.{leastFrom-low, leastFrom-passes, leastFrom-before, leastFrom-unique, leastFrom-none}
 pub use Rattle.laws.specs.Lawful.{LawfulString, LawfulPlan, PlanString}
 
@@ -142,7 +142,7 @@ pub commonMultiple-whole : (ss : List BatteryString) (h : ℕ) → commonMultipl
 unfolding commonMultiple
 commonMultiple-whole ss h e =
     all-map (λ s. eqb (h % s .t .0) 0 ≡ true) (λ s. h % s .t .0 ≡ 0) (λ s t. eqb-true (h % s .t .0) 0 t) ss
-    (every-all (λ s. eqb (h % s .t .0) 0) ss e)
+    (all-of-every (λ s. eqb (h % s .t .0) 0) ss e)
 
 pub multipleOf-pos : (p : Plan) → 1 ≤ multipleOf p
 unfolding multipleOf

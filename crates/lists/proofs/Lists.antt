@@ -67,10 +67,15 @@ module _ {ℓ} {A : Type ℓ} where
 
   -- ---- every and any
 
-  pub every-all : (f : A → Bool) (xs : List A) → every f xs ≡ true → All (λ x. f x ≡ true) xs
+  pub every-of-all : (f : A → Bool) (xs : List A) → All (λ x. f x ≡ true) xs → every f xs ≡ true
   unfolding every
-  every-all f [] h = tt
-  every-all f (x ∷ xs) h = by-bool (f x) (λ t. (t, every-all f xs (rw t at h))) (λ e. absurd (true-not-false (sym h ∙ rw e)))
+  every-of-all f [] all = refl
+  every-of-all f (x ∷ xs) (here, rest) = rw here (every-of-all f xs rest)
+
+  pub all-of-every : (f : A → Bool) (xs : List A) → every f xs ≡ true → All (λ x. f x ≡ true) xs
+  unfolding every
+  all-of-every f [] h = tt
+  all-of-every f (x ∷ xs) h = by-bool (f x) (λ t. (t, all-of-every f xs (rw t at h))) (λ e. absurd (true-not-false (sym h ∙ rw e)))
 
   -- one that passes is enough
   pub any-at : (f : A → Bool) (xs : List A) (z : A) (i : ℕ) → i < length xs → f (getD xs i z) ≡ true → any f xs ≡ true

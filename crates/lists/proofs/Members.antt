@@ -10,18 +10,18 @@ use Rattle.lists.specs.Count.{upFrom, keep, Member}
 use Rattle.lists.proofs.Lists.{by-bool}
 
 module _ {A : Type 0} (f : A → Bool) (x : A) where
-  pub keep-member : (xs : List A) → Member x xs → f x ≡ true → Member x (keep f xs)
+  pub kept-of-member : (xs : List A) → Member x xs → f x ≡ true → Member x (keep f xs)
   unfolding keep
-  keep-member [] m h = absurd m
-  keep-member (y ∷ ys) (inl e) h = rw (ap f (sym e) ∙ h) (inl e)
-  keep-member (y ∷ ys) (inr m) h =
-      let rest = keep-member ys m h in
+  kept-of-member [] m h = absurd m
+  kept-of-member (y ∷ ys) (inl e) h = rw (ap f (sym e) ∙ h) (inl e)
+  kept-of-member (y ∷ ys) (inr m) h =
+      let rest = kept-of-member ys m h in
       by-bool (f y) (λ t. rw t (inr rest)) (λ t. rw t rest)
 
-  pub member-keep : (xs : List A) → Member x (keep f xs) → Member x xs × (f x ≡ true)
+  pub member-of-kept : (xs : List A) → Member x (keep f xs) → Member x xs × (f x ≡ true)
   unfolding keep
-  member-keep [] m = absurd m
-  member-keep (y ∷ ys) m = by-bool (f y) (λ t. kept t (rw t at m) (member-keep ys)) (λ t. later (member-keep ys (rw t at m)))
+  member-of-kept [] m = absurd m
+  member-of-kept (y ∷ ys) m = by-bool (f y) (λ t. kept t (rw t at m) (member-of-kept ys)) (λ t. later (member-of-kept ys (rw t at m)))
     where
       later : Member x ys × (f x ≡ true) → Member x (y ∷ ys) × (f x ≡ true)
       later both = (inr (both .0), both .1)
@@ -37,16 +37,16 @@ keep-none f none [] = refl
 keep-none f none (y ∷ ys) = rw (none y) (keep-none f none ys)
 
 module _ {A B : Type 0} (f : A → B) where
-  pub map-member : (x : A) (xs : List A) → Member x xs → Member (f x) (map f xs)
-  map-member x [] m = absurd m
-  map-member x (y ∷ ys) (inl e) = inl (ap f e)
-  map-member x (y ∷ ys) (inr m) = inr (map-member x ys m)
+  pub mapped-of-member : (x : A) (xs : List A) → Member x xs → Member (f x) (map f xs)
+  mapped-of-member x [] m = absurd m
+  mapped-of-member x (y ∷ ys) (inl e) = inl (ap f e)
+  mapped-of-member x (y ∷ ys) (inr m) = inr (mapped-of-member x ys m)
 
-  pub member-map : (z : B) (xs : List A) → Member z (map f xs) → (x : A) × (Member x xs) × (z ≡ f x)
-  member-map z [] m = absurd m
-  member-map z (y ∷ ys) (inl e) = (y, inl refl, e)
-  member-map z (y ∷ ys) (inr m) =
-      let rest = member-map z ys m in
+  pub member-of-mapped : (z : B) (xs : List A) → Member z (map f xs) → (x : A) × (Member x xs) × (z ≡ f x)
+  member-of-mapped z [] m = absurd m
+  member-of-mapped z (y ∷ ys) (inl e) = (y, inl refl, e)
+  member-of-mapped z (y ∷ ys) (inr m) =
+      let rest = member-of-mapped z ys m in
       (rest .0, inr (rest .1), rest .2)
 
 pub upFrom-member : (i k n : ℕ) → k ≤ i → i < k + n → Member i (upFrom k n)

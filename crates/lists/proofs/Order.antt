@@ -65,13 +65,13 @@ module _ {ℓ} {A : Type ℓ} where
   all-keep P f [] h = tt
   all-keep P f (x ∷ xs) h = by-bool (f x) (λ t. rw t (h .0 t, all-keep P f xs (h .1))) (λ e. rw e (all-keep P f xs (h .1)))
 
-  pub keep-all : (P : A → Type 0) (f : A → Bool) (xs : List A) → All P (keep f xs) → All (λ x. f x ≡ true → P x) xs
+  pub each-of-kept : (P : A → Type 0) (f : A → Bool) (xs : List A) → All P (keep f xs) → All (λ x. f x ≡ true → P x) xs
   unfolding keep
-  keep-all P f [] h = tt
-  keep-all P f (x ∷ xs) h =
+  each-of-kept P f [] h = tt
+  each-of-kept P f (x ∷ xs) h =
       by-bool (f x)
-      (λ t. let k = rw t at h in ((λ u. k .0), keep-all P f xs (k .1)))
-      (λ e. ((λ u. absurd (true-not-false (sym u ∙ e))), keep-all P f xs (rw e at h)))
+      (λ t. let k = rw t at h in ((λ u. k .0), each-of-kept P f xs (k .1)))
+      (λ e. ((λ u. absurd (true-not-false (sym u ∙ e))), each-of-kept P f xs (rw e at h)))
 
 -- ---- map and flatMap
 
@@ -85,19 +85,19 @@ module _ {ℓ κ} {A : Type ℓ} {B : Type κ} where
   take-map f (suc n) [] = refl
   take-map f (suc n) (x ∷ xs) = ap (λ ys. f x ∷ ys) (take-map f n xs)
 
-  pub mapped-all : (P : B → Type 0) (f : A → B) (xs : List A) → All P (map f xs) → All (λ x. P (f x)) xs
-  mapped-all P f [] h = tt
-  mapped-all P f (x ∷ xs) h = (h .0, mapped-all P f xs (h .1))
+  pub each-of-mapped : (P : B → Type 0) (f : A → B) (xs : List A) → All P (map f xs) → All (λ x. P (f x)) xs
+  each-of-mapped P f [] h = tt
+  each-of-mapped P f (x ∷ xs) h = (h .0, each-of-mapped P f xs (h .1))
 
   pub all-flat : (P : B → Type 0) (f : A → List B) (xs : List A) → All (λ x. All P (f x)) xs → All P (flatMap f xs)
   unfolding flatMap
   all-flat P f [] h = tt
   all-flat P f (x ∷ xs) h = all-append P (f x) (flatMap f xs) (h .0) (all-flat P f xs (h .1))
 
-  pub flat-all : (P : B → Type 0) (f : A → List B) (xs : List A) → All P (flatMap f xs) → All (λ x. All P (f x)) xs
+  pub each-of-flat : (P : B → Type 0) (f : A → List B) (xs : List A) → All P (flatMap f xs) → All (λ x. All P (f x)) xs
   unfolding flatMap
-  flat-all P f [] h = tt
-  flat-all P f (x ∷ xs) h = (all-left P (f x) (flatMap f xs) h, flat-all P f xs (all-right P (f x) (flatMap f xs) h))
+  each-of-flat P f [] h = tt
+  each-of-flat P f (x ∷ xs) h = (all-left P (f x) (flatMap f xs) h, each-of-flat P f xs (all-right P (f x) (flatMap f xs) h))
 
 -- ---- upFrom
 
@@ -110,11 +110,11 @@ unfolding upFrom
 all-upFrom P k zero f = tt
 all-upFrom P k (suc n) f = (f k (le-refl k) (omega arith), all-upFrom P (suc k) n (λ i h m. f i (omega arith) (omega arith)))
 
-pub upFrom-all : (P : ℕ → Type 0) (k n : ℕ) → All P (upFrom k n) → (i : ℕ) → k ≤ i → i < k + n → P i
+pub each-of-upFrom : (P : ℕ → Type 0) (k n : ℕ) → All P (upFrom k n) → (i : ℕ) → k ≤ i → i < k + n → P i
 unfolding upFrom
-upFrom-all P k zero h i low high = absurd (omega arith)
-upFrom-all P k (suc n) h i low high =
-    elim (ℕ-discrete k i) [ yes same ↦ rw same at (h .0) | no other ↦ upFrom-all P (suc k) n (h .1) i (omega arith) (omega arith) ]
+each-of-upFrom P k zero h i low high = absurd (omega arith)
+each-of-upFrom P k (suc n) h i low high =
+    elim (ℕ-discrete k i) [ yes same ↦ rw same at (h .0) | no other ↦ each-of-upFrom P (suc k) n (h .1) i (omega arith) (omega arith) ]
 
 -- ---- Rising
 

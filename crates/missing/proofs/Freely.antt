@@ -137,11 +137,11 @@ module _ (p : Plan) (free : FreeMoving p) where
   free-same : stringsOf (freely p) ≡ stringsOf p
   free-same = freely-strings p ∙ free-strings p (stringsOf p) free
 
-  free-demand : (l b : ℕ) → demand (freely p) l b ≡ demand p l b
+  pub free-demand : (l b : ℕ) → demand (freely p) l b ≡ demand p l b
   unfolding demand need holdOf movingCost
   free-demand l b = ap (λ ss. b + sumOf (need p l b) ss) free-same
 
-  free-limit : (l : ℕ) → blockLimit (freely p) l ≡ blockLimit p l
+  pub free-limit : (l : ℕ) → blockLimit (freely p) l ≡ blockLimit p l
   unfolding blockLimit dMin dMax blockerHold holdOf movingCost
   free-limit l =
       ap

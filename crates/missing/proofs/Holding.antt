@@ -91,11 +91,11 @@ module _ (p : Plan) (rs : List Release) (lawful : LawfulPlan p) (listed : firstU
     abbrev js : List Slot
     js = joined p rs t ss
 
-    joined-in : (i : ℕ) → i < length js → i < length (stringsOf p)
-    joined-in i h = omega (arith, joined-length p rs t ss, o .size)
+    place-of-joined : (i : ℕ) → i < length js → i < length (stringsOf p)
+    place-of-joined i h = omega (arith, joined-length p rs t ss, o .size)
 
-    in-joined : (i : ℕ) → i < length (stringsOf p) → i < length js
-    in-joined i h = omega (arith, joined-length p rs t ss, o .size)
+    joined-of-place : (i : ℕ) → i < length (stringsOf p) → i < length js
+    joined-of-place i h = omega (arith, joined-length p rs t ss, o .size)
 
     -- ---- Day 0
 
@@ -127,7 +127,7 @@ module _ (p : Plan) (rs : List Release) (lawful : LawfulPlan p) (listed : firstU
 
       start-off : (i : ℕ) → i < length js → onBank (at js i .job) ≡ true → ⊥
       start-off i h on =
-          let a = joined-in i h in
+          let a = place-of-joined i h in
           empty-not-on (at ss i .job) (start-empty i a) (joined-on p rs lawful listed t ss o punctual i a on)
 
       start-kept : (ks : List Slot) (payer : ℕ) → Taking p t js ks payer → ks ≡ js
@@ -139,7 +139,7 @@ module _ (p : Plan) (rs : List Release) (lawful : LawfulPlan p) (listed : firstU
       start-used es u (idleDay empty is idle) =
           let waits-now : waits (at js j .job) ≡ true =
           ap (λ s. waits (s .job)) start-own ∙ ap waits (newSlot-job p (getD rs 0 noRelease) 1) in
-          absurd (empty-not-waits (at js j .job) (empty j (in-joined j place-in)) waits-now)
+          absurd (empty-not-waits (at js j .job) (empty j (joined-of-place j place-in)) waits-now)
       start-used es u (keptDay h on k) = absurd (start-off h (k .within) on)
       start-used es u (givenDay h none w first k) =
           elim (ℕ-discrete h j) [
@@ -148,7 +148,7 @@ module _ (p : Plan) (rs : List Release) (lawful : LawfulPlan p) (listed : firstU
                 (ap (λ s. s .serves) start-own ∙ newSlot-serves p (getD rs 0 noRelease) 1)
                 (ap (λ s. seated (s .job)) start-own ∙ ap seated (newSlot-job p (getD rs 0 noRelease) 1)
                 ∙ ap (λ n. OnBank n (days 0)) (led .need-is))
-            | no other ↦ absurd (empty-not-waits (at js h .job) (start-other h (joined-in h (k .within)) other) w)
+            | no other ↦ absurd (empty-not-waits (at js h .job) (start-other h (place-of-joined h (k .within)) other) w)
           ]
 
       start-day : Worked j b (spent (given (taken p t js))) (useOf (given (taken p t js)))
@@ -197,18 +197,18 @@ module _ (p : Plan) (rs : List Release) (lawful : LawfulPlan p) (listed : firstU
       still-kept : (ks : List Slot) (payer : ℕ) → Taking p t js ks payer → ks ≡ js
       still-kept ks payer (bankFree none is zero-pays) = is
       still-kept ks payer (bankKept h within on none is zero-pays) = is
-      still-kept ks payer (bankTaken h q k sized pays) = absurd (no-taker h q (joined-in q (k .payerPlace)) (k .takes))
+      still-kept ks payer (bankTaken h q k sized pays) = absurd (no-taker h q (place-of-joined q (k .payerPlace)) (k .takes))
 
       still-used : (es : List Slot) (u : Use) → Using js es u → Worked j n es u
       still-used es u (idleDay empty is idle) =
-          absurd (empty-not-on (at js j .job) (empty j (in-joined j place-in)) still-on)
+          absurd (empty-not-on (at js j .job) (empty j (joined-of-place j place-in)) still-on)
       still-used es u (keptDay h on k) =
           let own : h ≡ j =
-          joined-orderly p rs lawful listed t ss o punctual .alone h j (joined-in h (k .within)) place-in on still-on in
+          joined-orderly p rs lawful listed t ss o punctual .alone h j (place-of-joined h (k .within)) place-in on still-on in
           day-worked js es u j n (subst (Used js es u) own k)
           (ap (λ s. s .serves) still-own ∙ serves)
           (ap (λ s. seated (s .job)) still-own ∙ ap seated job)
-      still-used es u (givenDay h none w first k) = absurd (true-not-false (sym still-on ∙ none j (in-joined j place-in)))
+      still-used es u (givenDay h none w first k) = absurd (true-not-false (sym still-on ∙ none j (joined-of-place j place-in)))
 
       still-day : Worked j n (spent (given (taken p t js))) (useOf (given (taken p t js)))
       still-day =

@@ -11,7 +11,7 @@ use borrow.Author.Tests.{lt-ltb, ltb-true, eq-eqb, eqb-true, not-false}
 use lib.Dec.{ltb, eqb}
 use lib.ListN.{length, drop}
 use Rattle.lists.specs.Count.{All, every}
-use Rattle.lists.proofs.Lists.{all-map, every-all, and-left, and-right}
+use Rattle.lists.proofs.Lists.{all-map, all-of-every, every-of-all, and-left, and-right}
 use Rattle.faults.specs.Checks.{refuseIf}
 use Rattle.faults.specs.declared.Fault.the-variants.{LineMalformed, FrameWrong}
 use Rattle.faults.specs.declared.Checked.the-variants.{Lawful}
@@ -33,10 +33,10 @@ lineText-is frame = refl
 
 -- ---- A frame that is written
 
-all-every : (digits : List ℕ) → All Digit digits → every (λ b. ltb (digitOf b) 16) digits ≡ true
-unfolding every
-all-every [] h = refl
-all-every (b ∷ digits) h = rw (lt-ltb (digitOf b) 16 (h .0)) (all-every digits (h .1))
+digits-pass : (digits : List ℕ) → All Digit digits → every (λ b. ltb (digitOf b) 16) digits ≡ true
+digits-pass digits h =
+    every-of-all (λ b. ltb (digitOf b) 16) digits
+    (all-map Digit (λ b. ltb (digitOf b) 16 ≡ true) (λ b small. lt-ltb (digitOf b) 16 small) digits h)
 
 line-well : (frame : List ℕ) → All Small frame → 0 < length frame → wellFormed (frameLine frame) ≡ true
 unfolding wellFormed
@@ -44,7 +44,7 @@ line-well frame small some =
     let size = flatMap-length byteText 2 byteText-length frame in
     let long = lt-ltb 0 (length (flatMap byteText frame)) (omega arith) in
     let even = eq-eqb (length (flatMap byteText frame) % 2) 0 (omega arith) in
-    rw (long, even, all-every (flatMap byteText frame) (frame-digits frame small))
+    rw (long, even, digits-pass (flatMap byteText frame) (frame-digits frame small))
 
 pub frame-is : (frame : List ℕ) → All Small frame → frameOf (frameLine frame) ≡ frame
 unfolding frameOf
@@ -106,7 +106,7 @@ module _ (l : Layout) (line : Line) where
         ended = and-left E L (and-left (E && L) P elv);
         digits =
             all-map (λ b. ltb (digitOf b) 16 ≡ true) Digit (λ b t. ltb-true (digitOf b) 16 t) (line .bytes)
-            (every-all (λ b. ltb (digitOf b) 16) (line .bytes) (and-right (E && L && P) D well));
+            (all-of-every (λ b. ltb (digitOf b) 16) (line .bytes) (and-right (E && L && P) D well));
         even = eqb-true (length (line .bytes) % 2) 0 (and-right (E && L) P elv);
         size = eqb-true (length (frameOf line)) (frameSize l) (and-left S K frame);
         kind = eqb-true (kindIn (frameOf line)) (l .kind) (and-right S K frame);

@@ -2,6 +2,7 @@
 --     blankPlan p           p with no string after its n-th
 --     blankReleases rs      rs with no release after those that count
 --     lawfulText p rs       what reading the text of p and rs gives
+--     OneCost p             every string of the plan p has the moving cost of place 1
 --     Alike v p             where the header of the version v says one moving cost for all strings, they have one
 use mathlib.Core.Path.{_≡_}
 use mathlib.Core.Bool.{true}
@@ -23,5 +24,8 @@ blankReleases rs = record { count = rs .count; list = filled 1000 noRelease (rel
 abbrev pub lawfulText : Plan → Releases → Reading
 lawfulText p rs = record { checked = Lawful; plan = blankPlan p; releases = blankReleases rs }
 
+abbrev pub OneCost : Plan → Type 0
+OneCost p = All (λ s. s .a ≡ stringAt p 1 .a) (stringsOf p)
+
 abbrev pub Alike : Frames → Plan → Type 0
-Alike v p = hasField (v .header) Moving ≡ true → All (λ s. s .a ≡ stringAt p 1 .a) (stringsOf p)
+Alike v p = hasField (v .header) Moving ≡ true → OneCost p

@@ -36,7 +36,7 @@ use Rattle.laws.proofs.Lawful.{planCheck-lawful}
 use Rattle.laws.proofs.Answers.{run-refused}
 use Rattle.laws.proofs.Says.{says-pass, says-takers, says-miss}
 use Rattle.laws.proofs.Releases.{runCheck-lawful}
-use Rattle.horizon.proofs.Verdict.{pass-passes}
+use Rattle.horizon.proofs.Verdict.{passes-of-pass}
 use Rattle.sets.specs.BestSet.{BestSet}
 use Rattle.sound.specs.Served.{released, dueOf, Served}
 use Rattle.sound.proofs.CleanAnswer.{never-misses}
@@ -63,7 +63,7 @@ pass-means : (p : Plan) (k : ℕ) → verdictSays (verdictAnswer p) ≡ pass k �
 unfolding verdictAnswer isPass
 pass-means p k h =
     let both = passed (planCheck p) (verdictOf p) k (says-pass (verdictAnswer p) k h) in
-    pass-passes p (planCheck-lawful p (both .0)) (ap isPass (both .1))
+    passes-of-pass p (planCheck-lawful p (both .0)) (ap isPass (both .1))
 
 -- ---- A plan that passes, over any releases
 

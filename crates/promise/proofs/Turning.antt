@@ -14,7 +14,8 @@ use Rattle.rules.specs.Answer.{answerOf}
 use Rattle.writing.specs.declared.Saved.{Saved}
 use Rattle.writing.specs.declared.Saved.the-variants.{Refused, Text}
 use Rattle.writing.specs.Saved.{noRoom, firstOther}
-use Rattle.turning.specs.Turned.{OneCost, lineOf, turnedText}
+use Rattle.onetext.specs.OneText.{OneCost}
+use Rattle.turning.specs.Turned.{lineOf, turnedText}
 use Rattle.turning.proofs.InPage.{turned-read, turned-alike, turned-stands}
 use Rattle.turning.proofs.ThereAndBack.{old-new-old, same-turned-new, new-old-new, same-turned-old, alike-one}
 use Rattle.turning.proofs.ThereAndBack.{new-to-old-exactly, new-to-old-differs}

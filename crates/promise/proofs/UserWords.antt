@@ -42,7 +42,7 @@ use Rattle.horizon.specs.FirstBreak.{FirstBreak}
 use Rattle.horizon.proofs.Sets.{withSet-lawful}
 use Rattle.horizon.proofs.Verdict.{pass-exactly, pass-count, overload-exactly, fail-names, fail-not-overloaded, break-fails}
 use Rattle.sets.specs.BestSet.{BestSet}
-use Rattle.sets.proofs.Search.{setPasses-exactly, Best, search-best, best-search, search-none, none-search}
+use Rattle.sets.proofs.Search.{setPasses-exactly, Best, best-of-search, search-of-best, none-of-nobody, nobody-of-none}
 use Rattle.sets.proofs.Permissions.{set-is-plan, search-blind-to-x}
 use Rattle.laws.proofs.History.{kinds-add-up}
 use Rattle.sound.proofs.CleanAnswer.{answer-clean-days}
@@ -123,8 +123,8 @@ module _ (κs : Lfts 0) (p : Plan) (e : _) (a : Assign) (answered : search-taker
   rule : (k : ℕ) → (setPasses p k ≡ true) ↔ Passes (withSet p k)
   rule k = setPasses-exactly p (planCheck-lawful p ok) k
 
-  best-rule : (m : ℕ) → Best p m → BestSet p m
-  best-rule m best =
+  bestSet-of-best : (m : ℕ) → Best p m → BestSet p m
+  bestSet-of-best m best =
       record {
         below = best .below;
         passes = rule m .0 (best .passes);
@@ -132,8 +132,8 @@ module _ (κs : Lfts 0) (p : Plan) (e : _) (a : Assign) (answered : search-taker
         smallest = λ k h t e. best .smallest k h (rule k .1 t) e;
       }
 
-  rule-best : (m : ℕ) → BestSet p m → Best p m
-  rule-best m best =
+  best-of-bestSet : (m : ℕ) → BestSet p m → Best p m
+  best-of-bestSet m best =
       record {
         passes = rule m .1 (best .passes);
         below = best .below;
@@ -143,17 +143,17 @@ module _ (κs : Lfts 0) (p : Plan) (e : _) (a : Assign) (answered : search-taker
 
   pub search-finds : (m : ℕ) → (assignSays a ≡ takers m) ↔ BestSet p m
   search-finds m = (
-    λ h. best-rule m (search-best p m (sym (search-lawful p ok) ∙ sym answered ∙ says-takers a m h)),
-    λ best. ap assignSays (answered ∙ search-lawful p ok ∙ best-search p m (rule-best m best)),
+    λ h. bestSet-of-best m (best-of-search p m (sym (search-lawful p ok) ∙ sym answered ∙ says-takers a m h)),
+    λ best. ap assignSays (answered ∙ search-lawful p ok ∙ search-of-best p m (best-of-bestSet m best)),
   )
 
   pub search-nobody : (assignSays a ≡ none) ↔ ((k : ℕ) → k < 2 ^ p .n → Passes (withSet p k) → ⊥)
   search-nobody = (
     λ h k below passes. true-not-false
-        (sym (rule k .1 passes) ∙ search-none p (sym (search-lawful p ok) ∙ sym answered ∙ says-none a h) k below),
+        (sym (rule k .1 passes) ∙ none-of-nobody p (sym (search-lawful p ok) ∙ sym answered ∙ says-none a h) k below),
     λ nobody.
         ap assignSays
-        (answered ∙ search-lawful p ok ∙ none-search p
+        (answered ∙ search-lawful p ok ∙ nobody-of-none p
         (λ k below. by-bool (setPasses p k) (λ t. absurd (nobody k below (rule k .0 t))) (λ f. f))),
   )
 

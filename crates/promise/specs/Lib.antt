@@ -1,2 +1,3 @@
 pub mod NeverMiss
 pub mod Wrong
+pub mod SaysMiss

@@ -14,7 +14,7 @@ use lib.Seq.{drop-cons, getD-take, getD-drop, length-take-le}
 use Rattle.faults.specs.Checks.{inBounds}
 use Rattle.faults.proofs.Checks.{inBounds-high, inBounds-yes, inBounds-not}
 use Rattle.lists.specs.Count.{every}
-use Rattle.lists.proofs.Lists.{by-bool, all-at, every-all}
+use Rattle.lists.proofs.Lists.{by-bool, all-at, all-of-every}
 use Rattle.rules.specs.Text.{digitOf}
 use Rattle.reading.specs.Positions.{digitsAhead}
 
@@ -69,7 +69,7 @@ module _ (text : List ℕ) (at : ℕ) where
   ahead-digit m h =
       let xs = drop at text in
       let long : m < length (take (digitsAhead xs) xs) = omega (arith, length-take-le (digitsAhead xs) xs (digitsAhead-fits xs)) in
-      let digit = all-at (λ b. isDigit b ≡ true) (take (digitsAhead xs) xs) 0 (every-all isDigit _ (digitsAhead-every xs)) m long in
+      let digit = all-at (λ b. isDigit b ≡ true) (take (digitsAhead xs) xs) 0 (all-of-every isDigit _ (digitsAhead-every xs)) m long in
       ltb-true _ 16 (rw (getD-take (digitsAhead xs) xs m 0 h, getD-drop at text m 0) at digit)
 
   pub ahead-next : at < length text → digitOf (getD text at 0) < 16 → digitsAhead (drop at text) ≡ suc (digitsAhead (drop (at + 1) text))

@@ -19,7 +19,7 @@ use Rattle.laws.proofs.Lawful.{LawfulPlan}
 use Rattle.horizon.proofs.Verdict.{pass-exactly}
 use Rattle.horizon.proofs.Sets.{withSet-lawful}
 use Rattle.lists.proofs.FirstOf.{firstOf-none, firstOf-passes, firstOf-in, firstOf-least}
-use Rattle.sets.proofs.SetOrder.{Sooner, all-sets, sets-all, sets-rising}
+use Rattle.sets.proofs.SetOrder.{Sooner, all-sets, each-of-sets, sets-rising}
 
 -- ---- What it is for a set to pass
 
@@ -57,7 +57,7 @@ module _ (p : Plan) (m : ℕ) (found : searchOf p ≡ Takers m) where
   pub search-first : (k : ℕ) → k < 2 ^ p .n → setPasses p k ≡ true → (m ≡ k) ⊎ Sooner m k
   unfolding searchOf
   search-first =
-      sets-all (p .n) (λ k. setPasses p k ≡ true → (m ≡ k) ⊎ Sooner m k)
+      each-of-sets (p .n) (λ k. setPasses p k ≡ true → (m ≡ k) ⊎ Sooner m k)
       (firstOf-least (setPasses p) Sooner (ordered (p .n)) m (sets-rising (p .n))
       (assigned-takers (firstOf (setPasses p) (ordered (p .n))) m found))
 
@@ -80,15 +80,15 @@ module _ (p : Plan) (m : ℕ) (found : searchOf p ≡ Takers m) where
 -- ---- None
 
 module _ (p : Plan) where
-  pub search-none : searchOf p ≡ Nobody → (k : ℕ) → k < 2 ^ p .n → setPasses p k ≡ false
+  pub none-of-nobody : searchOf p ≡ Nobody → (k : ℕ) → k < 2 ^ p .n → setPasses p k ≡ false
   unfolding searchOf
-  search-none h =
+  none-of-nobody h =
       let first = assigned-nobody (firstOf (setPasses p) (ordered (p .n))) h in
-      sets-all (p .n) (λ k. setPasses p k ≡ false) (firstOf-none (setPasses p) (ordered (p .n)) .0 first)
+      each-of-sets (p .n) (λ k. setPasses p k ≡ false) (firstOf-none (setPasses p) (ordered (p .n)) .0 first)
 
-  pub none-search : ((k : ℕ) → k < 2 ^ p .n → setPasses p k ≡ false) → searchOf p ≡ Nobody
+  pub nobody-of-none : ((k : ℕ) → k < 2 ^ p .n → setPasses p k ≡ false) → searchOf p ≡ Nobody
   unfolding searchOf
-  none-search h = ap assigned (firstOf-none (setPasses p) (ordered (p .n)) .1 (all-sets (p .n) (λ k. setPasses p k ≡ false) h))
+  nobody-of-none h = ap assigned (firstOf-none (setPasses p) (ordered (p .n)) .1 (all-sets (p .n) (λ k. setPasses p k ≡ false) h))
 
 -- ---- One answer
 
@@ -98,8 +98,8 @@ pub record Best (p : Plan) (m : ℕ) : Type 0 where
   pub fewest : (k : ℕ) → k < 2 ^ p .n → setPasses p k ≡ true → ones m ≤ ones k
   pub smallest : (k : ℕ) → k < 2 ^ p .n → setPasses p k ≡ true → ones k ≡ ones m → m ≤ k
 
-pub search-best : (p : Plan) (m : ℕ) → searchOf p ≡ Takers m → Best p m
-search-best p m found =
+pub best-of-search : (p : Plan) (m : ℕ) → searchOf p ≡ Takers m → Best p m
+best-of-search p m found =
     record {
       passes = search-passes p m found .0;
       below = search-passes p m found .1;
@@ -113,13 +113,13 @@ best-unique p m k a b =
     let as-many : ones m ≡ ones k = le-antisymm (a .fewest k (b .below) (b .passes)) (b .fewest m (a .below) (a .passes)) in
     le-antisymm (a .smallest k (b .below) (b .passes) (sym as-many)) (b .smallest m (a .below) (a .passes) as-many)
 
-pub best-search : (p : Plan) (m : ℕ) → Best p m → searchOf p ≡ Takers m
-best-search p m best = which (firstOf (setPasses p) (ordered (p .n))) refl
+pub search-of-best : (p : Plan) (m : ℕ) → Best p m → searchOf p ≡ Takers m
+search-of-best p m best = which (firstOf (setPasses p) (ordered (p .n))) refl
   where
     which : (o : Option ℕ) → firstOf (setPasses p) (ordered (p .n)) ≡ o → searchOf p ≡ Takers m
     which none e =
         let nobody : searchOf p ≡ Nobody = unfold searchOf in ap assigned e in
-        absurd (true-not-false (sym (best .passes) ∙ search-none p nobody m (best .below)))
+        absurd (true-not-false (sym (best .passes) ∙ none-of-nobody p nobody m (best .below)))
     which (some k) e =
         let found : searchOf p ≡ Takers k = unfold searchOf in ap assigned e in
-        found ∙ ap Takers (best-unique p k m (search-best p k found) best)
+        found ∙ ap Takers (best-unique p k m (best-of-search p k found) best)

@@ -11,8 +11,8 @@ use lib.Dec.{eqb}
 use Rattle.lists.specs.Count.{upFrom}
 use Rattle.rules.specs.Search.{setsOf, ordered}
 use Rattle.lists.proofs.Lists.{All}
-use Rattle.lists.proofs.Order.{Rising, all-keep, keep-all, all-flat, flat-all}
-use Rattle.lists.proofs.Order.{all-upFrom, upFrom-all, rising-keep, rising-within, rising-flat, rising-upFrom}
+use Rattle.lists.proofs.Order.{Rising, all-keep, each-of-kept, all-flat, each-of-flat}
+use Rattle.lists.proofs.Order.{all-upFrom, each-of-upFrom, rising-keep, rising-within, rising-flat, rising-upFrom}
 
 -- ---- The sets in the search's order
 
@@ -27,10 +27,10 @@ module _ (n : ℕ) where
       all-keep P (λ m. eqb (ones m) k) (upFrom 0 (2 ^ n))
       (all-upFrom (λ m. eqb (ones m) k ≡ true → P m) 0 (2 ^ n) (λ m low high t. f m (omega arith) (eqb-true (ones m) k t)))
 
-  pub setsOf-all : (P : ℕ → Type 0) (k : ℕ) → All P (setsOf n k) → (m : ℕ) → m < 2 ^ n → ones m ≡ k → P m
+  pub each-of-setsOf : (P : ℕ → Type 0) (k : ℕ) → All P (setsOf n k) → (m : ℕ) → m < 2 ^ n → ones m ≡ k → P m
   unfolding setsOf
-  setsOf-all P k h m below e =
-      upFrom-all (λ i. eqb (ones i) k ≡ true → P i) 0 (2 ^ n) (keep-all P (λ i. eqb (ones i) k) (upFrom 0 (2 ^ n)) h) m zero-le
+  each-of-setsOf P k h m below e =
+      each-of-upFrom (λ i. eqb (ones i) k ≡ true → P i) 0 (2 ^ n) (each-of-kept P (λ i. eqb (ones i) k) (upFrom 0 (2 ^ n)) h) m zero-le
       (omega arith) (eq-eqb (ones m) k e)
 
   -- the sets are those below 2^n
@@ -40,11 +40,11 @@ module _ (n : ℕ) where
       all-flat P (setsOf n) (upFrom 0 (suc n))
       (all-upFrom (λ k. All P (setsOf n k)) 0 (suc n) (λ k low high. all-setsOf P k (λ m below e. f m below)))
 
-  pub sets-all : (P : ℕ → Type 0) → All P (ordered n) → (m : ℕ) → m < 2 ^ n → P m
+  pub each-of-sets : (P : ℕ → Type 0) → All P (ordered n) → (m : ℕ) → m < 2 ^ n → P m
   unfolding ordered
-  sets-all P h m below =
-      setsOf-all P (ones m)
-      (upFrom-all (λ k. All P (setsOf n k)) 0 (suc n) (flat-all P (setsOf n) (upFrom 0 (suc n)) h) (ones m) zero-le
+  each-of-sets P h m below =
+      each-of-setsOf P (ones m)
+      (each-of-upFrom (λ k. All P (setsOf n k)) 0 (suc n) (each-of-flat P (setsOf n) (upFrom 0 (suc n)) h) (ones m) zero-le
       (omega (arith, ones-le n m below)))
       m below refl
 

@@ -33,7 +33,8 @@ use Rattle.onetext.proofs.ReadLawful.{text-read}
 use Rattle.onetext.proofs.ReadBack.{reading-what-was-written, written-names, alike-new}
 use Rattle.onetext.proofs.WriteBack.{writing-what-was-read}
 use Rattle.onetext.proofs.OldAsNew.{read-blank, run-is, ten, thousand}
-use Rattle.turning.specs.Turned.{OneCost, lineOf, alikeCheck, turnedText, turnCheck, turnedAnswer}
+use Rattle.onetext.specs.OneText.{OneCost}
+use Rattle.turning.specs.Turned.{lineOf, alikeCheck, turnedText, turnCheck, turnedAnswer}
 
 refused-not-text : (f : Fault) (at len : ℕ) → Refused f at ≡ Text len → ⊥
 refused-not-text f at len h =
@@ -43,9 +44,9 @@ refused-not-text f at len h =
 -- ---- One moving cost
 
 module _ (p : Plan) (many : length (stringsOf p) ≡ p .n) where
-  one-none : OneCost p → p .n < firstOther p
+  none-of-oneCost : OneCost p → p .n < firstOther p
   unfolding firstOther
-  one-none same = omega (arith, leastFrom-none (costDiffers p) 1 (p .n) each)
+  none-of-oneCost same = omega (arith, leastFrom-none (costDiffers p) 1 (p .n) each)
     where
       each : (i : ℕ) → 1 ≤ i → i < 1 + p .n → costDiffers p i ≡ false
       each i low high =
@@ -53,9 +54,9 @@ module _ (p : Plan) (many : length (stringsOf p) ≡ p .n) where
           (eq-eqb _ _
           (ap (λ (a : Length). a .0) (all-at (λ s. s .a ≡ stringAt p 1 .a) (stringsOf p) noString same (i - 1) (omega arith))))
 
-  none-one : p .n < firstOther p → OneCost p
+  oneCost-of-none : p .n < firstOther p → OneCost p
   unfolding firstOther
-  none-one high = all-by (λ s. s .a ≡ stringAt p 1 .a) (stringsOf p) noString each
+  oneCost-of-none high = all-by (λ s. s .a ≡ stringAt p 1 .a) (stringsOf p) noString each
     where
       each : (i : ℕ) → i < length (stringsOf p) → getD (stringsOf p) i noString .a ≡ stringAt p 1 .a
       each i low =
@@ -159,7 +160,7 @@ module _ (text : List ℕ) (h : readingIn version02 text .checked ≡ Lawful) wh
   unfolding alikeCheck hasField any
   alike-one fine =
       let none = refuseIf-not (leb (firstOther plan) (plan .n)) CostsDiffer (lineOf (firstOther plan)) fine in
-      none-one plan (many version02 text h) (leb-false (firstOther plan) (plan .n) none)
+      oneCost-of-none plan (many version02 text h) (leb-false (firstOther plan) (plan .n) none)
 
   -- where there is room it works exactly when the moving costs are one
   pub new-to-old-exactly : (page : List ℕ) (at : ℕ) → noRoom page at old ≡ false
@@ -168,8 +169,8 @@ module _ (text : List ℕ) (h : readingIn version02 text .checked ≡ Lawful) wh
     λ works.
         by-bool (leb (firstOther plan) (plan .n))
         (λ other. absurd (refused-not-text CostsDiffer (lineOf (firstOther plan)) (length old) (sym (differs page at other) ∙ works)))
-        (λ none. none-one plan (many version02 text h) (leb-false (firstOther plan) (plan .n) none)),
-    λ one. alike page at (lt-leb (firstOther plan) (plan .n) (one-none plan (many version02 text h) one)) fits,
+        (λ none. oneCost-of-none plan (many version02 text h) (leb-false (firstOther plan) (plan .n) none)),
+    λ one. alike page at (lt-leb (firstOther plan) (plan .n) (none-of-oneCost plan (many version02 text h) one)) fits,
   )
 
   -- and else it is 12, whatever the room, with the line of the first string that differs
@@ -178,7 +179,7 @@ module _ (text : List ℕ) (h : readingIn version02 text .checked ≡ Lawful) wh
   new-to-old-differs page at not-one =
       by-bool (leb (firstOther plan) (plan .n))
       (λ other. differs page at other)
-      (λ none. absurd (not-one (none-one plan (many version02 text h) (leb-false (firstOther plan) (plan .n) none))))
+      (λ none. absurd (not-one (oneCost-of-none plan (many version02 text h) (leb-false (firstOther plan) (plan .n) none))))
 
   module _ (one : OneCost plan) where
     pub old-reads : readingIn version01 old ≡ readingIn version02 text

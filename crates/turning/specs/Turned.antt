@@ -2,22 +2,18 @@
 --     lineOf place          the line of the string at a place, after the header's; 0 stays 0
 --     alikeCheck w p        12, with the line of the first string that differs from place 1, where the version w has one moving cost for
 --                           all strings and the strings of the plan p have not
---     OneCost p             every string of the plan p has the moving cost of place 1
 --     turnedText v w text   the text in the version w of the plan that the text says
 --     turnCheck v w text page at    what the reader of the version v finds, 1 to 8; then 12; then 9 with 0 where there is no room
 --     turnedAnswer, turnedPage      what is answered, and the page afterwards: a refusal keeps every byte
 use Prim.Native.Nat.{ℕ, _+_}
-use mathlib.Core.Path.{_≡_}
 use mathlib.Core.Bool.{cond, _&&_}
 use mathlib.Core.List.{List}
 use lib.Dec.{leb, eqb}
 use lib.ListN.{length}
-use Rattle.lists.specs.Count.{All}
 use Rattle.faults.specs.declared.Fault.the-variants.{NoRoom, CostsDiffer}
 use Rattle.faults.specs.declared.Checked.{Checked}
 use Rattle.faults.specs.Checks.{then, refuseIf}
 use Rattle.rules.specs.declared.Plan.{Plan}
-use Rattle.rules.specs.Plan.{stringsOf, stringAt}
 use Rattle.rules.specs.Layout.{Frames, hasField, Moving}
 use Rattle.rules.specs.Text.{readingIn}
 use Rattle.writing.specs.declared.Saved.{Saved}
@@ -28,9 +24,6 @@ lineOf place = cond (eqb place 0) 0 (place + 1)
 
 unfoldable pub alikeCheck : Frames → Plan → Checked
 alikeCheck w p = refuseIf (hasField (w .header) Moving && leb (firstOther p) (p .n)) CostsDiffer (lineOf (firstOther p))
-
-abbrev pub OneCost : Plan → Type 0
-OneCost p = All (λ s. s .a ≡ stringAt p 1 .a) (stringsOf p)
 
 module _ (v w : Frames) (text : List ℕ) where
   unfoldable pub turnedText : List ℕ

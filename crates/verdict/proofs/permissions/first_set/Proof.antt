@@ -11,7 +11,7 @@ use Rattle.rules.specs.declared.Plan.{Plan}
 use Rattle.rules.specs.Search.{setPasses, firstPassing, searchOf}
 use Rattle.lists.proofs.Lists.{by-bool, and-left, and-right}
 use Rattle.laws.proofs.Powers.{sets-small, shift-is-sets}
-use Rattle.sets.proofs.Search.{none-search}
+use Rattle.sets.proofs.Search.{nobody-of-none}
 use Rattle.sets.proofs.SetWalk.{setsFrom, setRows, searchOf-rows, walk-row, walk-other, walk-fails, walk-found, walk-row-end, walk-end}
 use Rattle.verdict.proofs.permissions.first_set.Statement.{statement}
 use Rattle.verdict.proofs.permissions.first_set.Tie as tie
@@ -105,7 +105,7 @@ returns c =
 returns-2 : tie.Need-returns-2 Inv-loop μ-loop Inv-sets μ-sets
 returns-2 c =
     let start = c .before .before .before .before .before in
-    sym (none-search (start .args .p) (λ m h. c .before .too-much-work .ensures (c .if3 .taken) m))
+    sym (nobody-of-none (start .args .p) (λ m h. c .before .too-much-work .ensures (c .if3 .taken) m))
 
 returns-3 : tie.Need-returns-3 Inv-loop μ-loop Inv-sets μ-sets
 returns-3 c =
