@@ -17,6 +17,7 @@ mod questions;
 mod rules;
 mod saving;
 mod selftest;
+mod showing;
 mod stop;
 mod tally;
 mod turning;
@@ -28,6 +29,7 @@ use compare::compare_all;
 use options::{task, Comparison, Task, USAGE};
 use rules::answer::Answer;
 use rules::frames::read;
+use std::io::{ErrorKind, Write};
 use std::path::Path;
 use std::process::ExitCode;
 use stop::Stop;
@@ -76,23 +78,25 @@ fn run_comparison(job: &Comparison) -> ExitCode {
 
 fn show_answer(path: &Path, answer: impl Fn(&[u8]) -> Answer) -> ExitCode {
     match std::fs::read(path) {
-        Ok(text) => {
-            print!("{}", answer(&text));
-            ExitCode::SUCCESS
-        }
+        Ok(text) => shown(&answer(&text).to_string()),
         Err(error) => unable(&format!("{}: {error}", path.display())),
+    }
+}
+
+/// Written at once; a reader who has seen enough and went away, as `head` does, is no fault.
+fn shown(lines: &str) -> ExitCode {
+    match std::io::stdout().write_all(lines.as_bytes()) {
+        Err(error) if error.kind() != ErrorKind::BrokenPipe => unable(&error.to_string()),
+        _ => ExitCode::SUCCESS,
     }
 }
 
 fn show_days(path: &Path) -> ExitCode {
     match std::fs::read(path) {
-        Ok(text) => {
-            match read(&text) {
-                Ok(plan) => print!("{}", board::days(&plan)),
-                Err(refusal) => print!("{}", Answer::Refused(refusal)),
-            }
-            ExitCode::SUCCESS
-        }
+        Ok(text) => match read(&text) {
+            Ok(plan) => shown(&board::days(&plan)),
+            Err(refusal) => shown(&Answer::Refused(refusal).to_string()),
+        },
         Err(error) => unable(&format!("{}: {error}", path.display())),
     }
 }

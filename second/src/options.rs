@@ -7,7 +7,7 @@ use std::str::FromStr;
 
 pub const USAGE: &str =
     "usage: second --desk PATH [--files N] [--seed S] [--batch B] [--keep DIR] [--tally]
-       second --clerk PATH [--about save|quick|turn] [--files N] [--seed S] [--batch B] [--keep DIR] [--tally]
+       second --clerk PATH [--about save|quick|show|turn] [--files N] [--seed S] [--batch B] [--keep DIR] [--tally]
        second --answer FILE
        second --days FILE
        second --wrong equation-7|one-by-one|stop-at-dmax|load-equal-to-h|start-early|stopped-pays FILE
@@ -38,6 +38,8 @@ pub enum Subject {
     Save,
     /// Quick verdicts.
     Quick,
+    /// Plans in decimal words.
+    Show,
     /// Files of one version turned into the other.
     Turn,
 }
@@ -49,6 +51,7 @@ impl FromStr for Subject {
         match word {
             "save" => Ok(Subject::Save),
             "quick" => Ok(Subject::Quick),
+            "show" => Ok(Subject::Show),
             "turn" => Ok(Subject::Turn),
             _ => Err(()),
         }

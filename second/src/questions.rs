@@ -9,6 +9,7 @@ use crate::rules::plan::Plan;
 use crate::rules::quick::quick;
 use crate::rules::rule::verdict;
 use crate::saving::{into_page, saved, Saved};
+use crate::showing::shown;
 use crate::turning::turned;
 use crate::writing::Version;
 
@@ -21,7 +22,7 @@ pub struct Asked {
 /// The file of this number that the subject asks about.
 pub fn file(subject: Subject, seed: u64, file: u64) -> Made {
     match subject {
-        Subject::Save => make(seed, file),
+        Subject::Save | Subject::Show => make(seed, file),
         Subject::Quick => make_at_the_border(seed, file),
         Subject::Turn => make_to_turn(seed, file),
     }
@@ -37,6 +38,7 @@ pub fn about(
     match subject {
         Subject::Save => about_saving(chance, text, name),
         Subject::Quick => about_quick_verdicts(text, name),
+        Subject::Show => Ok(about_showing(text, name)),
         Subject::Turn => about_turning(text, name),
     }
 }
@@ -85,6 +87,13 @@ fn about_turning(text: &[u8], name: &str) -> Result<Vec<Asked>, &'static str> {
         });
     }
     Ok(asked)
+}
+
+fn about_showing(text: &[u8], name: &str) -> Vec<Asked> {
+    vec![Asked {
+        command: format!("show {name}"),
+        answer: read(text).map(|plan| shown(&plan, cycle(&plan)).into_bytes()),
+    }]
 }
 
 /// The two engines agree on all but the count of pairs.

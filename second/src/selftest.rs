@@ -9,6 +9,7 @@ use crate::rules::rule::{verdict, Verdict};
 use crate::rules::run::{run, Outcome};
 use crate::rules::search::search;
 use crate::saving::{into_page, saved, written, Page};
+use crate::showing::shown;
 use crate::turning::turned;
 use crate::writing::{self, Version};
 
@@ -23,6 +24,7 @@ pub fn wrong_cases() -> Vec<&'static str> {
         versions(),
         writings(),
         turnings(),
+        showings(),
         dates(),
     ]
     .concat();
@@ -293,6 +295,26 @@ fn turnings() -> Cases {
             turned(&writing::text(&first), new) == refused(12, 3),
         ),
         ("a fault before 12", turned(&late, new) == refused(3, 4)),
+    ]
+}
+
+/// E and the load were found by hand.
+fn showings() -> Cases {
+    const SHOWN: &str = "plan strings 2 run 20\n\
+        string 1 may take T 10 C 3 D 5 moving 1 E 4\n\
+        string 2 may not take T 10 C 5 D 10 moving 1 E 5\n\
+        H 10 load 9 of 10\n\
+        release 1 day 0 string 2 need 5\n\
+        release 2 day 1 string 1 need 3\n";
+    const ROOF_LOAD: &str = "\nH 40 load 28 of 40\n";
+    let text = |file| read(file).map(|plan| plan.cycle().map(|cycle| shown(&plan, cycle)));
+    let has_roof_load = |text: String| text.contains(ROOF_LOAD);
+    vec![
+        ("the sample shown", text(SAMPLE) == Ok(Some(SHOWN.into()))),
+        (
+            "the roof's load",
+            text(ROOF).map(|text| text.map_or(false, has_roof_load)) == Ok(true),
+        ),
     ]
 }
 

@@ -8,6 +8,7 @@ mod plans;
 mod quick;
 mod save;
 mod say;
+mod show;
 mod turn;
 mod words;
 

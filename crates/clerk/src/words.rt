@@ -7,6 +7,7 @@ use super::dates::yearly_days;
 use super::quick::quick_verdict;
 use super::save::save;
 use super::say;
+use super::show::show;
 use super::turn::turn;
 
 pub(crate) fn answer(command: &[u8]) {
@@ -15,6 +16,8 @@ pub(crate) fn answer(command: &[u8]) {
         save(command);
     } else if same(first, b"quick") {
         quick_verdict(command);
+    } else if same(first, b"show") {
+        show(command);
     } else if same(first, b"to-02") {
         turn(command, false, b"to-02 FILE");
     } else if same(first, b"to-01") {
@@ -42,6 +45,7 @@ fn help() {
     say::answer(b"quick FILE              the quick verdict on the plan in FILE\n");
     say::answer(b"save FILE               write the plan in FILE back\n");
     say::answer(b"save FILE SIZE PLACE    write it into a page of SIZE bytes, from PLACE on\n");
+    say::answer(b"show FILE               the plan in FILE in decimal words\n");
     say::answer(b"to-01 FILE              write the version 02 file FILE as version 01\n");
     say::answer(b"to-02 FILE              write the version 01 file FILE as version 02\n");
     say::answer(b"yearly MM-DD EDITION FIRST LAST\n");

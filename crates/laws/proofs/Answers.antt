@@ -19,6 +19,7 @@ use Rattle.rules.specs.Refusal.{headCheck, stringsCheck, multipleCheck, planChe
 use Rattle.faults.specs.Checks.{then, refuseIf}
 use Rattle.faults.proofs.Checks.{then-first, then-second, then-lawful}
 use Rattle.rules.specs.Refusal.{runCheck, verdictAnswer, setAnswer, searchAnswer, runAnswer}
+use Rattle.rules.specs.Figures.{figuresOf, noFigures, figuresAnswer}
 
 pub verdict-lawful : (p : Plan) → planCheck p ≡ Lawful → verdictAnswer p ≡ verdictOf p
 unfolding verdictAnswer
@@ -43,6 +44,14 @@ search-lawful p h = rw h
 pub search-refused : (p : Plan) (f : Fault) (at : ℕ) → planCheck p ≡ Refused f at → searchAnswer p ≡ assign.Refused f at
 unfolding searchAnswer
 search-refused p f at h = rw h
+
+pub figures-lawful : (p : Plan) → planCheck p ≡ Lawful → figuresAnswer p ≡ figuresOf p
+unfolding figuresAnswer
+figures-lawful p h = rw h
+
+pub figures-refused : (p : Plan) (f : Fault) (at : ℕ) → planCheck p ≡ Refused f at → figuresAnswer p ≡ noFigures f at
+unfolding figuresAnswer
+figures-refused p f at h = rw h
 
 -- a plan that is lawful with a set is lawful
 pub set-plan : (p : Plan) (m : ℕ) → setCheck p m ≡ Lawful → planCheck p ≡ Lawful

@@ -2,16 +2,21 @@
 mod dates;
 mod pages;
 mod parts;
+mod shown;
 
 pub use dates::date_line;
 pub use dates::day_line;
-use pages::blank;
+pub use pages::blank;
 use parts::assign_line;
 use parts::outcome_line;
 use parts::refused_line;
 use parts::verdict_line;
 use rules::Answer;
 use rules::Verdict;
+pub use shown::load_line;
+pub use shown::plan_line;
+pub use shown::release_line;
+pub use shown::string_line;
 ghost use mathlib.Core.Path.{_≡_};
 ghost use Prim.Native.Nat.{_≤_};
 ghost use lib.ListN.{length};

@@ -8,7 +8,7 @@ ghost use Rattle.rules.specs.Lines.{decimal};
 ghost use Rattle.lines.specs.Pages.{pageOf, textOf, Written};
 
 // A page with no text.
-pub(crate) fn blank() -> Page
+pub fn blank() -> Page
     ensures exact { λ r. ⌜ r ≡ pageOf [] ⌝ }
 {
     Page {

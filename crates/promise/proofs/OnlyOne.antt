@@ -14,6 +14,7 @@ use Rattle.rules.specs.declared.Reading.{Reading}
 use Rattle.rules.specs.declared.Verdict.{Verdict}
 use Rattle.rules.specs.declared.Assign.{Assign}
 use Rattle.rules.specs.declared.Outcome.{Outcome}
+use Rattle.rules.specs.declared.Figures.{Figures}
 use Rattle.lines.specs.declared.Page.{Page}
 use Rattle.calendar.specs.declared.WhichDate.{WhichDate}
 use Rattle.calendar.specs.declared.WhichDay.{WhichDay}
@@ -73,11 +74,21 @@ use Rattle.verdict.proofs.verdict_with.Reads as verdict-with
 use Rattle.verdict.proofs.quick.Reads as quick
 use Rattle.verdict.proofs.quick_with.Reads as quick-with
 use Rattle.verdict.proofs.search.Reads as search-takers
+use Rattle.verdict.proofs.figures.Reads as figures
 use Rattle.run.proofs.run.Reads as run
 use Rattle.lines.proofs.written.Reads as written
 use Rattle.lines.proofs.verdict_written.Reads as verdict-written
 use Rattle.lines.proofs.date_line.Reads as date-line
 use Rattle.lines.proofs.day_line.Reads as day-line
+use Rattle.lines.proofs.blank.Reads as blank
+use Rattle.lines.proofs.plan_line.Reads as plan-line
+use Rattle.lines.proofs.string_line.Reads as string-line
+use Rattle.lines.proofs.load_line.Reads as load-line
+use Rattle.lines.proofs.release_line.Reads as release-line
+use Rattle.showing.proofs.plan_shown.Reads as plan-shown
+use Rattle.showing.proofs.string_shown.Reads as string-shown
+use Rattle.showing.proofs.load_shown.Reads as load-shown
+use Rattle.showing.proofs.release_shown.Reads as release-shown
 use Rattle.answers.proofs.answer.Reads as answer
 
 -- days
@@ -237,6 +248,9 @@ one-quick-with κs a e f r s h k = h ∙ sym k
 pub one-search : (κs : Lfts 0) (a : _) (e f : _) (r s : Assign) → search-takers.Learnt κs a r e → search-takers.Learnt κs a s f → r ≡ s
 one-search κs a e f r s h k = h ∙ sym k
 
+pub one-figures : (κs : Lfts 0) (a : _) (e f : _) (r s : Figures) → figures.Learnt κs a r e → figures.Learnt κs a s f → r ≡ s
+one-figures κs a e f r s h k = h ∙ sym k
+
 -- run
 pub one-run : (κs : Lfts 0) (a : _) (e f : _) (r s : Outcome) → run.Learnt κs a r e → run.Learnt κs a s f → r ≡ s
 one-run κs a e f r s h k = h ∙ sym k
@@ -255,6 +269,34 @@ one-date-line κs a e f r s h k = (h .0 ∙ sym (k .0), h .1 .1 ∙ sym (k .1 .1
 
 pub one-day-line : (κs : Lfts 0) (a : _) (e f : _) (r s : Page) → day-line.Learnt κs a r e → day-line.Learnt κs a s f → r ≡ s
 one-day-line κs a e f r s h k = h .0 ∙ sym (k .0)
+
+pub one-blank : (κs : Lfts 0) (a : _) (e f : _) (r s : Page) → blank.Learnt κs a r e → blank.Learnt κs a s f → r ≡ s
+one-blank κs a e f r s h k = h ∙ sym k
+
+pub one-plan-line : (κs : Lfts 0) (a : _) (e f : _) (r s : Page) → plan-line.Learnt κs a r e → plan-line.Learnt κs a s f → r ≡ s
+one-plan-line κs a e f r s h k = h .0 ∙ sym (k .0)
+
+pub one-string-line : (κs : Lfts 0) (a : _) (e f : _) (r s : Page) → string-line.Learnt κs a r e → string-line.Learnt κs a s f → r ≡ s
+one-string-line κs a e f r s h k = h .0 ∙ sym (k .0)
+
+pub one-load-line : (κs : Lfts 0) (a : _) (e f : _) (r s : Page) → load-line.Learnt κs a r e → load-line.Learnt κs a s f → r ≡ s
+one-load-line κs a e f r s h k = h .0 ∙ sym (k .0)
+
+pub one-release-line : (κs : Lfts 0) (a : _) (e f : _) (r s : Page) → release-line.Learnt κs a r e → release-line.Learnt κs a s f → r ≡ s
+one-release-line κs a e f r s h k = h .0 ∙ sym (k .0)
+
+-- showing
+pub one-plan-shown : (κs : Lfts 0) (a : _) (e f : _) (r s : Page) → plan-shown.Learnt κs a r e → plan-shown.Learnt κs a s f → r ≡ s
+one-plan-shown κs a e f r s h k = h .0 ∙ sym (k .0)
+
+pub one-string-shown : (κs : Lfts 0) (a : _) (e f : _) (r s : Page) → string-shown.Learnt κs a r e → string-shown.Learnt κs a s f → r ≡ s
+one-string-shown κs a e f r s h k = h .0 ∙ sym (k .0)
+
+pub one-load-shown : (κs : Lfts 0) (a : _) (e f : _) (r s : Page) → load-shown.Learnt κs a r e → load-shown.Learnt κs a s f → r ≡ s
+one-load-shown κs a e f r s h k = h .0 ∙ sym (k .0)
+
+pub one-release-shown : (κs : Lfts 0) (a : _) (e f : _) (r s : Page) → release-shown.Learnt κs a r e → release-shown.Learnt κs a s f → r ≡ s
+one-release-shown κs a e f r s h k = h .0 ∙ sym (k .0)
 
 -- answers
 pub one-answer : (κs : Lfts 1) (a : _) (e f : _) (r s : Answer) → answer.Learnt κs a r e → answer.Learnt κs a s f

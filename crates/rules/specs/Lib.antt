@@ -1,4 +1,5 @@
--- The rules of document 01, in its order. Read: Plan, Demand, Verdict, Search, Release, Run, Refusal, Layout, Text, Answer, Said, Lines.
+-- The rules of document 01, in its order. Read: Plan, Demand, Verdict, Search, Release, Run, Refusal, Figures, Layout, Text, Answer, Said,
+-- Lines.
 pub mod Plan
 pub mod Demand
 pub mod Verdict
@@ -6,6 +7,7 @@ pub mod Search
 pub mod Release
 pub mod Run
 pub mod Refusal
+pub mod Figures
 pub mod Layout
 pub mod Text
 pub mod Answer

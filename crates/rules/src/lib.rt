@@ -110,6 +110,14 @@ pub enum Answer {
     },
 }
 
+// The figures of a plan that its file does not say: whether it is lawful and, where it is, H, the load, and E by place.
+pub struct Figures {
+    pub checked: Checked,
+    pub multiple: u32,
+    pub load: u32,
+    pub holds: [u32; 10],
+}
+
 // The job of a slot, with the days of work and of moving that are left.
 pub enum Job {
     Empty,

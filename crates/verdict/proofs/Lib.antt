@@ -1,6 +1,7 @@
 -- Laws for the loops, in the order in which they build on each other.
 pub mod Asked
 pub mod StringSums
+pub mod Holding
 pub mod Blocking
 pub mod Rows
 pub mod Stepping

@@ -1,7 +1,8 @@
-// The verdict on a plan, full and quick, and the search for permissions. No caller is trusted to have checked anything: each entry
-// checks first.
+// The verdict on a plan, full and quick, the search for permissions, and the plan's figures. No caller is trusted to have checked
+// anything: each entry checks first.
 mod demand;
 mod growing;
+mod holds;
 mod limits;
 mod pairs;
 mod permissions;
@@ -12,14 +13,18 @@ use bounds::plan_check;
 use bounds::set_check;
 use faults::Checked;
 use growing::quickly_judged;
+use holds::figures_over;
+use holds::no_figures;
 use pairs::judged;
 use permissions::first_set;
 use permissions::with_set;
 use rules::Assign;
+use rules::Figures;
 use rules::Plan;
 use rules::Verdict;
 ghost use mathlib.Core.Path.{_≡_};
 ghost use Rattle.rules.specs.Refusal.{verdictAnswer, setAnswer, searchAnswer};
+ghost use Rattle.rules.specs.Figures.{figuresAnswer};
 ghost use Rattle.growth.specs.Quick.{quickAnswer, quickSetAnswer};
 
 // The verdict on a plan with the permissions it carries.
@@ -74,5 +79,16 @@ pub fn search(p: Plan) -> Assign
     match checked {
         Checked::Lawful => first_set(p, multiple(p)),
         Checked::Refused { fault, at } => Assign::Refused { fault, at },
+    }
+}
+
+// H, the load and each string's E.
+pub fn figures(p: Plan) -> Figures
+    ensures exact { λ r. ⌜ r ≡ figuresAnswer p ⌝ }
+{
+    let checked = plan_check(p);
+    match checked {
+        Checked::Lawful => figures_over(p, multiple(p)),
+        Checked::Refused { fault, at } => no_figures(fault, at),
     }
 }
