@@ -1,14 +1,22 @@
 // The usual civil-date formulas (era, year of the era, March as the first month), and a clock for them and for the calendar's functions.
-// It declares what it uses of the C library itself: the kit's compiler builds it for x86-64 on any machine, without headers.
-typedef unsigned int uint32_t;
-typedef unsigned long uint64_t;
+// It declares what it uses of the C library itself: the kit's compiler builds it for x86-64 on any machine, without the library's headers.
+#include "desk.h"
 struct timespec { long tv_sec, tv_nsec; };
 enum { CLOCK_PROCESS_CPUTIME_ID = 2, DAYS = 146097, ROUNDS = 60 };
 int printf(const char *, ...);
 int clock_gettime(int, struct timespec *);
 
-uint64_t entry_from_day(uint32_t day);
-uint32_t entry_day_number(uint32_t year, uint32_t month, uint32_t day);
+// 512 times the year, 32 times the month, and the day; 0 refused
+static uint64_t our_date(uint32_t day) {
+    uint64_t out[DESK_PLACES];
+    return desk_date(day, out, DESK_PLACES) == DESK_DATE ? out[0] * 512 + out[1] * 32 + out[2] : 0;
+}
+
+// 4294967295 refused
+static uint32_t our_day(uint32_t year, uint32_t month, uint32_t day) {
+    uint64_t out[DESK_PLACES];
+    return desk_day(year, month, day, out, DESK_PLACES) == DESK_DAY ? out[0] : 4294967295;
+}
 
 // 1 January 2000, counted from 1 March of the year 0
 enum { EPOCH = 730425 };
@@ -33,14 +41,14 @@ static uint64_t dates[DAYS];
 
 static uint64_t all_dates(int ours) {
     uint64_t sum = 0;
-    if (ours) for (uint32_t k = 0; k < DAYS; k++) sum += entry_from_day(k);
+    if (ours) for (uint32_t k = 0; k < DAYS; k++) sum += our_date(k);
     else for (uint32_t k = 0; k < DAYS; k++) sum += civil_from_days(k);
     return sum;
 }
 
 static uint64_t all_days(int ours) {
     uint64_t sum = 0;
-    if (ours) for (uint32_t k = 0; k < DAYS; k++) sum += entry_day_number(dates[k] / 512, dates[k] / 32 % 16, dates[k] % 32);
+    if (ours) for (uint32_t k = 0; k < DAYS; k++) sum += our_day(dates[k] / 512, dates[k] / 32 % 16, dates[k] % 32);
     else for (uint32_t k = 0; k < DAYS; k++) sum += days_from_civil(dates[k] / 512, dates[k] / 32 % 16, dates[k] % 32);
     return sum;
 }
@@ -63,10 +71,10 @@ int main(void) {
     int bad = 0;
     for (uint32_t k = 0; k < DAYS; k++) {
         dates[k] = civil_from_days(k);
-        bad += entry_from_day(k) != dates[k] || entry_day_number(dates[k] / 512, dates[k] / 32 % 16, dates[k] % 32) != k;
+        bad += our_date(k) != dates[k] || our_day(dates[k] / 512, dates[k] / 32 % 16, dates[k] % 32) != k;
     }
-    for (uint32_t k = DAYS; k < 2 * DAYS; k++) bad += entry_from_day(k) != 0;
-    bad += entry_day_number(2001, 2, 29) != 4294967295 || entry_day_number(2400, 1, 1) != 4294967295 || entry_day_number(1999, 12, 31) != 4294967295;
+    for (uint32_t k = DAYS; k < 2 * DAYS; k++) bad += our_date(k) != 0;
+    bad += our_day(2001, 2, 29) != 4294967295 || our_day(2400, 1, 1) != 4294967295 || our_day(1999, 12, 31) != 4294967295;
     printf("%d days both ways: %d differ\n", DAYS, bad);
     clocked("dates of all days", all_dates);
     clocked("day numbers of all dates", all_days);

@@ -1,8 +1,6 @@
-// A plain C peer of the plan's check, the verdict and the search (document 01, and 02's W-205), and a clock for them.
-// It declares what it uses of the C library itself: the kit's compiler builds it for x86-64 on any machine, without headers.
-typedef unsigned int uint32_t;
-typedef unsigned long uint64_t;
-typedef unsigned long size_t;
+// A plain C peer of the plan's check, the verdict and the search (document 01, and 02's W-205), and a clock for them and for the desk's entries.
+// It declares what it uses of the C library itself: the kit's compiler builds it for x86-64 on any machine, without the library's headers.
+#include "desk.h"
 struct timespec { long tv_sec, tv_nsec; };
 enum { CLOCK_PROCESS_CPUTIME_ID = 2 };
 int printf(const char *, ...);
@@ -14,13 +12,27 @@ int clock_gettime(int, struct timespec *);
 // a is the string's own moving cost
 typedef struct { uint32_t t, c, d, x, a; } String;
 typedef struct { uint32_t n, run; String s[10]; } Plan;
-enum { NUMBERS = 52 };
 
-uint64_t entry_multiple(size_t n, const uint32_t *numbers, size_t count);
-uint64_t entry_check(size_t n, const uint32_t *numbers, size_t count);
-uint64_t entry_verdict(size_t n, const uint32_t *numbers, size_t count);
-uint64_t entry_quick(size_t n, const uint32_t *numbers, size_t count);
-uint64_t entry_search(size_t n, const uint32_t *numbers, size_t count);
+// the plan as an entry takes it
+enum { MOST = 51 };
+typedef struct { size_t count; uint32_t of[MOST]; } Numbers;
+
+// one number for an answer of either side: 0 refused; 1 overload, else four times the pairs and 2 for a fail, 3 for a pass; of a search 1
+// nobody, else twice the set and 2
+static uint64_t coded(uint32_t kind, const uint64_t *out) {
+    switch (kind) {
+    case DESK_OVERLOAD: return 1;
+    case DESK_FAIL: return out[3] * 4 + 2;
+    case DESK_PASS: return out[0] * 4 + 3;
+    case DESK_NOBODY: return 1;
+    case DESK_TAKERS: return out[0] * 2 + 2;
+    default: return 0;
+    }
+}
+
+static uint64_t our_verdict(const Numbers *v) { uint64_t out[DESK_PLACES]; return coded(desk_verdict(v->of, v->count, out, DESK_PLACES), out); }
+static uint64_t our_quick(const Numbers *v) { uint64_t out[DESK_PLACES]; return coded(desk_quick(v->of, v->count, out, DESK_PLACES), out); }
+static uint64_t our_search(const Numbers *v) { uint64_t out[DESK_PLACES]; return coded(desk_search(v->of, v->count, out, DESK_PLACES), out); }
 
 static uint32_t gcd(uint32_t a, uint32_t b) { while (b) { uint32_t r = a % b; a = b; b = r; } return a; }
 
@@ -110,9 +122,10 @@ static uint64_t peer_search(const Plan *p) {
     return 1;
 }
 
-static void numbers_of(const Plan *p, uint32_t *v) {
-    v[0] = p->n; v[1] = p->run;
-    memcpy(v + 2, p->s, sizeof p->s);
+static Numbers numbers_of(const Plan *p) {
+    Numbers v = {1 + 5 * p->n, {p->run}};
+    memcpy(v.of + 1, p->s, sizeof p->s);
+    return v;
 }
 
 static void same_cost(Plan *p, uint32_t a) { for (int i = 0; i < 10; i++) p->s[i].a = a; }
@@ -120,15 +133,14 @@ static void same_cost(Plan *p, uint32_t a) { for (int i = 0; i < 10; i++) p->s[i
 static double now(void) { struct timespec t; clock_gettime(CLOCK_PROCESS_CPUTIME_ID, &t); return t.tv_sec + t.tv_nsec * 1e-9; }
 
 static void clocked(const char *name, const Plan *p, int searching) {
-    uint32_t v[NUMBERS];
-    numbers_of(p, v);
+    Numbers v = numbers_of(p);
     double best[3] = {1e9, 1e9, 1e9};
     uint64_t said[3] = {0};
     for (int round = 0; round < 15; round++)
         for (int who = 0; who < 3; who++) {
             hoist = who == 1;
             double start = now();
-            said[who] = who < 2 ? (searching ? peer_search(p) : peer_verdict(p)) : searching ? entry_search(p->n, v, NUMBERS) : entry_verdict(p->n, v, NUMBERS);
+            said[who] = who < 2 ? (searching ? peer_search(p) : peer_verdict(p)) : searching ? our_search(&v) : our_verdict(&v);
             double spent = now() - start;
             if (spent < best[who]) best[who] = spent;
         }
@@ -161,14 +173,13 @@ static uint64_t peer_quick(const Plan *p) {
 
 // the quick verdict beside the full one, ours both; small plans many times in a row
 static void clocked_quick(const char *name, const Plan *p, int times) {
-    uint32_t v[NUMBERS];
-    numbers_of(p, v);
+    Numbers v = numbers_of(p);
     double best[2] = {1e9, 1e9};
     uint64_t said[2] = {0};
     for (int round = 0; round < 15; round++)
         for (int who = 0; who < 2; who++) {
             double start = now();
-            for (int k = 0; k < times; k++) said[who] = who ? entry_quick(p->n, v, NUMBERS) : entry_verdict(p->n, v, NUMBERS);
+            for (int k = 0; k < times; k++) said[who] = who ? our_quick(&v) : our_verdict(&v);
             double spent = (now() - start) / times;
             if (spent < best[who]) best[who] = spent;
         }
@@ -179,31 +190,32 @@ static void clocked_quick(const char *name, const Plan *p, int times) {
 // a check is too short for the clock: 1,000 in a row. Both sides make a plan of the numbers
 enum { CHECKS = 1000 };
 
-static uint64_t __attribute__((noinline)) peer_check(size_t n, const uint32_t *numbers, size_t count) {
+static uint64_t __attribute__((noinline)) peer_check(const Numbers *v) {
     Plan p;
-    if (count < NUMBERS) return 0;
-    memcpy(&p, numbers, sizeof p);
-    p.n = n;
+    if (v->count % 5 != 1 || v->count > MOST) return 0;
+    p.n = v->count / 5; p.run = v->of[0];
+    memcpy(p.s, v->of + 1, (v->count - 1) * sizeof *v->of);
     return lawful(&p);
 }
+
+static uint64_t our_check(const Numbers *v) { uint64_t out[DESK_PLACES]; return desk_check(v->of, v->count, out, DESK_PLACES) == DESK_LAWFUL; }
 
 static void clocked_check(const char *name, const uint32_t *t) {
     Plan p = {10, 1000, {{0}}};
     for (int i = 0; i < 10; i++) p.s[i] = (String){t[i], 1, 1, 0, 0};
-    uint32_t v[NUMBERS];
-    numbers_of(&p, v);
-    uint64_t (*check[2])(size_t, const uint32_t *, size_t) = {peer_check, entry_check};
+    Numbers v = numbers_of(&p);
+    uint64_t (*check[2])(const Numbers *) = {peer_check, our_check};
     double best[2] = {1e9, 1e9};
     uint64_t said[2] = {0};
     for (int round = 0; round < 15; round++)
         for (int who = 0; who < 2; who++) {
             double start = now();
-            for (int k = 0; k < CHECKS; k++) said[who] = check[who](p.n, v, NUMBERS);
+            for (int k = 0; k < CHECKS; k++) said[who] = check[who](&v);
             double spent = (now() - start) / CHECKS;
             if (spent < best[who]) best[who] = spent;
         }
     printf("%-30s ours %8.3f us  peer %9.3f (ratio %4.2f)  H %u  %s\n", name, best[1] * 1e6, best[0] * 1e6, best[1] / best[0], multiple(&p),
-        said[0] == said[1] && entry_multiple(p.n, v, NUMBERS) == multiple(&p) ? "same" : "DIFFERENT");
+        said[0] == said[1] && desk_multiple(v.of, v.count) == multiple(&p) ? "same" : "DIFFERENT");
 }
 
 // periods of any size, 0 among them
@@ -211,15 +223,14 @@ static void random_periods(int count) {
     int bad = 0, found = 0;
     for (int k = 0; k < count; k++) {
         Plan p = {0};
-        uint32_t v[NUMBERS];
         p.n = 1 + rand() % 10;
         for (uint32_t i = 0; i < 10; i++) {
             uint32_t large = (uint32_t)rand() * 2 + rand() % 2, small = (uint32_t)(rand() % 200) >> rand() % 9;
             p.s[i].t = rand() % 50 == 0 ? large : small;
         }
-        numbers_of(&p, v);
+        Numbers v = numbers_of(&p);
         uint32_t h = multiple(&p);
-        bad += h != entry_multiple(p.n, v, NUMBERS);
+        bad += h != desk_multiple(v.of, v.count);
         found += h <= 100000;
     }
     printf("%d random lists of periods: %d differ (H found for %d)\n", count, bad, found);
@@ -230,16 +241,15 @@ static void random_plans(int count) {
     srand(7);
     for (int k = 0; k < count; k++) {
         Plan p = {0};
-        uint32_t v[NUMBERS];
         p.n = 1 + rand() % 4; p.run = 20;
         for (uint32_t i = 0; i < 10; i++) {
             String *s = &p.s[i];
             s->t = 1 + rand() % 24; s->d = 1 + rand() % s->t; s->c = 1 + rand() % (1 + s->d / 3); s->x = rand() % 2;
             s->a = rand() % 4;
         }
-        numbers_of(&p, v);
-        uint64_t a = peer_verdict(&p), b = entry_verdict(p.n, v, NUMBERS);
-        bad += a != b || peer_search(&p) != entry_search(p.n, v, NUMBERS) || peer_quick(&p) != entry_quick(p.n, v, NUMBERS);
+        Numbers v = numbers_of(&p);
+        uint64_t a = peer_verdict(&p), b = our_verdict(&v);
+        bad += a != b || peer_search(&p) != our_search(&v) || peer_quick(&p) != our_quick(&v);
         kinds[a % 4]++;
     }
     printf("%d random plans: %d differ (refused %d, overload %d, fail %d, pass %d)\n", count, bad, kinds[0], kinds[1], kinds[2], kinds[3]);

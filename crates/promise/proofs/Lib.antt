@@ -1,7 +1,7 @@
 -- The user's demands, of what the code answered. UserWords: demand 2. QuickAgrees: both engines say the same. NeverMisses: demand 3.
 -- Missing: where moving is free, a fail has a list that misses.
 -- OneText: reading and writing undo each other. Turning: old files to new and back. ThreeLines: what a file's answer can hold. PlanShown: a
--- plan in decimal words. ShutOut, OnlyOne: what the contracts rule out.
+-- plan in decimal words. ToldPrograms: demand 3 of what a C program is told. ShutOut, OnlyOne: what the contracts rule out.
 pub mod UserWords
 pub mod QuickAgrees
 pub mod Missing
@@ -12,4 +12,5 @@ pub mod Turning
 pub mod PlanShown
 pub mod ShutOut
 pub mod Dates
+pub mod ToldPrograms
 pub mod OnlyOne

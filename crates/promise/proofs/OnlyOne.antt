@@ -90,6 +90,16 @@ use Rattle.showing.proofs.string_shown.Reads as string-shown
 use Rattle.showing.proofs.load_shown.Reads as load-shown
 use Rattle.showing.proofs.release_shown.Reads as release-shown
 use Rattle.answers.proofs.answer.Reads as answer
+use Rattle.entries.proofs.desk_check.Reads as desk-check
+use Rattle.entries.proofs.desk_multiple.Reads as desk-multiple
+use Rattle.entries.proofs.desk_verdict.Reads as desk-verdict
+use Rattle.entries.proofs.desk_verdict_with.Reads as desk-verdict-with
+use Rattle.entries.proofs.desk_quick.Reads as desk-quick
+use Rattle.entries.proofs.desk_search.Reads as desk-search
+use Rattle.entries.proofs.desk_run.Reads as desk-run
+use Rattle.entries.proofs.desk_answer.Reads as desk-answer
+use Rattle.entries.proofs.desk_date.Reads as desk-date
+use Rattle.entries.proofs.desk_day.Reads as desk-day
 
 -- days
 pub one-Day-plus : (κs : Lfts 0) (a : _) (e f : _) (r s : Later) → Day-plus.Learnt κs a r e → Day-plus.Learnt κs a s f → r ≡ s
@@ -302,3 +312,45 @@ one-release-shown κs a e f r s h k = h .0 ∙ sym (k .0)
 pub one-answer : (κs : Lfts 1) (a : _) (e f : _) (r s : Answer) → answer.Learnt κs a r e → answer.Learnt κs a s f
     → (r ≡ s) × (e .0 .now ≡ f .0 .now)
 one-answer κs a e f r s h k = (h .0 ∙ sym (k .0), h .1 ∙ sym (k .1))
+
+-- entries: what is read and what is written to is lent
+pub one-desk-check : (κs : Lfts 2) (a : _) (e f : _) (r s : ℕ) → desk-check.Learnt κs a r e → desk-check.Learnt κs a s f
+    → (r ≡ s) × (e .1 .0 .now ≡ f .1 .0 .now) × (e .0 .now ≡ f .0 .now)
+one-desk-check κs a e f r s h k = (h .0 ∙ sym (k .0), h .1 .0 ∙ sym (k .1 .0), h .1 .1 ∙ sym (k .1 .1))
+
+pub one-desk-multiple : (κs : Lfts 1) (a : _) (e f : _) (r s : ℕ) → desk-multiple.Learnt κs a r e → desk-multiple.Learnt κs a s f
+    → (r ≡ s) × (e .0 .now ≡ f .0 .now)
+one-desk-multiple κs a e f r s h k = (h .0 ∙ sym (k .0), h .1 ∙ sym (k .1))
+
+pub one-desk-verdict : (κs : Lfts 2) (a : _) (e f : _) (r s : ℕ) → desk-verdict.Learnt κs a r e → desk-verdict.Learnt κs a s f
+    → (r ≡ s) × (e .1 .0 .now ≡ f .1 .0 .now) × (e .0 .now ≡ f .0 .now)
+one-desk-verdict κs a e f r s h k = (h .0 ∙ sym (k .0), h .1 .0 ∙ sym (k .1 .0), h .1 .1 ∙ sym (k .1 .1))
+
+pub one-desk-verdict-with : (κs : Lfts 2) (a : _) (e f : _) (r s : ℕ) → desk-verdict-with.Learnt κs a r e
+    → desk-verdict-with.Learnt κs a s f
+    → (r ≡ s) × (e .1 .1 .0 .now ≡ f .1 .1 .0 .now) × (e .0 .now ≡ f .0 .now)
+one-desk-verdict-with κs a e f r s h k = (h .0 ∙ sym (k .0), h .1 .0 ∙ sym (k .1 .0), h .1 .1 ∙ sym (k .1 .1))
+
+pub one-desk-quick : (κs : Lfts 2) (a : _) (e f : _) (r s : ℕ) → desk-quick.Learnt κs a r e → desk-quick.Learnt κs a s f
+    → (r ≡ s) × (e .1 .0 .now ≡ f .1 .0 .now) × (e .0 .now ≡ f .0 .now)
+one-desk-quick κs a e f r s h k = (h .0 ∙ sym (k .0), h .1 .0 ∙ sym (k .1 .0), h .1 .1 ∙ sym (k .1 .1))
+
+pub one-desk-search : (κs : Lfts 2) (a : _) (e f : _) (r s : ℕ) → desk-search.Learnt κs a r e → desk-search.Learnt κs a s f
+    → (r ≡ s) × (e .1 .0 .now ≡ f .1 .0 .now) × (e .0 .now ≡ f .0 .now)
+one-desk-search κs a e f r s h k = (h .0 ∙ sym (k .0), h .1 .0 ∙ sym (k .1 .0), h .1 .1 ∙ sym (k .1 .1))
+
+pub one-desk-run : (κs : Lfts 3) (a : _) (e f : _) (r s : ℕ) → desk-run.Learnt κs a r e → desk-run.Learnt κs a s f
+    → (r ≡ s) × (e .1 .1 .0 .now ≡ f .1 .1 .0 .now) × (e .0 .now ≡ f .0 .now) × (e .1 .0 .now ≡ f .1 .0 .now)
+one-desk-run κs a e f r s h k = (h .0 ∙ sym (k .0), h .1 .0 ∙ sym (k .1 .0), h .1 .1 .0 ∙ sym (k .1 .1 .0), h .1 .1 .1 ∙ sym (k .1 .1 .1))
+
+pub one-desk-answer : (κs : Lfts 2) (a : _) (e f : _) (r s : ℕ) → desk-answer.Learnt κs a r e → desk-answer.Learnt κs a s f
+    → (r ≡ s) × (e .1 .0 .now ≡ f .1 .0 .now) × (e .0 .now ≡ f .0 .now)
+one-desk-answer κs a e f r s h k = (h .0 ∙ sym (k .0), h .1 .0 ∙ sym (k .1 .0), h .1 .1 .0 ∙ sym (k .1 .1 .0))
+
+pub one-desk-date : (κs : Lfts 1) (a : _) (e f : _) (r s : ℕ) → desk-date.Learnt κs a r e → desk-date.Learnt κs a s f
+    → (r ≡ s) × (e .1 .0 .now ≡ f .1 .0 .now)
+one-desk-date κs a e f r s h k = (h .0 ∙ sym (k .0), h .1 ∙ sym (k .1))
+
+pub one-desk-day : (κs : Lfts 1) (a : _) (e f : _) (r s : ℕ) → desk-day.Learnt κs a r e → desk-day.Learnt κs a s f
+    → (r ≡ s) × (e .1 .1 .1 .0 .now ≡ f .1 .1 .1 .0 .now)
+one-desk-day κs a e f r s h k = (h .0 ∙ sym (k .0), h .1 ∙ sym (k .1))

@@ -1,0 +1,105 @@
+/* The planning desk for C and C++ programs. `rt staticlib entries` proves the crate entries and writes target/staticlib/libentries.a, for
+ * x86-64 Linux; it wants nothing beside it but the C library. c/example.c shows each entry, c/example.rs the same from Rust.
+ *
+ * A plan is a row of numbers: N, then T, C, D, X and A of each string, by place: 1 + 5 n numbers for n strings.
+ *     N  days of the run                                   1 to 1,000,000
+ *     T  least days between two releases of the string     1 to 1,000
+ *     C  most working days of a job                        1 to D
+ *     D  days from a release to its deadline               1 to T
+ *     X  1: its jobs may take the bank, 0: they may not
+ *     A  moving days that a job pays which takes the bank  0 to 1,000
+ * n is 1 to 10, and the least common multiple of all T is at most 100,000.
+ *
+ * Releases are a row of numbers too: day, place (of the string, from 1) and need (working days) of each, at most 1,000 releases. Days never
+ * fall, a day is below N, a need is 1 to C, and releases of one place are at least T days apart.
+ *
+ * Every entry answers for whatever is lent: what lies outside these bounds is refused, with a number and a place.
+ *
+ * What is lent: a pointer, and behind it how many elements there are. The pointer is not null, even where the count is 0, and has the
+ * alignment of its type. What an entry writes to does not overlap what it reads. An entry reads and writes nothing else, keeps no pointer
+ * after it has returned and has no state: any number of threads may call at once. 256 kB of stack are enough (measured, not proved).
+ *
+ * What is told: an entry with `out` returns a kind, one of those below, and writes four numbers to out[0] to out[3], 0 where the kind has
+ * fewer than four. out[4] and later places stay as they are. Where `room` is below DESK_PLACES nothing is written, and DESK_NO_ROOM is
+ * returned whatever the answer is. */
+#ifndef DESK_H
+#define DESK_H
+
+#include <stddef.h>
+#include <stdint.h>
+
+#ifdef __cplusplus
+extern "C" {
+#endif
+
+/* The places that `out` needs, and the bytes that every answer of desk_answer fits in. */
+enum { DESK_PLACES = 4, DESK_PAGE = 256 };
+
+/* The kinds, each with its numbers in the order of out. */
+enum {
+    DESK_REFUSED = 0,   /* the refusal number, and where: a place, a place in the release list, or 0 for the whole */
+    DESK_PASS = 1,      /* pairs compared */
+    DESK_FAIL = 2,      /* interval, blocking, demand there, pairs compared */
+    DESK_OVERLOAD = 3,  /* pairs compared, which are 0 */
+    DESK_TAKERS = 4,    /* the set: place 1 is worth 1, place 2 is worth 2, place 3 is worth 4 */
+    DESK_NOBODY = 5,    /* no set passes */
+    DESK_CLEAN = 6,     /* days of work, days of moving, idle days */
+    DESK_MISS = 7,      /* the day and the place of the first miss */
+    DESK_LAWFUL = 8,    /* nothing is refused */
+    DESK_NO_ROOM = 9,   /* room is below DESK_PLACES: nothing is written */
+    DESK_DATE = 10,     /* year, month, day of the month */
+    DESK_DAY = 11       /* the day number */
+};
+
+/* The refusal numbers of entries that take numbers, in the order in which they are looked for. */
+enum {
+    DESK_STRING_COUNT = 4,      /* n is not 1 to 10, or the numbers are not 1 + 5 n; with 0 */
+    DESK_OUT_OF_BOUNDS = 5,     /* N, with 0; a set of 2^n or more, with 0; then T, C, D, X or A, with the string's place */
+    DESK_MULTIPLE_OVER = 6,     /* the least common multiple of all T is over 100,000; with 0 */
+    DESK_RELEASE_TOO_MANY = 7,  /* more than 1,000 releases; with 1,001 */
+    DESK_RELEASE_UNLAWFUL = 8,  /* with the place in the list, from 1, of the first release that may not stand there; one that lacks a
+                                   number is such a release */
+    DESK_NO_SUCH_DATE = 10      /* a date that does not exist, or a day outside the calendar; with 0 */
+};
+
+/* Whether a plan is lawful: DESK_LAWFUL, or DESK_REFUSED with 4, 5 or 6. */
+uint32_t desk_check(const uint32_t *plan, size_t count, uint64_t *out, size_t room);
+
+/* H, the least common multiple of all T; 100,001 where it is over 100,000 or some T is 0. Numbers that are no plan of at most ten strings
+ * have no string, and H 1. */
+uint32_t desk_multiple(const uint32_t *plan, size_t count);
+
+/* The verdict on a plan with the X that it carries: DESK_PASS, DESK_FAIL, DESK_OVERLOAD, or DESK_REFUSED with 4, 5 or 6. A plan that passes
+ * never misses a deadline, whatever is released. */
+uint32_t desk_verdict(const uint32_t *plan, size_t count, uint64_t *out, size_t room);
+
+/* The verdict on a plan with the permission set given, in place of its X: kinds as desk_verdict. */
+uint32_t desk_verdict_with(const uint32_t *plan, size_t count, uint32_t set, uint64_t *out, size_t room);
+
+/* The quick verdict: as desk_verdict in all but its count of pairs, which is its own and smaller. */
+uint32_t desk_quick(const uint32_t *plan, size_t count, uint64_t *out, size_t room);
+
+/* The passing set with the fewest takers, among equals the smallest number: DESK_TAKERS, DESK_NOBODY, or DESK_REFUSED with 4, 5 or 6. The
+ * plan's X plays no part. */
+uint32_t desk_search(const uint32_t *plan, size_t count, uint64_t *out, size_t room);
+
+/* How the run of a plan ends under a list of releases, with the X that the plan carries: DESK_CLEAN, DESK_MISS, or DESK_REFUSED with 4 to
+ * 8. listed is 3 for each release. */
+uint32_t desk_run(const uint32_t *plan, size_t count, const uint32_t *releases, size_t listed, uint64_t *out, size_t room);
+
+/* The lines that ./desk writes for a plan file: `text` is the file, `length` bytes, and need not end in 0. The lines go to the head of
+ * `page`, and their length is returned; the page's later bytes stay, and no 0 is put behind the lines. Where they do not fit into `size`
+ * bytes nothing is written and 0 is returned. With size DESK_PAGE they always fit. */
+size_t desk_answer(const uint8_t *text, size_t length, uint8_t *page, size_t size);
+
+/* The date of a day number, 0 for 1 January 2000 (a Saturday) to 146,096 for 31 December 2399: DESK_DATE, or DESK_REFUSED with 10. */
+uint32_t desk_date(uint32_t day, uint64_t *out, size_t room);
+
+/* The day number of a date: DESK_DAY, or DESK_REFUSED with 10. */
+uint32_t desk_day(uint32_t year, uint32_t month, uint32_t day, uint64_t *out, size_t room);
+
+#ifdef __cplusplus
+}
+#endif
+
+#endif

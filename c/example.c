@@ -1,0 +1,86 @@
+/* The sample plan by numbers, a few questions more, and the answer to a plan file: `example FILE`. c/run builds and starts it. */
+#include "desk.h"
+
+#include <inttypes.h>
+#include <stdio.h>
+
+#define COUNT(row) (sizeof(row) / sizeof *(row))
+
+static const uint32_t plan[] = {
+    20,              /* N */
+    10, 3, 5, 1, 1,  /* string 1: T, C, D, X, A */
+    10, 5, 10, 0, 1, /* string 2 */
+};
+
+static const uint32_t releases[] = {
+    0, 2, 5, /* day, place, need */
+    1, 1, 3,
+};
+
+/* An answer as a line: the desk's words, where the desk has them. */
+static void say(uint32_t kind, const uint64_t out[DESK_PLACES]) {
+    switch (kind) {
+    case DESK_REFUSED: printf("refused %" PRIu64 " place %" PRIu64 "\n", out[0], out[1]); break;
+    case DESK_PASS: printf("verdict pass pairs %" PRIu64 "\n", out[0]); break;
+    case DESK_FAIL:
+        printf("verdict fail interval %" PRIu64 " blocking %" PRIu64 " demand %" PRIu64 " pairs %" PRIu64 "\n", out[0], out[1], out[2], out[3]);
+        break;
+    case DESK_OVERLOAD: puts("verdict overload"); break;
+    case DESK_TAKERS: printf("assign %" PRIu64 "\n", out[0]); break;
+    case DESK_NOBODY: puts("assign none"); break;
+    case DESK_CLEAN: printf("run clean work %" PRIu64 " move %" PRIu64 " idle %" PRIu64 "\n", out[0], out[1], out[2]); break;
+    case DESK_MISS: printf("run miss day %" PRIu64 " place %" PRIu64 "\n", out[0], out[1]); break;
+    case DESK_LAWFUL: puts("lawful"); break;
+    case DESK_NO_ROOM: puts("no room"); break;
+    case DESK_DATE: printf("date %04" PRIu64 "-%02" PRIu64 "-%02" PRIu64 "\n", out[0], out[1], out[2]); break;
+    case DESK_DAY: printf("day %" PRIu64 "\n", out[0]); break;
+    }
+}
+
+/* The lines for a plan file. One byte more than the longest lawful text is enough to have a longer one refused. */
+static int answer(const char *name) {
+    static uint8_t text[65537];
+    uint8_t page[DESK_PAGE];
+    FILE *file = fopen(name, "rb");
+    if (!file) return 0;
+    size_t length = fread(text, 1, sizeof text, file);
+    fclose(file);
+    fwrite(page, 1, desk_answer(text, length, page, sizeof page), stdout);
+    return 1;
+}
+
+int main(int words, char **word) {
+    uint64_t out[DESK_PLACES];
+
+    puts("# the sample plan, by numbers");
+    say(desk_verdict(plan, COUNT(plan), out, COUNT(out)), out);
+    say(desk_search(plan, COUNT(plan), out, COUNT(out)), out);
+    say(desk_run(plan, COUNT(plan), releases, COUNT(releases), out, COUNT(out)), out);
+
+    puts("# by the quick verdict; with nobody permitted; with both permitted");
+    say(desk_quick(plan, COUNT(plan), out, COUNT(out)), out);
+    say(desk_verdict_with(plan, COUNT(plan), 0, out, COUNT(out)), out);
+    say(desk_verdict_with(plan, COUNT(plan), 3, out, COUNT(out)), out);
+
+    puts("# its check and H; cut short; with a set of no such plan; a release that lacks its need; three places lent");
+    say(desk_check(plan, COUNT(plan), out, COUNT(out)), out);
+    printf("H %" PRIu32 "\n", desk_multiple(plan, COUNT(plan)));
+    say(desk_check(plan, COUNT(plan) - 1, out, COUNT(out)), out);
+    say(desk_verdict_with(plan, COUNT(plan), 4, out, COUNT(out)), out);
+    say(desk_run(plan, COUNT(plan), releases, COUNT(releases) - 1, out, COUNT(out)), out);
+    say(desk_verdict(plan, COUNT(plan), out, 3), out);
+
+    puts("# day 366 and back; 29 February 2001");
+    say(desk_date(366, out, COUNT(out)), out);
+    say(desk_day(2001, 1, 1, out, COUNT(out)), out);
+    say(desk_day(2001, 2, 29, out, COUNT(out)), out);
+
+    for (int i = 1; i < words; i++) {
+        printf("# %s\n", word[i]);
+        if (!answer(word[i])) {
+            fprintf(stderr, "example: cannot read %s\n", word[i]);
+            return 2;
+        }
+    }
+    return 0;
+}

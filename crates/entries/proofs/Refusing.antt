@@ -1,0 +1,86 @@
+-- Numbers that lack something are refused: a plan whose count is not 1 + 5 n, and a list whose last release lacks a number.
+use Prim.Native.Nat.{ℕ, zero, suc, _+_, _-_, _*_, _/_, _%_, _≤_, _<_, min}
+use mathlib.Core.Path.{_≡_, sym, ap, _∙_}
+use mathlib.Core.List.{List, map}
+use native.Mathlib.Omega.{arith}
+use native.Mathlib.Decide.{decLe, ℕ-discrete}
+use lib.ListN.{length, getD, take, length-map, List·getD-eq-default}
+use lib.Seq.{take-at}
+use Rattle.lists.specs.Count.{upFrom}
+use Rattle.faults.specs.declared.Fault.the-variants.{StringCount}
+use Rattle.faults.specs.declared.Checked.the-variants.{Lawful, Refused}
+use Rattle.rules.specs.declared.Plan.{Plan}
+use Rattle.rules.specs.Release.{releasesOf, noRelease}
+use Rattle.rules.specs.Refusal.{planCheck, countCheck, runCheck}
+use Rattle.laws.proofs.Releases.{runCheck-lawful}
+use Rattle.laws.proofs.ReleaseList.{release-lawful}
+use Rattle.entries.specs.Given.{stringCount, planGiven, releaseCount, releaseFrom, releasesGiven}
+use Rattle.entries.proofs.Giving.{no-fives, too-many, as-many, upFrom-length}
+
+-- ---- A plan
+
+no-strings : (ns : List ℕ) → ((n : ℕ) → 1 ≤ n → n ≤ 10 → length ns ≡ 1 + n * 5 → ⊥) → stringCount ns ≡ 0
+no-strings ns other =
+    elim (ℕ-discrete (length ns % 5) 1) [
+      | yes fives ↦
+          elim (decLe (length ns / 5) 10) [
+            | yes few ↦
+                elim (decLe 1 (length ns / 5)) [
+                  | yes some ↦ absurd (other (length ns / 5) some few (omega arith))
+                  | no none ↦ omega (arith, as-many ns fives few)
+                ]
+            | no many ↦ sym (too-many ns fives (omega arith))
+          ]
+      | no rest ↦ sym (no-fives ns rest)
+    ]
+
+-- 4 with 0 for any other count than 1 + 5 n with n 1 to 10
+pub other-count-refused : (ns : List ℕ) → ((n : ℕ) → 1 ≤ n → n ≤ 10 → length ns ≡ 1 + n * 5 → ⊥)
+    → planCheck (planGiven ns) ≡ Refused StringCount 0
+unfolding planCheck countCheck planGiven
+other-count-refused ns other = rw (no-strings ns other)
+
+-- ---- A list of releases
+
+at-place {ℓ} : {A : Type ℓ} (f : ℕ → A) (z : A) (k n m : ℕ) → m < n → getD (map f (upFrom k n)) m z ≡ f (k + m)
+unfolding upFrom
+at-place f z k zero m h = absurd (omega arith)
+at-place f z k (suc n) zero h =
+    let here : k ≡ k + 0 = omega arith in
+    ap f here
+at-place f z k (suc n) (suc m) h =
+    let there : suc k + m ≡ k + suc m = omega arith in
+    at-place f z (suc k) n m (omega arith) ∙ ap f there
+
+listed : (ns : List ℕ) → releaseCount ns ≤ 1000
+    → releasesOf (releasesGiven ns) ≡ map (λ i. releaseFrom ns (i * 3)) (upFrom 0 (releaseCount ns))
+unfolding releasesGiven
+listed ns few =
+    let all : min 1000 (releaseCount ns) ≡ releaseCount ns = omega arith in
+    rw all (take-at _ _ (releaseCount ns) (length-map (upFrom 0 (releaseCount ns)) _ ∙ upFrom-length 0 (releaseCount ns)))
+
+count-few : (ns : List ℕ) → releasesGiven ns .count ≤ 1000 → releaseCount ns ≤ 1000
+unfolding releasesGiven
+count-few ns h = h
+
+-- the last release, where a number is lacking, needs no day
+last-lacks : (ns : List ℕ) → (length ns % 3 ≡ 0 → ⊥) → releaseCount ns ≤ 1000
+    → (1 ≤ releaseCount ns) × (getD (releasesOf (releasesGiven ns)) (releaseCount ns - 1) noRelease .need .0 ≡ 0)
+unfolding releaseCount
+last-lacks ns lacks few =
+    let m = (length ns + 2) / 3 - 1 in
+    let past : length ns ≤ m * 3 + 2 = omega arith in
+    let here : 0 + m ≡ m = omega arith in
+    let placed = at-place (λ i. releaseFrom ns (i * 3)) noRelease 0 ((length ns + 2) / 3) m (omega arith) in
+    let last = ap (λ rs. getD rs m noRelease) (listed ns few) ∙ placed in
+    (omega arith, ap (λ r. r .need .0) last ∙ ap (λ i. getD ns (i * 3 + 2) 0) here ∙ List·getD-eq-default ns 0 past)
+
+-- no plan has a lawful list in which a number is lacking
+pub lacking-refused : (p : Plan) (ns : List ℕ) → (length ns % 3 ≡ 0 → ⊥) → runCheck p (releasesGiven ns) ≡ Lawful → ⊥
+lacking-refused p ns lacks lawful =
+    let run-is = runCheck-lawful p (releasesGiven ns) lawful in
+    let few = count-few ns (run-is .few) in
+    let last = last-lacks ns lacks few in
+    let many = ap length (listed ns few) ∙ length-map (upFrom 0 (releaseCount ns)) _ ∙ upFrom-length 0 (releaseCount ns) in
+    let lawful-last = release-lawful p (releasesOf (releasesGiven ns)) (run-is .none-bad) (releaseCount ns - 1) (omega (arith, last .0)) in
+    omega (arith, lawful-last .needPos, last .1)

@@ -1,0 +1,69 @@
+-- Rows and texts in lent memory: where there is room and where there is none, and that an entry which told a row or a text told what it is.
+use Prim.Native.Nat.{ℕ, _+_, _≤_, _<_}
+use mathlib.Core.Path.{_≡_, refl, sym, ap, _∙_}
+use mathlib.Core.List.{List, _++_}
+use native.Mathlib.Omega.{arith}
+use native.Mathlib.Numerals.{add-one}
+use borrow.Author.Tests.{lt-ltb, le-ltb}
+use lib.ListN.{length, drop, getD, set}
+use lib.Seq.{sets-eq, take-length, paste, paste-suc, length-paste}
+use Rattle.rules.specs.declared.Plan.{Plan}
+use Rattle.entries.specs.declared.told.Row.{Row}
+use Rattle.entries.specs.Given.{planGiven}
+use Rattle.entries.specs.Told.{numbersOf, kindTold, placesTold, lengthTold, pageTold}
+
+-- ---- A row
+
+module _ (r : Row) (places : List ℕ) where
+  pub none-told : length places < 4 → (9 ≡ kindTold r places) × (places ≡ placesTold r places)
+  unfolding kindTold placesTold
+  none-told h = rw (lt-ltb _ _ h) (refl, refl)
+
+  pub four-told : 4 ≤ length places → (r .kind ≡ kindTold r places)
+      × (set (set (set (set places 0 (r .first)) 1 (r .second)) 2 (r .third)) 3 (r .fourth) ≡ placesTold r places)
+  unfolding kindTold placesTold
+  four-told h = rw (le-ltb _ _ h) (refl, sets-eq (numbersOf r) places 0 h)
+
+-- it told a row, so it told what the row is
+pub told-as : (r s : Row) (places after : List ℕ) (kind : ℕ) → r ≡ s → (kind ≡ kindTold r places) × (after ≡ placesTold r places)
+    → (kind ≡ kindTold s places) × (after ≡ placesTold s places)
+told-as r s places after kind same told = (told .0 ∙ ap (λ q. kindTold q places) same, told .1 ∙ ap (λ q. placesTold q places) same)
+
+-- the row of what is answered for a plan that was given in numbers
+pub told-plan : {A : Type 0} (says : A → Row) (answer : Plan → A) (ns : List ℕ) (p : Plan) (v : A) (r : Row) (places after : List ℕ)
+    (kind : ℕ)
+    → p ≡ planGiven ns → v ≡ answer p → r ≡ says v → (kind ≡ kindTold r places) × (after ≡ placesTold r places)
+    → (kind ≡ kindTold (says (answer (planGiven ns))) places) × (after ≡ placesTold (says (answer (planGiven ns))) places)
+told-plan says answer ns p v r places after kind given answered said told =
+    told-as r _ places after kind (said ∙ ap says (answered ∙ ap answer given)) told
+
+-- ---- A text, byte by byte
+
+module _ (text page : List ℕ) where
+  pub no-room : length page < length text → (0 ≡ lengthTold text page) × (page ≡ pageTold text page)
+  unfolding lengthTold pageTold
+  no-room h = rw (lt-ltb _ _ h) (refl, refl)
+
+  pub room : length text ≤ length page
+      → (length text ≡ lengthTold text page) × (text ++ drop (length text) page ≡ pageTold text page)
+  unfolding lengthTold pageTold
+  room h = rw (le-ltb _ _ h) (refl, refl)
+
+module _ (text page : List ℕ) (fits : length text ≤ length page) (now : List ℕ) (i : ℕ) (h : now ≡ paste page 0 text i) where
+  pub copied-length : i ≤ length text → length now ≡ length page
+  copied-length k = ap length h ∙ length-paste page 0 text i (omega arith) k
+
+  pub copied-more : i < length text → set now i (getD text i 0) ≡ paste page 0 text (i + 1)
+  copied-more k =
+      let here : 0 + i ≡ i = omega arith in
+      ap (λ l. set l i (getD text i 0)) h ∙ ap (λ j. set (paste page 0 text i) j (getD text i 0)) (sym here)
+      ∙ paste-suc page 0 text i 0 (omega arith) k ∙ ap (paste page 0 text) (sym (add-one i))
+
+  pub copied-all : i ≡ length text → now ≡ text ++ drop (length text) page
+  copied-all all =
+      let none : 0 + length text ≡ length text = omega arith in
+      h ∙ ap (paste page 0 text) all ∙ rw (none, take-length text)
+
+pub text-as : (t u page after : List ℕ) (count : ℕ) → t ≡ u → (count ≡ lengthTold t page) × (after ≡ pageTold t page)
+    → (count ≡ lengthTold u page) × (after ≡ pageTold u page)
+text-as t u page after count same told = (told .0 ∙ ap (λ q. lengthTold q page) same, told .1 ∙ ap (λ q. pageTold q page) same)

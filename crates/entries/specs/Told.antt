@@ -1,0 +1,76 @@
+-- What a C program is told: of an answer a kind, which the entry returns, and four numbers, which go to the places that are lent; of a text
+-- its length, which the entry returns, and its bytes, which go to the page that is lent.
+--     kind  what is said          the four numbers
+--     0     refused               the refusal number, and the place, the place in the release list, or 0 for the whole
+--     1     pass                  pairs
+--     2     fail                  interval, blocking, demand, pairs
+--     3     overload              pairs, which are 0
+--     4     takers                the set
+--     5     none
+--     6     clean                 days of work, of moving, idle days
+--     7     miss                  day, place
+--     8     lawful
+--     9     fewer than four places are lent: nothing is written, whatever the answer is
+--     10    a date                year, month, day
+--     11    a day                 its number
+-- Where fewer than four numbers are said, 0 stands in the places after them.
+--     rowOf s               kind and numbers of what an answer says (rules/specs/Said.antt)
+--     dateRow w, dayRow w   the same of the calendar's answers
+--     kindTold r places     what is returned
+--     placesTold r places   the places afterwards: the four numbers, and then its own later places
+--     lengthTold text page  what is returned of a text: its length; 0 where the page has fewer bytes
+--     pageTold text page    the page afterwards: the text, and then its own later bytes; as it was where the text does not fit
+use Prim.Native.Nat.{ℕ}
+use mathlib.Core.Bool.{cond}
+use mathlib.Core.List.{List, [], _∷_, _++_}
+use lib.Dec.{ltb}
+use lib.ListN.{length, drop}
+use Rattle.faults.specs.Checks.{faultNumber}
+use Rattle.rules.specs.Said.{Said, lawful, refused, overload, fail, pass, takers, none, miss, clean}
+use Rattle.calendar.specs.declared.WhichDate.{WhichDate}
+use Rattle.calendar.specs.declared.WhichDate.the-variants as which-date
+use Rattle.calendar.specs.declared.WhichDay.{WhichDay}
+use Rattle.calendar.specs.declared.WhichDay.the-variants as which-day
+use Rattle.entries.specs.declared.told.Row.{Row}
+
+abbrev pub row : ℕ → ℕ → ℕ → ℕ → ℕ → Row
+row kind a b c d = record { kind = kind; first = a; second = b; third = c; fourth = d }
+
+abbrev pub refusedRow : ℕ → ℕ → Row
+refusedRow number at = row 0 number at 0 0
+
+abbrev pub rowOf : Said → Row
+rowOf (refused number at) = refusedRow number at
+rowOf (pass k) = row 1 k 0 0 0
+rowOf (fail l b d k) = row 2 l b d k
+rowOf (overload k) = row 3 k 0 0 0
+rowOf (takers set) = row 4 set 0 0 0
+rowOf none = row 5 0 0 0 0
+rowOf (clean w m i) = row 6 w m i 0
+rowOf (miss t i) = row 7 t i 0 0
+rowOf lawful = row 8 0 0 0 0
+
+abbrev pub dateRow : WhichDate → Row
+dateRow (which-date.Is d) = row 10 (d .year) (d .month) (d .day) 0
+dateRow (which-date.Refused f at) = refusedRow (faultNumber f) at
+
+abbrev pub dayRow : WhichDay → Row
+dayRow (which-day.Is k) = row 11 (k .0) 0 0 0
+dayRow (which-day.Refused f at) = refusedRow (faultNumber f) at
+
+-- ---- Into lent memory
+
+abbrev pub numbersOf : Row → List ℕ
+numbersOf r = r .first ∷ r .second ∷ r .third ∷ r .fourth ∷ []
+
+unfoldable pub kindTold : Row → List ℕ → ℕ
+kindTold r places = cond (ltb (length places) 4) 9 (r .kind)
+
+unfoldable pub placesTold : Row → List ℕ → List ℕ
+placesTold r places = cond (ltb (length places) 4) places (numbersOf r ++ drop 4 places)
+
+unfoldable pub lengthTold : List ℕ → List ℕ → ℕ
+lengthTold text page = cond (ltb (length page) (length text)) 0 (length text)
+
+unfoldable pub pageTold : List ℕ → List ℕ → List ℕ
+pageTold text page = cond (ltb (length page) (length text)) page (text ++ drop (length text) page)

@@ -1,0 +1,144 @@
+// Entries for programs in other languages, which link this crate as an archive: the desk's answers over numbers and bytes that they lend.
+// c/desk.h declares them and says how each is called. Each answers for whatever it is lent: no caller is trusted to have checked.
+mod given;
+mod told;
+
+use bounds::multiple;
+use bounds::plan_check;
+use calendar::Date;
+use days::Day;
+use given::plan_given;
+use given::releases_given;
+use told::assign_row;
+use told::checked_row;
+use told::date_row;
+use told::day_row;
+use told::outcome_row;
+use told::tell;
+use told::tell_text;
+use told::verdict_row;
+ghost use mathlib.Core.Path.{_≡_};
+ghost use Prim.Native.Nat.{_≤_};
+ghost use lib.ListN.{length};
+ghost use Rattle.rules.specs.Plan.{multipleOf};
+ghost use Rattle.rules.specs.Refusal.{planCheck, verdictAnswer, setAnswer, searchAnswer, runAnswer};
+ghost use Rattle.rules.specs.Said.{checkedSays, verdictSays, assignSays, outcomeSays};
+ghost use Rattle.rules.specs.Answer.{answerOf};
+ghost use Rattle.rules.specs.Lines.{linesFor};
+ghost use Rattle.growth.specs.Quick.{quickAnswer};
+ghost use Rattle.calendar.specs.Refusals.{dateAnswer, dayAnswer};
+ghost use Rattle.entries.specs.Given.{planGiven, releasesGiven, dateGiven};
+ghost use Rattle.entries.specs.Told.{rowOf, dateRow, dayRow, kindTold, placesTold, lengthTold, pageTold};
+
+// Whether a plan is lawful; if not, the first fault.
+#[no_mangle]
+pub extern "C" fn desk_check(plan: &[u32], out: &mut [u64]) -> u32
+    ensures exact { λ r. ⌜ r ≡ kindTold (rowOf (checkedSays (planCheck (planGiven (now (plan .entry)))))) (now (out .entry)) ⌝ }
+    ensures out { λ r. ⌜ now (out .exit) ≡ placesTold (rowOf (checkedSays (planCheck (planGiven (now (plan .entry))))))
+        (now (out .entry)) ⌝ }
+    ensures kept { λ r. ⌜ now (plan .exit) ≡ now (plan .entry) ⌝ }
+{
+    tell(checked_row(plan_check(plan_given(plan))), out)
+}
+
+// H, the least common multiple of all T; 100,001 stands for any over 100,000.
+#[no_mangle]
+pub extern "C" fn desk_multiple(plan: &[u32]) -> u32
+    ensures exact { λ r. ⌜ r ≡ multipleOf (planGiven (now (plan .entry))) ⌝ }
+    ensures kept { λ r. ⌜ now (plan .exit) ≡ now (plan .entry) ⌝ }
+{
+    multiple(plan_given(plan))
+}
+
+// The verdict on a plan with the permissions it carries.
+#[no_mangle]
+pub extern "C" fn desk_verdict(plan: &[u32], out: &mut [u64]) -> u32
+    ensures exact { λ r. ⌜ r ≡ kindTold (rowOf (verdictSays (verdictAnswer (planGiven (now (plan .entry)))))) (now (out .entry)) ⌝ }
+    ensures out { λ r. ⌜ now (out .exit) ≡ placesTold (rowOf (verdictSays (verdictAnswer (planGiven (now (plan .entry))))))
+        (now (out .entry)) ⌝ }
+    ensures kept { λ r. ⌜ now (plan .exit) ≡ now (plan .entry) ⌝ }
+{
+    tell(verdict_row(verdict::verdict(plan_given(plan))), out)
+}
+
+// The verdict on a plan with the permission set given.
+#[no_mangle]
+pub extern "C" fn desk_verdict_with(plan: &[u32], set: u32, out: &mut [u64]) -> u32
+    ensures exact { λ r. ⌜ r ≡ kindTold (rowOf (verdictSays (setAnswer (planGiven (now (plan .entry))) set))) (now (out .entry)) ⌝ }
+    ensures out { λ r. ⌜ now (out .exit) ≡ placesTold (rowOf (verdictSays (setAnswer (planGiven (now (plan .entry))) set)))
+        (now (out .entry)) ⌝ }
+    ensures kept { λ r. ⌜ now (plan .exit) ≡ now (plan .entry) ⌝ }
+{
+    tell(
+        verdict_row(verdict::verdict_with(plan_given(plan), set)),
+        out,
+    )
+}
+
+// The quick verdict on a plan with the permissions it carries.
+#[no_mangle]
+pub extern "C" fn desk_quick(plan: &[u32], out: &mut [u64]) -> u32
+    ensures exact { λ r. ⌜ r ≡ kindTold (rowOf (verdictSays (quickAnswer (planGiven (now (plan .entry)))))) (now (out .entry)) ⌝ }
+    ensures out { λ r. ⌜ now (out .exit) ≡ placesTold (rowOf (verdictSays (quickAnswer (planGiven (now (plan .entry))))))
+        (now (out .entry)) ⌝ }
+    ensures kept { λ r. ⌜ now (plan .exit) ≡ now (plan .entry) ⌝ }
+{
+    tell(verdict_row(verdict::quick(plan_given(plan))), out)
+}
+
+// The passing set with the fewest takers, among equals the smallest number.
+#[no_mangle]
+pub extern "C" fn desk_search(plan: &[u32], out: &mut [u64]) -> u32
+    ensures exact { λ r. ⌜ r ≡ kindTold (rowOf (assignSays (searchAnswer (planGiven (now (plan .entry)))))) (now (out .entry)) ⌝ }
+    ensures out { λ r. ⌜ now (out .exit) ≡ placesTold (rowOf (assignSays (searchAnswer (planGiven (now (plan .entry))))))
+        (now (out .entry)) ⌝ }
+    ensures kept { λ r. ⌜ now (plan .exit) ≡ now (plan .entry) ⌝ }
+{
+    tell(assign_row(verdict::search(plan_given(plan))), out)
+}
+
+// How the run ends under a plan and a list of releases.
+#[no_mangle]
+pub extern "C" fn desk_run(plan: &[u32], releases: &[u32], out: &mut [u64]) -> u32
+    ensures exact { λ r. ⌜ r ≡ kindTold
+        (rowOf (outcomeSays (runAnswer (planGiven (now (plan .entry))) (releasesGiven (now (releases .entry)))))) (now (out .entry)) ⌝ }
+    ensures out { λ r. ⌜ now (out .exit) ≡ placesTold
+        (rowOf (outcomeSays (runAnswer (planGiven (now (plan .entry))) (releasesGiven (now (releases .entry)))))) (now (out .entry)) ⌝ }
+    ensures plan { λ r. ⌜ now (plan .exit) ≡ now (plan .entry) ⌝ }
+    ensures releases { λ r. ⌜ now (releases .exit) ≡ now (releases .entry) ⌝ }
+{
+    tell(
+        outcome_row(run::run(plan_given(plan), releases_given(releases))),
+        out,
+    )
+}
+
+// The lines that the desk writes for a plan file. 256 bytes hold them, whatever the file.
+#[no_mangle]
+pub extern "C" fn desk_answer(text: &[u8], page: &mut [u8]) -> usize
+    ensures exact { λ r. ⌜ r ≡ lengthTold (linesFor (answerOf (now (text .entry)))) (now (page .entry)) ⌝ }
+    ensures page { λ r. ⌜ now (page .exit) ≡ pageTold (linesFor (answerOf (now (text .entry)))) (now (page .entry)) ⌝ }
+    ensures kept { λ r. ⌜ now (text .exit) ≡ now (text .entry) ⌝ }
+    ensures enough { λ r. ⌜ length (linesFor (answerOf (now (text .entry)))) ≤ 256 ⌝ }
+{
+    tell_text(lines::written(answers::answer(text)), page)
+}
+
+// The date of a day number.
+#[no_mangle]
+pub extern "C" fn desk_date(day: u32, out: &mut [u64]) -> u32
+    ensures exact { λ r. ⌜ r ≡ kindTold (dateRow (dateAnswer day)) (now (out .entry)) ⌝ }
+    ensures out { λ r. ⌜ now (out .exit) ≡ placesTold (dateRow (dateAnswer day)) (now (out .entry)) ⌝ }
+{
+    tell(date_row(Date::from_day(Day(day))), out)
+}
+
+// The day number of a date.
+#[no_mangle]
+pub extern "C" fn desk_day(year: u32, month: u32, day: u32, out: &mut [u64]) -> u32
+    ensures exact { λ r. ⌜ r ≡ kindTold (dayRow (dayAnswer (dateGiven year month day))) (now (out .entry)) ⌝ }
+    ensures out { λ r. ⌜ now (out .exit) ≡ placesTold (dayRow (dayAnswer (dateGiven year month day))) (now (out .entry)) ⌝ }
+{
+    let date = Date { year, month, day };
+    tell(day_row(date.day_number()), out)
+}
