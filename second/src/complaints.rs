@@ -5,7 +5,7 @@ use crate::stop::Stop;
 use std::path::Path;
 
 /// The words of a start, and what has to be said. There is no file of these names.
-const COMPLAINTS: [(&[&str], &str); 22] = [
+const COMPLAINTS: [(&[&str], &str); 25] = [
     (&[], "no word; clerk help lists them"),
     (&["xyz"], "no word xyz; clerk help lists them"),
     (&["xyz", "x.plan"], "no word xyz; clerk help lists them"),
@@ -35,6 +35,9 @@ const COMPLAINTS: [(&[&str], &str); 22] = [
     (&["quick"], "quick FILE"),
     (&["quick", "x.plan", "7"], "quick FILE"),
     (&["quick", "x.plan"], "cannot read x.plan: no such file"),
+    (&["miss"], "miss FILE"),
+    (&["miss", "x.plan", "7"], "miss FILE"),
+    (&["miss", "x.plan"], "cannot read x.plan: no such file"),
     (&["show"], "show FILE"),
     (&["show", "x.plan", "7"], "show FILE"),
     (&["show", "x.plan"], "cannot read x.plan: no such file"),

@@ -10,6 +10,7 @@ mod complaints;
 mod desk;
 mod edges;
 mod faults;
+mod misses;
 mod mix;
 mod options;
 mod plans;
@@ -46,6 +47,7 @@ fn main() -> ExitCode {
         Some(Task::Selftest) => run_selftest(),
         Some(Task::Calendar) => show_calendar(),
         Some(Task::Dates(asked)) => run_dates(&asked),
+        Some(Task::Misses(asked)) => run_misses(&asked),
         None => {
             eprintln!("{USAGE}");
             ExitCode::from(UNABLE)
@@ -145,6 +147,20 @@ fn run_dates(asked: &Asked) -> ExitCode {
             ExitCode::FAILURE
         }
         Err(error) => unable(&format!("{}: {error}", clerk.display())),
+    }
+}
+
+fn run_misses(asked: &misses::ask::Asked) -> ExitCode {
+    match misses::ask::ask_all(asked) {
+        Ok(Ok(counts)) => {
+            println!("{counts}");
+            ExitCode::SUCCESS
+        }
+        Ok(Err(wrong)) => {
+            println!("second: {}", wrong.trim_end());
+            ExitCode::FAILURE
+        }
+        Err(error) => unable(&format!("{}: {error}", asked.clerk.display())),
     }
 }
 

@@ -1,6 +1,7 @@
 //! What the program is asked to do.
 
 use crate::calendar::ask::Asked;
+use crate::misses;
 use crate::wrong::Mistake;
 use std::path::PathBuf;
 use std::str::FromStr;
@@ -12,6 +13,7 @@ pub const USAGE: &str =
        second --days FILE
        second --wrong equation-7|one-by-one|stop-at-dmax|load-equal-to-h|start-early|stopped-pays FILE
        second --calendar
+       second --misses CLERK [--plans N] [--small M] [--seed S]
        second --dates [--ask CLERK] [--questions N] [--seed S]
        second --selftest";
 
@@ -23,6 +25,7 @@ pub enum Task {
     Selftest,
     Calendar,
     Dates(Asked),
+    Misses(misses::ask::Asked),
 }
 
 /// The program that is compared with this one.
@@ -90,6 +93,7 @@ pub fn task(mut words: impl Iterator<Item = String>) -> Option<Task> {
             "--selftest" => return Some(Task::Selftest),
             "--calendar" => return Some(Task::Calendar),
             "--dates" => return asked(words).map(Task::Dates),
+            "--misses" => return missing(words).map(Task::Misses),
             "--desk" => desk = Some(value(&mut words)?),
             "--clerk" => clerk = Some(value(&mut words)?),
             "--about" => about = value(&mut words)?,
@@ -133,6 +137,26 @@ fn asked(mut words: impl Iterator<Item = String>) -> Option<Asked> {
     Some(Asked {
         clerk,
         questions,
+        seed,
+    })
+}
+
+/// Whom to ask for releases that miss, and for how many plans.
+fn missing(mut words: impl Iterator<Item = String>) -> Option<misses::ask::Asked> {
+    let clerk = value(&mut words)?;
+    let (mut plans, mut small, mut seed) = (5_000, 1_000, 1);
+    while let Some(word) = words.next() {
+        match word.as_str() {
+            "--plans" => plans = value(&mut words)?,
+            "--small" => small = value(&mut words)?,
+            "--seed" => seed = value(&mut words)?,
+            _ => return None,
+        }
+    }
+    Some(misses::ask::Asked {
+        clerk,
+        plans,
+        small,
         seed,
     })
 }

@@ -4,6 +4,7 @@ mod commands;
 mod dates;
 mod each;
 mod files;
+mod miss;
 mod plans;
 mod quick;
 mod save;

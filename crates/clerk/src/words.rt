@@ -4,6 +4,7 @@ use super::commands::word;
 use super::dates::date;
 use super::dates::day;
 use super::dates::yearly_days;
+use super::miss::miss;
 use super::quick::quick_verdict;
 use super::save::save;
 use super::say;
@@ -16,6 +17,8 @@ pub(crate) fn answer(command: &[u8]) {
         save(command);
     } else if same(first, b"quick") {
         quick_verdict(command);
+    } else if same(first, b"miss") {
+        miss(command);
     } else if same(first, b"show") {
         show(command);
     } else if same(first, b"to-02") {
@@ -42,6 +45,9 @@ fn help() {
     say::answer(b"day NUMBER              the date and the weekday of a day number\n");
     say::answer(b"each COMMANDS           answer every line of a file of commands\n");
     say::answer(b"help                    list the words\n");
+    say::answer(
+        b"miss FILE               write the plan in FILE with releases that make it miss\n",
+    );
     say::answer(b"quick FILE              the quick verdict on the plan in FILE\n");
     say::answer(b"save FILE               write the plan in FILE back\n");
     say::answer(b"save FILE SIZE PLACE    write it into a page of SIZE bytes, from PLACE on\n");

@@ -7,18 +7,19 @@ use Rattle.faults.specs.declared.Fault.{Fault}
 use Rattle.faults.specs.declared.Fault.the-variants.{OutOfBounds}
 use Rattle.faults.specs.declared.Checked.the-variants.{Lawful, Refused}
 use Rattle.rules.specs.declared.Verdict.the-variants as verdict
+use Rattle.rules.specs.declared.Broken.the-variants as broken
 use Rattle.rules.specs.declared.Assign.the-variants as assign
 use Rattle.rules.specs.declared.Releases.{Releases}
 use Rattle.rules.specs.declared.Outcome.the-variants as outcome
 use Rattle.rules.specs.Release.{releasesOf}
 use Rattle.rules.specs.Run.{runOf}
 use Rattle.rules.specs.Plan.{stringsOf}
-use Rattle.rules.specs.Verdict.{verdictOf}
+use Rattle.rules.specs.Verdict.{allPairs, firstBroken, brokenAt, verdictOf}
 use Rattle.rules.specs.Search.{withSet, searchOf}
 use Rattle.rules.specs.Refusal.{headCheck, stringsCheck, multipleCheck, planCheck, setCheck}
 use Rattle.faults.specs.Checks.{then, refuseIf}
 use Rattle.faults.proofs.Checks.{then-first, then-second, then-lawful}
-use Rattle.rules.specs.Refusal.{runCheck, verdictAnswer, setAnswer, searchAnswer, runAnswer}
+use Rattle.rules.specs.Refusal.{runCheck, verdictAnswer, breakAnswer, setAnswer, searchAnswer, runAnswer}
 use Rattle.rules.specs.Figures.{figuresOf, noFigures, figuresAnswer}
 
 pub verdict-lawful : (p : Plan) → planCheck p ≡ Lawful → verdictAnswer p ≡ verdictOf p
@@ -28,6 +29,14 @@ verdict-lawful p h = rw h
 pub verdict-refused : (p : Plan) (f : Fault) (at : ℕ) → planCheck p ≡ Refused f at → verdictAnswer p ≡ verdict.Refused f at
 unfolding verdictAnswer
 verdict-refused p f at h = rw h
+
+pub break-lawful : (p : Plan) → planCheck p ≡ Lawful → breakAnswer p ≡ brokenAt (firstBroken p (allPairs p))
+unfolding breakAnswer
+break-lawful p h = rw h
+
+pub break-refused : (p : Plan) (f : Fault) (at : ℕ) → planCheck p ≡ Refused f at → breakAnswer p ≡ broken.Refused f at
+unfolding breakAnswer
+break-refused p f at h = rw h
 
 pub set-lawful : (p : Plan) (m : ℕ) → setCheck p m ≡ Lawful → setAnswer p m ≡ verdictOf (withSet p m)
 unfolding setAnswer

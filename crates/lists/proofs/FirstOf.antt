@@ -4,7 +4,7 @@ use Prim.Native.Nat.{ℕ}
 use mathlib.Core.Path.{_≡_, refl, sym, ap, _∙_}
 use mathlib.Core.Logic.{_⊎_, inl, inr, _↔_}
 use mathlib.Core.Bool.{Bool, true, false}
-use mathlib.Core.List.{List, [], _∷_}
+use mathlib.Core.List.{List, [], _∷_, _++_}
 use mathlib.Core.Option.{none, some}
 use native.Mathlib.Omega.{arith}
 use Rattle.lists.specs.Count.{firstOf, keep}
@@ -92,3 +92,18 @@ module _ {A : Type 0} (f : A → Bool) where
       by-bool (g y)
       (λ t. ap (firstOf f) (keep-yes g y xs t) ∙ firstOf-later y (keep g xs) e ∙ rest ∙ sym later)
       (λ u. ap (firstOf f) (keep-no g y xs u) ∙ rest ∙ sym later))
+
+  -- in two lists one after the other it is that of the first, or that of the second where the first has none
+  pub firstOf-front : (xs ys : List A) (x : A) → firstOf f xs ≡ some x → firstOf f (xs ++ ys) ≡ some x
+  firstOf-front [] ys x h = absurd (none-some x (sym firstOf-end ∙ h))
+  firstOf-front (y ∷ xs) ys x h =
+      by-bool (f y)
+      (λ t. firstOf-here y (xs ++ ys) t ∙ sym (firstOf-here y xs t) ∙ h)
+      (λ e. firstOf-later y (xs ++ ys) e ∙ firstOf-front xs ys x (sym (firstOf-later y xs e) ∙ h))
+
+  pub firstOf-rest : (xs ys : List A) → firstOf f xs ≡ none → firstOf f (xs ++ ys) ≡ firstOf f ys
+  firstOf-rest [] ys h = refl
+  firstOf-rest (y ∷ xs) ys h =
+      by-bool (f y)
+      (λ t. absurd (none-some y (sym h ∙ firstOf-here y xs t)))
+      (λ e. firstOf-later y (xs ++ ys) e ∙ firstOf-rest xs ys (sym (firstOf-later y xs e) ∙ h))

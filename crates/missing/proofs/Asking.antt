@@ -19,6 +19,7 @@ use Rattle.lists.proofs.Order.{all-of}
 use Rattle.laws.proofs.Lawful.{LawfulPlan, LawfulString}
 use Rattle.laws.proofs.ReleaseList.{str}
 use Rattle.missing.specs.Missing.{freely, leadOf, blockerRelease, delayOf, comes, fullRelease, releasesOn, missing}
+use Rattle.missing.specs.Missing.{othersIn, releasesIn}
 use Rattle.lists.proofs.Adding.{sumOf-append, sumOf-length, sumOf-kept, sumOf-flat, sumOf-swap, sumOf-places}
 use Rattle.missing.proofs.Coming.{brings, comes-often}
 use Rattle.missing.proofs.Freely.{delayOf-le, freely-demand}
@@ -44,7 +45,7 @@ module _ (p : Plan) (l b : ℕ) where
     brought t i = brings l b (stringAt p i) (f (stringAt p i)) t
 
     day-sum : (t : ℕ) → sumOf g (releasesOn p l b t) ≡ sumOf (brought t) places
-    unfolding releasesOn
+    unfolding releasesIn
     day-sum t =
         sumOf-kept g (fullRelease p t) (λ i. comes l b (stringAt p i) t) places
         ∙ sumOf-eq (λ i. cond (comes l b (stringAt p i) t) (g (fullRelease p t i)) 0) (brought t) places
@@ -87,7 +88,7 @@ module _ (p : Plan) (l b : ℕ) where
   module _ (ok : LawfulPlan p) (fits : b ≤ l) where
     -- the work of all its jobs
     pub list-needs : sumOf (λ r. r .need .0) (missing p l b) ≡ leadOf b + demand (freely p) l b
-    unfolding missing
+    unfolding missing othersIn
     list-needs =
         let split = sumOf-append (λ (r : Release). r .need .0) (blockerRelease p l b) others in
         let rest = others-sum (λ s. s .c .0) (λ r. r .need .0) (λ t i. refl) ok fits in
@@ -95,7 +96,7 @@ module _ (p : Plan) (l b : ℕ) where
 
     -- how many they are
     pub list-length : length (missing p l b) ≡ leadOf b + sumOf (λ s. jobs s (l - delayOf b s)) (stringsOf p)
-    unfolding missing
+    unfolding missing othersIn
     list-length =
         let split = sumOf-append (λ (r : Release). 1) (blockerRelease p l b) others in
         let rest = others-sum (λ s. 1) (λ r. 1) (λ t i. refl) ok fits in

@@ -14,7 +14,7 @@ use Rattle.lists.proofs.Lists.{by-bool, and-left, and-right}
 use Rattle.lists.proofs.Sums.{sumTo, sumTo-none, sumTo-eq, sumTo-split, sumTo-weigh}
 use Rattle.laws.proofs.Jobs.{jobs-short, jobs-from}
 use Rattle.sound.proofs.Parts.{counted}
-use Rattle.missing.specs.Missing.{leadOf, endOf, delayOf, firstDay, comes}
+use Rattle.missing.specs.Missing.{leadOf, endOf, delayOf, firstDay, comes, comesIn}
 use Rattle.lists.proofs.Adding.{sumOf-range}
 
 -- ---- Multiples of T
@@ -104,7 +104,7 @@ pub record Comes (l b : ℕ) (s : BatteryString) (t : ℕ) : Type 0 where
   pub due : t + s .d .0 ≤ endOf l b
 
 pub comes-is : (l b : ℕ) (s : BatteryString) (t : ℕ) → comes l b s t ≡ true → Comes l b s t
-unfolding comes
+unfolding comesIn
 comes-is l b s t h =
     let F = leb (firstDay b s) t in
     let E = eqb ((t - firstDay b s) % s .t .0) 0 in
@@ -125,7 +125,7 @@ comes-apart l b s t u a c h =
 module _ (l b : ℕ) (s : BatteryString) where
   -- by the days since its first
   comes-window : (j : ℕ) → delayOf b s ≤ l → comes l b s (firstDay b s + j) ≡ inWindow s (l - delayOf b s) j
-  unfolding comes
+  unfolding comesIn
   comes-window j fits =
       let offset : firstDay b s + j - firstDay b s ≡ j = omega arith in
       let from = le-leb (firstDay b s) (firstDay b s + j) (omega arith) in
@@ -141,7 +141,7 @@ module _ (l b : ℕ) (s : BatteryString) where
       ]
 
   comes-before : (t : ℕ) → t < firstDay b s → comes l b s t ≡ false
-  unfolding comes
+  unfolding comesIn
   comes-before t h = rw (lt-leb (firstDay b s) t h)
 
   -- what it brings on day t, if each of its jobs counts c

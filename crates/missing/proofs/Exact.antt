@@ -17,7 +17,8 @@ use Rattle.laws.proofs.Lawful.{LawfulPlan, dMax-le}
 use Rattle.horizon.proofs.Verdict.{fail-names, overload-exactly}
 use Rattle.horizon.proofs.Range.{overload-at-period, range-suffices}
 use Rattle.sound.proofs.Clean.{run-clean}
-use Rattle.missing.specs.Missing.{freely, withRun, blockerPlace, blockerRelease, releasesOn, missing, MissesBy, NeverMisses, FreeMoving}
+use Rattle.missing.specs.Missing.{freely, withRun, endOf, blockerPlace, blockerRelease, releasesIn, othersIn, missing}
+use Rattle.missing.specs.Missing.{MissesBy, NeverMisses, FreeMoving}
 use Rattle.missing.proofs.Freely.{freely-multiple, freely-lawful, free-passes}
 use Rattle.missing.proofs.Misses.{list-misses}
 
@@ -49,7 +50,7 @@ module _ (p : Plan) (n : ℕ) where
 
   -- the list does not depend on it
   pub withRun-missing : (l b : ℕ) → missing (withRun p n) l b ≡ missing p l b
-  unfolding missing blockerRelease blockerPlace releasesOn
+  unfolding missing othersIn blockerRelease blockerPlace releasesIn
   withRun-missing l b = refl
 
   withRun-passes : Passes p → Passes (withRun p n)
@@ -59,14 +60,11 @@ module _ (p : Plan) (n : ℕ) where
 -- ---- The theorems
 
 module _ (p : Plan) (ok : LawfulPlan p) where
-  -- the rule with free moving breaks at (l, b): the list is lawful, and in the plan as it stands it misses by day l + 1
-  module _ (n l b : ℕ) (most : n ≤ 1000000) (room : l + 1 ≤ n) (allowed : b ≤ blockLimit (freely p) l)
+  -- the rule with free moving breaks at (l, b): the list is lawful, and in the plan as it stands it misses by the interval's end
+  module _ (n l b : ℕ) (low : 1 ≤ n) (most : n ≤ 1000000) (room : endOf l b ≤ n) (allowed : b ≤ blockLimit (freely p) l)
       (breaks : l < demand (freely p) l b) where
     abbrev longer : Plan
     longer = withRun p n
-
-    longer-lawful : LawfulPlan longer
-    longer-lawful = withRun-lawful p n ok (omega arith) most
 
     longer-allowed : b ≤ blockLimit (freely longer) l
     longer-allowed = rw (withRun-limit p n l) allowed
@@ -74,11 +72,17 @@ module _ (p : Plan) (ok : LawfulPlan p) where
     longer-breaks : l < demand (freely longer) l b
     longer-breaks = rw (withRun-demand p n l b) breaks
 
-    pub break-misses : MissesBy (withRun p n) (missing p l b) (l + 1)
-    break-misses =
-        let m = list-misses longer l b longer-lawful longer-allowed (omega arith) longer-breaks in
-        subst (λ rs. MissesBy longer rs (l + 1)) (withRun-missing p n l b)
-        (record { listed = m .listed; t = m .t; place = m .place; soon = omega (arith, m .soon); ends = m .ends })
+    pub break-misses-by : MissesBy (withRun p n) (missing p l b) (endOf l b)
+    break-misses-by =
+        subst (λ rs. MissesBy longer rs (endOf l b)) (withRun-missing p n l b)
+        (list-misses longer l b (withRun-lawful p n ok low most) longer-allowed room longer-breaks)
+
+  -- that is day l + 1 at the latest
+  pub break-misses : (n l b : ℕ) → n ≤ 1000000 → l + 1 ≤ n → b ≤ blockLimit (freely p) l → l < demand (freely p) l b
+      → MissesBy (withRun p n) (missing p l b) (l + 1)
+  break-misses n l b most room allowed breaks =
+      let m = break-misses-by n l b (omega arith) most (omega arith) allowed breaks in
+      record { listed = m .listed; t = m .t; place = m .place; soon = omega (arith, m .soon); ends = m .ends }
 
   -- so it does where the verdict with free moving is a fail, at the pair that the fail names
   pub fail-misses : (l b d : Length) (k n : ℕ) → n ≤ 1000000 → l .0 + 1 ≤ n → verdictOf (freely p) ≡ Fail l b d k

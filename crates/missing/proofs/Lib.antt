@@ -8,4 +8,6 @@ pub mod Sharing
 pub mod Holding
 pub mod Misses
 pub mod Exact
+pub mod Longer
+pub mod AnyRun
 pub mod Worked

@@ -20,6 +20,7 @@ use Rattle.lists.proofs.Order.{Rising, all-of, all-keep, all-mapped, all-flat, 
 use Rattle.laws.proofs.Lawful.{LawfulPlan, LawfulString}
 use Rattle.laws.proofs.ReleaseList.{LawfulRelease}
 use Rattle.missing.specs.Missing.{freely, leadOf, endOf, blockerPlace, blockRelease, blockerRelease, comes, fullRelease, releasesOn, missing}
+use Rattle.missing.specs.Missing.{othersIn, releasesIn}
 use Rattle.missing.proofs.Coming.{Comes, comes-is, comes-apart}
 use Rattle.missing.proofs.Asking.{others}
 use Rattle.missing.proofs.Blocker.{Blocks, blocker-low, blocker-high, blocker-blocks}
@@ -37,7 +38,7 @@ pub record Other (p : Plan) (l b t : ℕ) (r : Release) : Type 0 where
 
 module _ (p : Plan) (l b : ℕ) where
   day-others : (t : ℕ) → All (Other p l b t) (releasesOn p l b t)
-  unfolding releasesOn
+  unfolding releasesIn
   day-others t =
       let places = upFrom 1 (length (stringsOf p)) in
       all-mapped (Other p l b t) (fullRelease p t) (keep (λ i. comes l b (stringAt p i) t) places)
@@ -47,7 +48,7 @@ module _ (p : Plan) (l b : ℕ) where
 
   -- the releases of one day are of different places
   day-rises : (t : ℕ) → Rising (Ahead p) (releasesOn p l b t)
-  unfolding releasesOn
+  unfolding releasesIn
   day-rises t =
       let kept = keep (λ i. comes l b (stringAt p i) t) (upFrom 1 (length (stringsOf p))) in
       rising-mapped (Ahead p) (fullRelease p t) kept
@@ -155,14 +156,14 @@ module _ (p : Plan) (l b : ℕ) (ok : LawfulPlan p) (allowed : b ≤ blockLimit 
   )
 
   list-rises : Rising (Ahead p) (missing p l b)
-  unfolding missing
+  unfolding missing othersIn
   list-rises =
       rising-append (Ahead p) (blockerRelease p l b) (others p l b) (blocker-rises p l b (Ahead p)) (others-rise p l b)
       (blocker-all p l b (λ q. All (Ahead p q) (others p l b))
       (λ pos. all-map (Later p l b) (Ahead p (blockRelease p l b)) (blocker-ahead pos) (others p l b) (others-all p l b)))
 
   each-lawful : All (LawfulRelease p) (missing p l b)
-  unfolding missing
+  unfolding missing othersIn
   each-lawful =
       all-append (LawfulRelease p) (blockerRelease p l b) (others p l b) (blocker-all p l b (LawfulRelease p) blocker-lawful)
       (all-map (Later p l b) (LawfulRelease p) other-lawful (others p l b) (others-all p l b))

@@ -24,7 +24,7 @@ use Rattle.laws.proofs.History.{missDay-before, runOf-miss}
 use Rattle.sound.specs.Served.{worksFor}
 use Rattle.sound.proofs.Clean.{Punctual}
 use Rattle.sound.proofs.Served.{served-punctual}
-use Rattle.missing.specs.Missing.{freely, endOf, blockerPlace, blockRelease, missing, MissesBy}
+use Rattle.missing.specs.Missing.{freely, endOf, blockerPlace, blockRelease, missing, MissesBy, othersIn}
 use Rattle.missing.proofs.Freely.{delayOf-taker}
 use Rattle.missing.proofs.Asking.{others, list-needs}
 use Rattle.missing.proofs.Blocker.{Blocks, blocker-low, blocker-blocks}
@@ -37,11 +37,11 @@ module _ (p : Plan) (l b : ℕ) where
   other-at i h = all-at (Later p l b) (others p l b) noRelease (others-all p l b) i h
 
   list-free : b ≡ 0 → missing p l b ≡ others p l b
-  unfolding missing
+  unfolding missing othersIn
   list-free e = rw (blockerRelease-none p l b e)
 
   list-blocked : (b ≡ 0 → ⊥) → missing p l b ≡ blockRelease p l b ∷ others p l b
-  unfolding missing
+  unfolding missing othersIn
   list-blocked e = rw (blockerRelease-one p l b e)
 
 module _ (p : Plan) (l b : ℕ) (ok : LawfulPlan p) (allowed : b ≤ blockLimit (freely p) l) (room : endOf l b ≤ p .run .0) where

@@ -10,7 +10,7 @@ use Rattle.rules.specs.Search.{permit, withSet}
 use Rattle.rules.specs.Run.{chosen, lateAt, newSlot, joinFrom, joined, holder, payer, taken, nextUp, given, useOf, spent, morning, stateAt, useOn, lateOn, history, daysOf, missDay, runOf}
 use Rattle.rules.specs.Said.{Said, miss, outcomeSays}
 use Rattle.rules.proofs.Worked.{string, paying, planOf, plan, release, two}
-use Rattle.missing.specs.Missing.{blockerPlace, blockerRelease, delayOf, comes, releasesOn, missing}
+use Rattle.missing.specs.Missing.{blockerPlace, blockerRelease, delayOf, comesIn, releasesIn, othersIn, missing}
 
 -- the second string can hold the bank when the first comes
 unfoldable pub tight : Plan
@@ -45,7 +45,7 @@ table =
 pub lists : map (λ r. missing (r .plan) (r .l) (r .b)) table ≡ map (λ r. r .list) table
 unfolding
     tight full mixed row table string paying planOf plan release two flatMap keep upFrom leastFrom permit withSet
-    blockerPlace blockerRelease delayOf comes releasesOn missing
+    blockerPlace blockerRelease delayOf comesIn releasesIn othersIn missing
 lists = refl
 
 pub runs : map (λ r. outcomeSays (runOf (r .plan) (r .list))) table ≡ map (λ r. r .said) table

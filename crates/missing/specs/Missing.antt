@@ -7,8 +7,12 @@
 --     blockerPlace p l b    the place of the string whose job blocks: the first with D over l and C over b
 --     blockRelease p l b    its release, with need b + 1, so that b days are left when the interval begins
 --     delayOf b s           the days of the interval before a job of s comes: b where it may take the bank, else 0
---     comes l b s t         a job of s is released on day t: from its first day on, every T days, as long as it is due by the end
---     releasesOn p l b t    the releases of day t, by place, each with need C
+-- Of an interval of l days from day `lead` on, in which takers come b days later than the others:
+--     comesIn lead b l s t  a job of s is released on day t: from its first day on, every T days, as long as it is due by the end
+--     releasesIn p lead b l t    the releases of day t, by place, each with need C
+--     othersIn p lead b l   all of them, day by day
+-- And where the job that blocks stands ahead of it:
+--     comes, releasesOn     the same, the interval beginning when the job that blocks has b days left
 --     missing p l b         the list
 --     MissesBy p rs d       rs is a lawful release list for p, and the run over it ends with a miss, on day d or earlier
 --     NeverMisses p         whatever the length of the run, no lawful release list misses, however many releases it has
@@ -69,23 +73,35 @@ blockerRelease p l b = cond (eqb b 0) [] (blockRelease p l b ∷ [])
 unfoldable pub delayOf : ℕ → BatteryString → ℕ
 delayOf b s = cond (eqb (s .x) 1) b 0
 
-abbrev pub firstDay : ℕ → BatteryString → ℕ
-firstDay b s = leadOf b + delayOf b s
+abbrev pub firstIn : ℕ → ℕ → BatteryString → ℕ
+firstIn lead b s = lead + delayOf b s
 
-unfoldable pub comes : ℕ → ℕ → BatteryString → ℕ → Bool
-comes l b s t =
-    leb (firstDay b s) t
-    && eqb ((t - firstDay b s) % s .t .0) 0
-    && leb (t + s .d .0) (endOf l b)
+unfoldable pub comesIn : ℕ → ℕ → ℕ → BatteryString → ℕ → Bool
+comesIn lead b l s t =
+    leb (firstIn lead b s) t
+    && eqb ((t - firstIn lead b s) % s .t .0) 0
+    && leb (t + s .d .0) (lead + l)
 
 abbrev pub fullRelease : Plan → ℕ → ℕ → Release
 fullRelease p t i = record { day = day t; place = i; need = stringAt p i .c }
 
-unfoldable pub releasesOn : Plan → ℕ → ℕ → ℕ → List Release
-releasesOn p l b t = map (fullRelease p t) (keep (λ i. comes l b (stringAt p i) t) (upFrom 1 (length (stringsOf p))))
+unfoldable pub releasesIn : Plan → ℕ → ℕ → ℕ → ℕ → List Release
+releasesIn p lead b l t = map (fullRelease p t) (keep (λ i. comesIn lead b l (stringAt p i) t) (upFrom 1 (length (stringsOf p))))
+
+unfoldable pub othersIn : Plan → ℕ → ℕ → ℕ → List Release
+othersIn p lead b l = flatMap (releasesIn p lead b l) (upFrom lead l)
+
+abbrev pub firstDay : ℕ → BatteryString → ℕ
+firstDay b s = firstIn (leadOf b) b s
+
+abbrev pub comes : ℕ → ℕ → BatteryString → ℕ → Bool
+comes l b s t = comesIn (leadOf b) b l s t
+
+abbrev pub releasesOn : Plan → ℕ → ℕ → ℕ → List Release
+releasesOn p l b t = releasesIn p (leadOf b) b l t
 
 unfoldable pub missing : Plan → ℕ → ℕ → List Release
-missing p l b = blockerRelease p l b ++ flatMap (releasesOn p l b) (upFrom (leadOf b) l)
+missing p l b = blockerRelease p l b ++ othersIn p (leadOf b) b l
 
 -- ---- What a run over a list does
 

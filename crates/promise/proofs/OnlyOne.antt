@@ -12,6 +12,7 @@ use Prim.Native.Nat.{ℕ}
 use Rattle.faults.specs.declared.Checked.{Checked}
 use Rattle.rules.specs.declared.Reading.{Reading}
 use Rattle.rules.specs.declared.Verdict.{Verdict}
+use Rattle.rules.specs.declared.Broken.{Broken}
 use Rattle.rules.specs.declared.Assign.{Assign}
 use Rattle.rules.specs.declared.Outcome.{Outcome}
 use Rattle.rules.specs.declared.Figures.{Figures}
@@ -25,6 +26,7 @@ use Rattle.calendar.specs.declared.Listed.{Listed}
 use Rattle.calendar.specs.declared.DateText.{DateText}
 use Rattle.calendar.specs.declared.YearlyText.{YearlyText}
 use Rattle.rules.specs.declared.Answer.{Answer}
+use Rattle.missed.specs.declared.Missed.{Missed}
 use Rattle.days.proofs.Day.plus.Reads as Day-plus
 use Rattle.days.proofs.Day.since.Reads as Day-since
 use Rattle.days.proofs.Day.before.Reads as Day-before
@@ -69,13 +71,17 @@ use Rattle.writing.proofs.write.Reads as write
 use Rattle.writing.proofs.write_old.Reads as write-old
 use Rattle.turning.proofs.to_new.Reads as to-new
 use Rattle.turning.proofs.to_old.Reads as to-old
+use Rattle.missed.proofs.miss.Reads as miss
 use Rattle.verdict.proofs.verdict.Reads as verdict
 use Rattle.verdict.proofs.verdict_with.Reads as verdict-with
 use Rattle.verdict.proofs.quick.Reads as quick
 use Rattle.verdict.proofs.quick_with.Reads as quick-with
+use Rattle.verdict.proofs.first_break.Reads as first-break
 use Rattle.verdict.proofs.search.Reads as search-takers
 use Rattle.verdict.proofs.figures.Reads as figures
 use Rattle.run.proofs.run.Reads as run
+use Rattle.tries.specs.declared.Shown.{Shown}
+use Rattle.tries.proofs.releases_that_miss.Reads as releases-that-miss
 use Rattle.lines.proofs.written.Reads as written
 use Rattle.lines.proofs.verdict_written.Reads as verdict-written
 use Rattle.lines.proofs.date_line.Reads as date-line
@@ -242,6 +248,11 @@ pub one-to-old : (κs : Lfts 2) (a : _) (e f : _) (r s : Saved) → to-old.Learn
     → (r ≡ s) × (e .1 .0 .now ≡ f .1 .0 .now) × (e .0 .now ≡ f .0 .now)
 one-to-old κs a e f r s h k = (h .0 ∙ sym (k .0), h .1 .0 ∙ sym (k .1 .0), h .1 .1 ∙ sym (k .1 .1))
 
+-- missed: the same are lent
+pub one-miss : (κs : Lfts 2) (a : _) (e f : _) (r s : Missed) → miss.Learnt κs a r e → miss.Learnt κs a s f
+    → (r ≡ s) × (e .1 .0 .now ≡ f .1 .0 .now) × (e .0 .now ≡ f .0 .now)
+one-miss κs a e f r s h k = (h .0 ∙ sym (k .0), h .1 .0 ∙ sym (k .1 .0), h .1 .1 ∙ sym (k .1 .1))
+
 -- verdict
 pub one-verdict : (κs : Lfts 0) (a : _) (e f : _) (r s : Verdict) → verdict.Learnt κs a r e → verdict.Learnt κs a s f → r ≡ s
 one-verdict κs a e f r s h k = h ∙ sym k
@@ -255,6 +266,9 @@ one-quick κs a e f r s h k = h ∙ sym k
 pub one-quick-with : (κs : Lfts 0) (a : _) (e f : _) (r s : Verdict) → quick-with.Learnt κs a r e → quick-with.Learnt κs a s f → r ≡ s
 one-quick-with κs a e f r s h k = h ∙ sym k
 
+pub one-first-break : (κs : Lfts 0) (a : _) (e f : _) (r s : Broken) → first-break.Learnt κs a r e → first-break.Learnt κs a s f → r ≡ s
+one-first-break κs a e f r s h k = h ∙ sym k
+
 pub one-search : (κs : Lfts 0) (a : _) (e f : _) (r s : Assign) → search-takers.Learnt κs a r e → search-takers.Learnt κs a s f → r ≡ s
 one-search κs a e f r s h k = h ∙ sym k
 
@@ -264,6 +278,11 @@ one-figures κs a e f r s h k = h ∙ sym k
 -- run
 pub one-run : (κs : Lfts 0) (a : _) (e f : _) (r s : Outcome) → run.Learnt κs a r e → run.Learnt κs a s f → r ≡ s
 one-run κs a e f r s h k = h ∙ sym k
+
+-- tries
+pub one-releases-that-miss : (κs : Lfts 0) (a : _) (e f : _) (r s : Shown) → releases-that-miss.Learnt κs a r e
+    → releases-that-miss.Learnt κs a s f → r ≡ s
+one-releases-that-miss κs a e f r s h k = h ∙ sym k
 
 -- lines
 pub one-written : (κs : Lfts 0) (a : _) (e f : _) (r s : Page) → written.Learnt κs a r e → written.Learnt κs a s f → r ≡ s

@@ -10,6 +10,7 @@
 --     setCheck p m          the same with a permission set: 5 with 0 for 2^n or more, straight after N
 --     runCheck p rs         planCheck, then 7 (with 1,001), then 8 with the place in the list
 --     verdictAnswer p, setAnswer p m, searchAnswer p, runAnswer p rs    the answers of the entries
+--     breakAnswer p         and of the one that asks for the first broken pair of all, overloaded or not
 use Prim.Native.Nat.{ℕ, suc, _^_}
 use mathlib.Core.Bool.{not}
 use mathlib.Core.List.{List, [], _∷_}
@@ -22,13 +23,15 @@ use Rattle.faults.specs.declared.Checked.{Checked}
 use Rattle.faults.specs.declared.Checked.the-variants as checked
 use Rattle.rules.specs.declared.Verdict.{Verdict}
 use Rattle.rules.specs.declared.Verdict.the-variants as verdict
+use Rattle.rules.specs.declared.Broken.{Broken}
+use Rattle.rules.specs.declared.Broken.the-variants as broken
 use Rattle.rules.specs.declared.Assign.{Assign}
 use Rattle.rules.specs.declared.Assign.the-variants as assign
 use Rattle.rules.specs.declared.Outcome.{Outcome}
 use Rattle.rules.specs.declared.Outcome.the-variants as outcome
 use Rattle.rules.specs.Plan.{stringsOf, costLawful, stringLawful, multipleOf}
 use Rattle.faults.specs.Checks.{inBounds, refuseIf, then}
-use Rattle.rules.specs.Verdict.{verdictOf}
+use Rattle.rules.specs.Verdict.{allPairs, firstBroken, brokenAt, verdictOf}
 use Rattle.rules.specs.Search.{withSet, searchOf}
 use Rattle.rules.specs.Release.{releasesOf, firstUnlawful}
 use Rattle.rules.specs.Run.{runOf}
@@ -90,6 +93,10 @@ abbrev pub onVerdict : Checked → Verdict → Verdict
 onVerdict checked.Lawful v = v
 onVerdict (checked.Refused f at) v = verdict.Refused f at
 
+abbrev pub onBroken : Checked → Broken → Broken
+onBroken checked.Lawful v = v
+onBroken (checked.Refused f at) v = broken.Refused f at
+
 abbrev pub onAssign : Checked → Assign → Assign
 onAssign checked.Lawful v = v
 onAssign (checked.Refused f at) v = assign.Refused f at
@@ -102,6 +109,11 @@ unfoldable pub verdictAnswer : Plan → Verdict
 verdictAnswer p =
     let v = verdictOf p in
     onVerdict (planCheck p) v
+
+unfoldable pub breakAnswer : Plan → Broken
+breakAnswer p =
+    let v = brokenAt (firstBroken p (allPairs p)) in
+    onBroken (planCheck p) v
 
 unfoldable pub setAnswer : Plan → ℕ → Verdict
 setAnswer p m =

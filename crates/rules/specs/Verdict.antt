@@ -3,6 +3,7 @@
 --     allPairs p            the pairs (l, b), in order of l, then b, for l from 1 to Dmax + H − 1
 --     broken p q            the demand at the pair q exceeds its interval
 --     firstBroken p qs      the first of qs that is broken
+--     brokenAt q            the same as the code says it: nowhere, or the pair
 --     compared p qs         qs up to and including the first broken one, all of them where none is
 --     verdictOver p qs      the verdict on a lawful plan by the pairs qs: overload first, then the first broken one
 --     verdictOf p           the verdict on a lawful plan: by all pairs
@@ -16,6 +17,8 @@ use Rattle.days.specs.Days.{days}
 use Rattle.rules.specs.declared.Plan.{Plan}
 use Rattle.rules.specs.declared.Verdict.{Verdict}
 use Rattle.rules.specs.declared.Verdict.the-variants.{Refused, Overload, Fail, Pass}
+use Rattle.rules.specs.declared.Broken.{Broken}
+use Rattle.rules.specs.declared.Broken.the-variants.{Nowhere, At}
 use Rattle.lists.specs.Count.{upFrom, firstOf}
 use Rattle.rules.specs.Plan.{multipleOf, dMax}
 use Rattle.rules.specs.Demand.{blockLimit, demand, overloaded}
@@ -35,6 +38,10 @@ broken p q = ltb (q .l) (demand p (q .l) (q .b))
 
 abbrev pub firstBroken : Plan → List Pair → Option Pair
 firstBroken p qs = firstOf (broken p) qs
+
+unfoldable pub brokenAt : Option Pair → Broken
+brokenAt none = Nowhere
+brokenAt (some q) = At (days (q .l)) (days (q .b))
 
 unfoldable pub compared : Plan → List Pair → List Pair
 compared p [] = []

@@ -73,6 +73,13 @@ pub enum Verdict {
     },
 }
 
+// The first pair, in order of l, then b, at which the demand rule breaks.
+pub enum Broken {
+    Refused { fault: Fault, at: usize },
+    Nowhere,
+    At { interval: Length, blocking: Length },
+}
+
 // What the search finds: a permission set, in which place 1 is worth 1, place 2 is worth 2, place 3 is worth 4.
 pub enum Assign {
     Refused { fault: Fault, at: usize },

@@ -8,5 +8,6 @@ pub mod Stepping
 pub mod KeptRows
 pub mod Looking
 pub mod Onward
+pub mod Breaking
 pub mod Permit
 pub mod Readiness

@@ -9,6 +9,7 @@ use super::steps::advance;
 use super::steps::parts_of;
 use super::steps::steps_after;
 use days::Length;
+use rules::Broken;
 use rules::Plan;
 use rules::Verdict;
 ghost use Prim.Native.Nat.{_+_, _-_, _*_, _≤_, _<_};
@@ -20,7 +21,7 @@ ghost use lib.ListN.{getD};
 ghost use Rattle.lists.specs.Count.{keep};
 ghost use Rattle.rules.specs.Plan.{multipleOf, dMin, dMax};
 ghost use Rattle.rules.specs.Demand.{demand};
-ghost use Rattle.rules.specs.Verdict.{Pair, verdictOf, isPass};
+ghost use Rattle.rules.specs.Verdict.{Pair, allPairs, firstBroken, brokenAt, verdictOf, isPass};
 ghost use Rattle.growth.specs.Quick.{grows, quickPairs, quickOf};
 ghost use Rattle.horizon.proofs.Pairs.{rowFrom, rows, scanFrom};
 ghost use Rattle.verdict.specs.Asked.{Ready, askedBy};
@@ -187,6 +188,19 @@ fn late(p: Plan, h: u32, before: u32) -> Verdict
     Verdict::Pass { pairs }
 }
 
+// The pairs at which a count grows, below the largest D and from it on: the first broken one, or a pass.
+fn first_broken(p: Plan, h: u32) -> Verdict
+    requires { ⌜ Ready p ⌝ }
+    requires { ⌜ h ≡ multipleOf p ⌝ }
+    ensures { λ r. ⌜ r ≡ scanFrom p 0 (quickPairs p) ⌝ }
+{
+    let found = early(p);
+    let Verdict::Pass { pairs } = found else {
+        return found;
+    };
+    late(p, h, pairs)
+}
+
 // The quick verdict on a lawful plan, given the least common multiple of all T.
 pub(crate) fn quickly_judged(p: Plan, h: u32) -> Verdict
     requires { ⌜ Ready p ⌝ }
@@ -196,11 +210,26 @@ pub(crate) fn quickly_judged(p: Plan, h: u32) -> Verdict
     if h < load_over(p, h) {
         return Verdict::Overload;
     }
-    let found = early(p);
-    let Verdict::Pass { pairs } = found else {
-        return found;
+    first_broken(p, h)
+}
+
+// The first broken pair of all, if there is one: it is one at which a count grows.
+pub(crate) fn broken_at(p: Plan, h: u32) -> Broken
+    requires { ⌜ Ready p ⌝ }
+    requires { ⌜ h ≡ multipleOf p ⌝ }
+    ensures { λ r. ⌜ r ≡ brokenAt (firstBroken p (allPairs p)) ⌝ }
+{
+    let found = first_broken(p, h);
+    let Verdict::Fail {
+        interval,
+        blocking,
+        demand: _,
+        pairs: _,
+    } = found
+    else {
+        return Broken::Nowhere;
     };
-    late(p, h, pairs)
+    Broken::At { interval, blocking }
 }
 
 // Whether the plan passes: the full verdict would say the same.

@@ -1,5 +1,5 @@
-// The verdict on a plan, full and quick, the search for permissions, and the plan's figures. No caller is trusted to have checked
-// anything: each entry checks first.
+// The verdict on a plan, full and quick, the first pair that breaks the rule, the search for permissions, and the plan's figures. No caller
+// is trusted to have checked anything: each entry checks first.
 mod demand;
 mod growing;
 mod holds;
@@ -12,6 +12,7 @@ use bounds::multiple;
 use bounds::plan_check;
 use bounds::set_check;
 use faults::Checked;
+use growing::broken_at;
 use growing::quickly_judged;
 use holds::figures_over;
 use holds::no_figures;
@@ -19,11 +20,12 @@ use pairs::judged;
 use permissions::first_set;
 use permissions::with_set;
 use rules::Assign;
+use rules::Broken;
 use rules::Figures;
 use rules::Plan;
 use rules::Verdict;
 ghost use mathlib.Core.Path.{_≡_};
-ghost use Rattle.rules.specs.Refusal.{verdictAnswer, setAnswer, searchAnswer};
+ghost use Rattle.rules.specs.Refusal.{verdictAnswer, breakAnswer, setAnswer, searchAnswer};
 ghost use Rattle.rules.specs.Figures.{figuresAnswer};
 ghost use Rattle.growth.specs.Quick.{quickAnswer, quickSetAnswer};
 
@@ -68,6 +70,17 @@ pub fn quick_with(p: Plan, set: u32) -> Verdict
     match checked {
         Checked::Lawful => quickly_judged(with_set(p, set), multiple(p)),
         Checked::Refused { fault, at } => Verdict::Refused { fault, at },
+    }
+}
+
+// The first pair at which the rule breaks, whether the plan is overloaded or not.
+pub fn first_break(p: Plan) -> Broken
+    ensures exact { λ r. ⌜ r ≡ breakAnswer p ⌝ }
+{
+    let checked = plan_check(p);
+    match checked {
+        Checked::Lawful => broken_at(p, multiple(p)),
+        Checked::Refused { fault, at } => Broken::Refused { fault, at },
     }
 }
 

@@ -17,6 +17,7 @@ pub enum Outcome {
 }
 
 /// A job that has work or moving left; a job with nothing left is gone.
+#[derive(Clone, PartialEq, Eq, Hash)]
 pub struct Job {
     pub place: u64,
     taker: bool,
@@ -27,13 +28,14 @@ pub struct Job {
 }
 
 /// What a day of the bank went into.
-enum Use {
+pub enum Use {
     Work,
     Moving,
     Idle,
 }
 
 /// The jobs of a day: at most one on the bank, the others waiting.
+#[derive(Clone, PartialEq, Eq, Hash)]
 pub struct Hall {
     pub bank: Option<Job>,
     pub waiting: Vec<Job>,
@@ -59,10 +61,7 @@ pub fn run_by(policy: Policy, plan: &Plan) -> Outcome {
 
 /// The same; somebody looks on each day at the hall after step 4, before the day is used.
 pub fn run_watched(policy: Policy, plan: &Plan, mut watch: impl FnMut(Day, &Hall)) -> Outcome {
-    let mut hall = Hall {
-        bank: None,
-        waiting: Vec::new(),
-    };
+    let mut hall = Hall::empty();
     let mut releases = plan.releases.iter().peekable();
     let (mut work, mut moving, mut idle) = (0, 0, 0);
     for day in 0..plan.days {
@@ -92,7 +91,7 @@ pub fn run_watched(policy: Policy, plan: &Plan, mut watch: impl FnMut(Day, &Hall
     }
 }
 
-fn job(plan: &Plan, release: &Release) -> Job {
+pub fn job(plan: &Plan, release: &Release) -> Job {
     let string = &plan.strings[release.place as usize - 1];
     Job {
         place: release.place,
@@ -105,8 +104,15 @@ fn job(plan: &Plan, release: &Release) -> Job {
 }
 
 impl Hall {
+    pub fn empty() -> Hall {
+        Hall {
+            bank: None,
+            waiting: Vec::new(),
+        }
+    }
+
     /// Step 1: the smallest place with an unfinished job due today.
-    fn late(&self, today: Day) -> Option<u64> {
+    pub fn late(&self, today: Day) -> Option<u64> {
         self.bank
             .iter()
             .chain(&self.waiting)
@@ -116,7 +122,7 @@ impl Hall {
     }
 
     /// Steps 3 and 4.
-    fn take_and_give(&mut self, policy: Policy, today: Day, plan: &Plan) {
+    pub fn take_and_give(&mut self, policy: Policy, today: Day, plan: &Plan) {
         self.take_bank(policy, today, plan);
         self.give_bank();
     }
@@ -157,7 +163,7 @@ impl Hall {
     }
 
     /// Step 5: the job on the bank uses the day, moving first, and is gone once nothing is left.
-    fn use_day(&mut self) -> Use {
+    pub fn use_day(&mut self) -> Use {
         let job = match &mut self.bank {
             Some(job) => job,
             None => return Use::Idle,
@@ -173,6 +179,15 @@ impl Hall {
             self.bank = None;
         }
         used
+    }
+
+    /// The same jobs a day later, their days counted so that today has the same number; in the order of their places.
+    pub fn move_back_a_day(&mut self) {
+        for job in self.bank.iter_mut().chain(&mut self.waiting) {
+            job.release -= 1;
+            job.deadline -= 1;
+        }
+        self.waiting.sort_by_key(|job| job.place);
     }
 }
 

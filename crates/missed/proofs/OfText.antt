@@ -1,0 +1,335 @@
+-- What each answer for a text means.
+--     Refused      as the reader refuses, and so the desk; or 9 with 0, where there is no room
+--     Passes       the text is lawful and the plan passes
+--     NoneFound    the text is lawful and the plan does not pass; and if the rule breaks with free moving too, the list that misses there
+--                  is longer than 1,000
+--     Text         what was written is the text of the same plan, with N raised, and of releases over which it misses
+-- But for Text, no byte of the page is another.
+use Prim.Native.Nat.{ℕ, _-_, _≤_, _<_}
+use mathlib.Core.Path.{_≡_, refl, sym, ap, _∙_}
+use mathlib.Core.Logic.{_⊎_, inl, inr, _↔_}
+use mathlib.Core.Bool.{true, false}
+use mathlib.Core.List.{List}
+use mathlib.Core.Option.{some}
+use native.Mathlib.Omega.{arith}
+use lib.ListN.{length, take, drop, length-append, length-replicate, length-take}
+use lib.Seq.{take-all}
+use Rattle.days.specs.declared.Day.{Day}
+use Rattle.days.specs.declared.Length.{Length}
+use Rattle.lists.proofs.Lists.{by-bool}
+use Rattle.faults.specs.declared.Fault.{Fault}
+use Rattle.faults.specs.declared.Fault.the-variants.{NoRoom}
+use Rattle.faults.specs.declared.Checked.the-variants as checked
+use Rattle.faults.proofs.Checks.{by-checked, then-first}
+use Rattle.rules.specs.declared.Plan.{Plan}
+use Rattle.rules.specs.declared.Releases.{Releases}
+use Rattle.rules.specs.declared.Reading.{Reading}
+use Rattle.rules.specs.declared.Outcome.the-variants.{Miss}
+use Rattle.rules.specs.Demand.{Passes}
+use Rattle.rules.specs.Release.{noRelease}
+use Rattle.rules.specs.Refusal.{planCheck, releasesCheck, runCheck, verdictAnswer, searchAnswer, runAnswer}
+use Rattle.rules.specs.declared.Answer.the-variants.{Answered}
+use Rattle.rules.specs.Answer.{answered, answerOf}
+use Rattle.rules.specs.Layout.{version02}
+use Rattle.rules.specs.Text.{linesOf, framesOf, readingOf}
+use Rattle.rules.specs.Verdict.{Pair}
+use Rattle.laws.proofs.Lawful.{planCheck-lawful}
+use Rattle.laws.proofs.Answers.{verdict-lawful, search-lawful}
+use Rattle.writing.specs.declared.Saved.the-variants as saved
+use Rattle.writing.specs.Saved.{savedText, noRoom, saveCheck, savedAnswer, savedPage}
+use Rattle.onetext.specs.OneText.{blankPlan, blankReleases}
+use Rattle.onetext.proofs.ReadLawful.{read-lawful}
+use Rattle.onetext.proofs.OldAsNew.{read-blank, ten}
+use Rattle.onetext.proofs.InPage.{reading-the-page}
+use Rattle.missing.specs.Missing.{withRun, missing}
+use Rattle.missing.proofs.AnyRun.{verdict-run, search-run}
+use Rattle.tries.specs.declared.Missing.{Missing}
+use Rattle.tries.specs.declared.Missing.the-variants as answer
+use Rattle.tries.specs.Tries.{freeBreak, missingAnswer}
+use Rattle.tries.proofs.Found.{packed-holds}
+use Rattle.tries.proofs.Meaning.{answer-refused, answer-passes-rule, answer-found, found-answers, answer-none-rule, answer-none-free}
+use Rattle.missed.specs.declared.Missed.{Missed}
+use Rattle.missed.specs.declared.Missed.the-variants.{Refused, NoneFound, Text}
+use Rattle.missed.specs.declared.Missed.the-variants as missed
+use Rattle.missed.specs.Missed.{asSaved, putAnswer, putPage, missedAnswer, missedPage}
+use Rattle.missed.specs.ShowsMiss.{ShowsMiss}
+
+-- the four answers, told apart by a number
+abbrev kindOf : Missed → ℕ
+kindOf (Refused f at) = 0
+kindOf missed.Passes = 1
+kindOf NoneFound = 2
+kindOf (Text len) = 3
+
+-- ---- A list that was found, written
+
+module _ (p : Plan) (n : Length) (is : missingAnswer p .missing ≡ answer.Found n) where
+  abbrev rs : Releases
+  rs = missingAnswer p .releases
+
+  abbrev longer : Plan
+  longer = withRun p (n .0)
+
+  -- the plan and its list are lawful
+  found-lawful : runCheck longer rs ≡ checked.Lawful
+  unfolding runAnswer
+  found-lawful =
+      let said = found-answers p n is .3 in
+      by-checked (runCheck longer rs) (λ e. e) (λ f k e.
+      let refused = rw e at said in
+      let z : _≡_ {A = ℕ} 0 1 = cc in
+      absurd (omega arith))
+
+  found-plan : planCheck longer ≡ checked.Lawful
+  unfolding runCheck
+  found-plan = then-first (planCheck longer) (releasesCheck longer rs) found-lawful
+
+  -- verdict and search are those of the plan as it was
+  same-verdict : planCheck p ≡ checked.Lawful → verdictAnswer longer ≡ verdictAnswer p
+  same-verdict h = verdict-lawful longer found-plan ∙ verdict-run p (n .0) ∙ sym (verdict-lawful p h)
+
+  same-search : planCheck p ≡ checked.Lawful → searchAnswer longer ≡ searchAnswer p
+  same-search h = search-lawful longer found-plan ∙ search-run p (n .0) ∙ sym (search-lawful p h)
+
+  -- so only the room can be wanting
+  found-fits : (page : List ℕ) (at : ℕ) → noRoom page at (savedText version02 longer rs) ≡ false
+      → savedAnswer version02 longer rs page at ≡ saved.Text (length (savedText version02 longer rs))
+  unfolding savedAnswer saveCheck
+  found-fits page at fits = rw (found-lawful, fits)
+
+  found-full : (page : List ℕ) (at : ℕ) → noRoom page at (savedText version02 longer rs) ≡ true
+      → (savedAnswer version02 longer rs page at ≡ saved.Refused NoRoom 0) × (savedPage version02 longer rs page at ≡ page)
+  unfolding savedAnswer savedPage saveCheck
+  found-full page at full = (rw (found-lawful, full), rw (found-lawful, full))
+
+  -- the list is as it reads back
+  list-blank : blankReleases rs ≡ rs
+  list-blank =
+      let shows = answer-found p n is .1 in
+      let list = shows .list in
+      let whole = packed-holds list (shows .few) in
+      let all = take-all 1000 list (shows .few) in
+      rw (shows .packed-as, whole, all)
+
+  list-long : length (rs .list) ≡ 1000
+  list-long =
+      let shows = answer-found p n is .1 in
+      let front = take 1000 (shows .list) in
+      let few : length front ≤ 1000 = omega (arith, length-take 1000 (shows .list)) in
+      ap (λ (r : Releases). length (r .list)) (shows .packed-as)
+      ∙ length-append front _
+      ∙ omega (arith, length-replicate (1000 - length front) noRelease)
+
+-- a plan that was read has nothing behind its strings
+plan-blank : (text : List ℕ) → readingOf text .checked ≡ checked.Lawful
+    → (blankPlan (readingOf text .plan) ≡ readingOf text .plan) × (length (readingOf text .plan .strings) ≡ 10)
+unfolding readingOf
+plan-blank text h =
+    let v = framesOf (linesOf text) in
+    (ap (λ (r : Reading). r .plan) (read-blank v text h), ten v text h)
+
+-- ---- How an answer comes about
+
+module _ (text page : List ℕ) (at : ℕ) where
+  abbrev p : Plan
+  p = readingOf text .plan
+
+  -- the answer for the text, and the page
+  abbrev Says : Missed → List ℕ → Type 0
+  Says m after = (missedAnswer text page at ≡ m) × (missedPage text page at ≡ after)
+
+  plan-lawful : readingOf text .checked ≡ checked.Lawful → planCheck p ≡ checked.Lawful
+  unfolding runCheck
+  plan-lawful h = then-first (planCheck p) (releasesCheck p (readingOf text .releases)) (read-lawful text h)
+
+  refused-says : (f : Fault) (k : ℕ) → readingOf text .checked ≡ checked.Refused f k → Says (Refused f k) page
+  unfolding missedAnswer missedPage
+  refused-says f k h = (rw h, rw h)
+
+  module _ (h : readingOf text .checked ≡ checked.Lawful) where
+    lawful-says : Says (putAnswer p (missingAnswer p .releases) page at (missingAnswer p .missing))
+        (putPage p (missingAnswer p .releases) page at (missingAnswer p .missing))
+    unfolding missedAnswer missedPage
+    lawful-says = (rw h, rw h)
+
+    found-says : (m : Missing) → missingAnswer p .missing ≡ m
+        → Says (putAnswer p (missingAnswer p .releases) page at m) (putPage p (missingAnswer p .releases) page at m)
+    found-says m is = (
+      lawful-says .0 ∙ ap (putAnswer p (missingAnswer p .releases) page at) is,
+      lawful-says .1 ∙ ap (putPage p (missingAnswer p .releases) page at) is,
+    )
+
+  -- one of five ways
+  module _ {B : Type 0}
+      (refused : (f : Fault) (k : ℕ) → readingOf text .checked ≡ checked.Refused f k → Says (Refused f k) page → B)
+      (passes : readingOf text .checked ≡ checked.Lawful → missingAnswer p .missing ≡ answer.Passes → Says missed.Passes page → B)
+      (nothing : readingOf text .checked ≡ checked.Lawful → missingAnswer p .missing ≡ answer.NoneFound → Says NoneFound page → B)
+      (full : readingOf text .checked ≡ checked.Lawful → (n : Length) → missingAnswer p .missing ≡ answer.Found n
+      → noRoom page at (savedText version02 (withRun p (n .0)) (missingAnswer p .releases)) ≡ true → Says (Refused NoRoom 0) page → B)
+      (shown : readingOf text .checked ≡ checked.Lawful → (n : Length) (len : ℕ) → missingAnswer p .missing ≡ answer.Found n
+      → savedAnswer version02 (withRun p (n .0)) (missingAnswer p .releases) page at ≡ saved.Text len
+      → Says (Text len) (savedPage version02 (withRun p (n .0)) (missingAnswer p .releases) page at) → B)
+    where
+      by-found : readingOf text .checked ≡ checked.Lawful → (m : Missing) → missingAnswer p .missing ≡ m → B
+      unfolding putAnswer putPage
+      by-found h (answer.Refused f k) is =
+          let bad = answer-refused p f k .0 is in
+          let same : checked.Refused f k ≡ checked.Lawful = sym bad ∙ plan-lawful h in
+          let z : _≡_ {A = ℕ} 0 1 = cc in
+          absurd (omega arith)
+      by-found h answer.Passes is = passes h is (found-says h answer.Passes is)
+      by-found h answer.NoneFound is = nothing h is (found-says h answer.NoneFound is)
+      by-found h (answer.Found n) is =
+          let says = found-says h (answer.Found n) is in
+          by-bool (noRoom page at (savedText version02 (withRun p (n .0)) (missingAnswer p .releases)))
+          (λ wanting.
+          let said = found-full p n is page at wanting in
+          full h n is wanting (says .0 ∙ ap asSaved (said .0), says .1 ∙ said .1))
+          (λ fits.
+          let said = found-fits p n is page at fits in
+          shown h n _ is said (says .0 ∙ ap asSaved said, says .1))
+
+      by-missed : B
+      by-missed =
+          by-checked (readingOf text .checked)
+          (λ h. by-found h (missingAnswer p .missing) refl)
+          (λ f k e. refused f k e (refused-says f k e))
+
+  -- of an answer that came about in one way and reads as another
+  same-kind : (a b : Missed) (after : List ℕ) → Says a after → missedAnswer text page at ≡ b → kindOf a ≡ kindOf b
+  same-kind a b after is reads = ap kindOf (sym (is .0) ∙ reads)
+
+  -- ---- Refused
+
+  -- what the reader refuses is refused
+  pub missed-refuses : (f : Fault) (k : ℕ) → readingOf text .checked ≡ checked.Refused f k → missedAnswer text page at ≡ Refused f k
+  missed-refuses f k h = refused-says f k h .0
+
+  -- and else only for the room
+  pub missed-refused : (f : Fault) (k : ℕ) → missedAnswer text page at ≡ Refused f k
+      → (readingOf text .checked ≡ checked.Refused f k) ⊎ ((readingOf text .checked ≡ checked.Lawful) × (f ≡ NoRoom) × (k ≡ 0))
+  missed-refused f k h =
+      by-missed
+      (λ g j e says.
+      let said = sym (says .0) ∙ h in
+      let fault : g ≡ f = cc in
+      let place : j ≡ k = cc in
+      inl (e ∙ ap (λ x. checked.Refused x j) fault ∙ ap (checked.Refused f) place))
+      (λ lawful is says. absurd (omega (arith, same-kind _ _ _ says h)))
+      (λ lawful is says. absurd (omega (arith, same-kind _ _ _ says h)))
+      (λ lawful n is wanting says.
+      let said = sym (says .0) ∙ h in
+      let fault : f ≡ NoRoom = cc in
+      let place : k ≡ 0 = cc in
+      inr (lawful, fault, place))
+      (λ lawful n len is wrote says. absurd (omega (arith, same-kind _ _ _ says h)))
+
+  -- ---- Passes
+
+  pub missed-passes : (missedAnswer text page at ≡ missed.Passes) ↔ (readingOf text .checked ≡ checked.Lawful) × Passes p
+  unfolding putAnswer
+  missed-passes = (only, λ h. found-says (h .0) answer.Passes (passes-is h) .0)
+    where
+      passes-is : (readingOf text .checked ≡ checked.Lawful) × Passes p → missingAnswer p .missing ≡ answer.Passes
+      passes-is h = answer-passes-rule p .1 (planCheck-lawful p (plan-lawful (h .0)), h .1)
+
+      only : missedAnswer text page at ≡ missed.Passes → (readingOf text .checked ≡ checked.Lawful) × Passes p
+      only h =
+          by-missed
+          (λ f k e says. absurd (omega (arith, same-kind _ _ _ says h)))
+          (λ lawful is says. (lawful, answer-passes-rule p .0 is .1))
+          (λ lawful is says. absurd (omega (arith, same-kind _ _ _ says h)))
+          (λ lawful n is wanting says. absurd (omega (arith, same-kind _ _ _ says h)))
+          (λ lawful n len is wrote says. absurd (omega (arith, same-kind _ _ _ says h)))
+
+  -- ---- NoneFound
+
+  module _ (h : missedAnswer text page at ≡ NoneFound) where
+    none-is : (readingOf text .checked ≡ checked.Lawful) × (missingAnswer p .missing ≡ answer.NoneFound)
+    none-is =
+        by-missed
+        (λ f k e says. absurd (omega (arith, same-kind _ _ _ says h)))
+        (λ lawful is says. absurd (omega (arith, same-kind _ _ _ says h)))
+        (λ lawful is says. (lawful, is))
+        (λ lawful n is wanting says. absurd (omega (arith, same-kind _ _ _ says h)))
+        (λ lawful n len is wrote says. absurd (omega (arith, same-kind _ _ _ says h)))
+
+    pub missed-none : (readingOf text .checked ≡ checked.Lawful) × (Passes p → ⊥)
+    missed-none = (none-is .0, answer-none-rule p (none-is .1))
+
+    -- so it is never answered where the rule with free moving breaks and the list there has at most 1,000 releases
+    pub missed-none-free : (q : Pair) → freeBreak p ≡ some q → 1000 < length (missing p (q .l) (q .b))
+    missed-none-free = answer-none-free p (none-is .1)
+
+  -- ---- Text
+
+  -- what stands in the page from `at` on
+  abbrev pub written : ℕ → List ℕ
+  written len = take len (drop at (missedPage text page at))
+
+  module _ (lawful : readingOf text .checked ≡ checked.Lawful) (n : Length) (len : ℕ) (is : missingAnswer p .missing ≡ answer.Found n)
+      (wrote : savedAnswer version02 (withRun p (n .0)) (missingAnswer p .releases) page at ≡ saved.Text len)
+      (says : Says (Text len) (savedPage version02 (withRun p (n .0)) (missingAnswer p .releases) page at))
+    where
+      abbrev reads : Reading
+      reads = record { checked = checked.Lawful; plan = withRun p (n .0); releases = missingAnswer p .releases }
+
+      -- reading it gives the plan with its N and the list
+      written-reads : readingOf (written len) ≡ reads
+      written-reads =
+          let blank = plan-blank text lawful in
+          let list = list-blank p n is in
+          ap (λ after. readingOf (take len (drop at after))) (says .1)
+          ∙ reading-the-page (withRun p (n .0)) (missingAnswer p .releases) page at len wrote (blank .1) (list-long p n is)
+          ∙ ap (λ q. record { checked = checked.Lawful; plan = withRun q (n .0); releases = blankReleases (missingAnswer p .releases) })
+          (blank .0)
+          ∙ ap (λ rs. record { checked = checked.Lawful; plan = withRun p (n .0); releases = rs }) list
+
+      written-desk : (t : Day) (place : ℕ) → runAnswer (withRun p (n .0)) (missingAnswer p .releases) ≡ Miss t place
+          → answerOf (written len) ≡ Answered (verdictAnswer p) (searchAnswer p) (Miss t place)
+      unfolding answerOf answered
+      written-desk t place misses =
+          let checks = plan-lawful lawful in
+          ap (λ r. answered (r .checked) r) written-reads
+          ∙ ap (λ v. Answered v (searchAnswer (withRun p (n .0))) (runAnswer (withRun p (n .0)) (missingAnswer p .releases)))
+          (same-verdict p n is checks)
+          ∙ ap (λ a. Answered (verdictAnswer p) a (runAnswer (withRun p (n .0)) (missingAnswer p .releases))) (same-search p n is checks)
+          ∙ ap (Answered (verdictAnswer p) (searchAnswer p)) misses
+
+      written-misses : ShowsMiss text (written len)
+      written-misses =
+          let miss = found-answers p n is in
+          record {
+            lawful = ap (λ r. r .checked) written-reads;
+            n = n .0;
+            longer = answer-found p n is .1 .longer;
+            plan-is = ap (λ r. r .plan) written-reads;
+            t = miss .0;
+            place = miss .1;
+            within = miss .2;
+            misses = ap (λ r. runAnswer (r .plan) (r .releases)) written-reads ∙ miss .3;
+            desk = written-desk (miss .0) (miss .1) (miss .3);
+          }
+
+  pub missed-text : (len : ℕ) → missedAnswer text page at ≡ Text len → ShowsMiss text (written len)
+  missed-text len h =
+      by-missed
+      (λ f k e says. absurd (omega (arith, same-kind _ _ _ says h)))
+      (λ lawful is says. absurd (omega (arith, same-kind _ _ _ says h)))
+      (λ lawful is says. absurd (omega (arith, same-kind _ _ _ says h)))
+      (λ lawful n is wanting says. absurd (omega (arith, same-kind _ _ _ says h)))
+      (λ lawful n size is wrote says.
+      let said = sym (says .0) ∙ h in
+      let long : size ≡ len = cc in
+      rw (← long) (written-misses lawful n size is wrote says))
+
+  -- ---- The page
+
+  pub missed-keeps : ((len : ℕ) → missedAnswer text page at ≡ Text len → ⊥) → missedPage text page at ≡ page
+  missed-keeps no-text =
+      by-missed
+      (λ f k e says. says .1)
+      (λ lawful is says. says .1)
+      (λ lawful is says. says .1)
+      (λ lawful n is wanting says. says .1)
+      (λ lawful n len is wrote says. absurd (no-text len (says .0)))

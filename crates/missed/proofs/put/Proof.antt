@@ -1,0 +1,72 @@
+-- `put` meets its contract: each answer of the search for releases is shown as it is to be.
+use borrow.Author.Needs.{needs}
+use Rattle.missed.proofs.AsFound.{put-refused, put-passes, put-none, put-shown}
+use Rattle.missed.proofs.put.Statement.{statement}
+use Rattle.missed.proofs.put.Tie as tie
+
+releases-that-miss-requires : tie.Need-releases-that-miss-requires
+releases-that-miss-requires c κs = search needs
+
+enum-known-missing : tie.Need-enum-known-missing
+enum-known-missing c = search needs
+
+enum-told : tie.Need-enum-told
+enum-told c = search needs
+
+enum-told-2 : tie.Need-enum-told-2
+enum-told-2 c = search needs
+
+enum-known-missing-2 : tie.Need-enum-known-missing-2
+enum-known-missing-2 c = search needs
+
+show-requires : tie.Need-show-requires
+show-requires c κs = search needs
+
+returns : tie.Need-returns
+returns c =
+    let found = c .before .before .before .before in
+    let g = found .before .before .args in
+    put-refused (g .p) (found .releases-that-miss .result) (g .page .now) (g .at) (found .releases-that-miss .ensures) _ _
+    (c .before .missing .given .1)
+
+returns-2 : tie.Need-returns-2
+returns-2 c =
+    let found = c .before .before .before in
+    let g = found .before .before .args in
+    put-passes (g .p) (found .releases-that-miss .result) (g .page .now) (g .at) (found .releases-that-miss .ensures)
+    (c .enum-told .given .1)
+
+returns-3 : tie.Need-returns-3
+returns-3 c =
+    let found = c .before .before .before in
+    let g = found .before .before .args in
+    put-none (g .p) (found .releases-that-miss .result) (g .page .now) (g .at) (found .releases-that-miss .ensures)
+    (c .enum-told2 .given .1)
+
+same-length : tie.Need-same-length
+same-length c = search needs
+
+returns-4 : tie.Need-returns-4
+returns-4 c =
+    let show = c .before .before in
+    let told = show .before .before .before in
+    let found = told .before .before .before in
+    let g = found .before .before .args in
+    put-shown (g .p) (found .releases-that-miss .result) (g .page .now) (g .at) (found .releases-that-miss .ensures) _ _ _
+    (told .missing2 .given .1) (show .show .ensures .0) (show .show .ensures .1)
+
+pub put-spec : {M : Type 1} → statement M
+put-spec =
+    tie.close
+    (tie.spec
+    releases-that-miss-requires
+    enum-known-missing
+    enum-told
+    enum-told-2
+    enum-known-missing-2
+    show-requires
+    returns
+    returns-2
+    returns-3
+    same-length
+    returns-4)

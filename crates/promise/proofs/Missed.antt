@@ -1,0 +1,91 @@
+-- The releases that miss, of what `miss` answered. Its arguments are the text, the page and the place; what it wrote is what stands in the
+-- page from the place on.
+use Prim.Native.Nat.{ℕ, _<_}
+use mathlib.Core.Path.{_≡_, refl, sym, ap, _∙_, subst}
+use mathlib.Core.Logic.{_⊎_, inl, inr, _↔_}
+use mathlib.Core.List.{List}
+use mathlib.Core.Option.{some}
+use native.Mathlib.Omega.{arith}
+use lib.ListN.{length, take, drop}
+use contract.Lifetimes.{Lfts}
+use Rattle.faults.specs.declared.Fault.{Fault}
+use Rattle.faults.specs.declared.Fault.the-variants.{NoRoom}
+use Rattle.faults.specs.declared.Checked.{Checked}
+use Rattle.faults.specs.declared.Checked.the-variants as checked
+use Rattle.rules.specs.declared.Answer.the-variants as answer
+use Rattle.rules.specs.Answer.{answered, answerOf}
+use Rattle.rules.specs.Demand.{Passes}
+use Rattle.rules.specs.Text.{readingOf}
+use Rattle.rules.specs.Verdict.{Pair}
+use Rattle.missing.specs.Missing.{missing}
+use Rattle.tries.specs.Tries.{freeBreak}
+use Rattle.missed.specs.declared.Missed.{Missed}
+use Rattle.missed.specs.declared.Missed.the-variants.{Refused, NoneFound, Text}
+use Rattle.missed.specs.declared.Missed.the-variants as missed
+use Rattle.missed.specs.ShowsMiss.{ShowsMiss}
+use Rattle.missed.proofs.OfText.{missed-refuses, missed-refused, missed-passes, missed-none, missed-none-free, missed-text, missed-keeps}
+use Rattle.missed.proofs.miss.Reads as miss
+
+-- ---- What the desk refuses
+
+module _ (text : List ℕ) (f : Fault) (k : ℕ) where
+  desk-refuses : readingOf text .checked ≡ checked.Refused f k → answerOf text ≡ answer.Refused f k
+  unfolding answerOf answered
+  desk-refuses h = rw h
+
+  desk-refused : answerOf text ≡ answer.Refused f k → readingOf text .checked ≡ checked.Refused f k
+  unfolding answerOf answered
+  desk-refused h = go (readingOf text .checked) refl
+    where
+      go : (c : Checked) → readingOf text .checked ≡ c → readingOf text .checked ≡ checked.Refused f k
+      go checked.Lawful is =
+          let said = rw is at h in
+          let z : _≡_ {A = ℕ} 0 1 = cc in
+          absurd (omega arith)
+      go (checked.Refused g j) is =
+          let said = rw is at h in
+          let fault : g ≡ f = cc in
+          let place : j ≡ k = cc in
+          is ∙ ap (λ x. checked.Refused x j) fault ∙ ap (checked.Refused f) place
+
+-- ---- What `miss` answered
+
+module _ (κs : Lfts 2) (a : _) (e : _) (r : Missed) (did : miss.Learnt κs a r e) where
+  -- a text that is written is the text of the same plan, N raised, and of releases over which it misses: the desk's third line is a miss
+  pub text-shows : (len : ℕ) → r ≡ Text len → ShowsMiss (a .0 .now) (take len (drop (a .1 .1 .0) (e .1 .0 .now)))
+  text-shows len is =
+      subst (λ page. ShowsMiss (a .0 .now) (take len (drop (a .1 .1 .0) page))) (sym (did .1 .0))
+      (missed-text (a .0 .now) (a .1 .0 .now) (a .1 .1 .0) len (sym (did .0) ∙ is))
+
+  -- exactly where the text is lawful and the rule holds
+  pub passes-exactly : (r ≡ missed.Passes) ↔ (readingOf (a .0 .now) .checked ≡ checked.Lawful) × Passes (readingOf (a .0 .now) .plan)
+  passes-exactly =
+      let exactly = missed-passes (a .0 .now) (a .1 .0 .now) (a .1 .1 .0) in
+      (λ is. exactly .0 (sym (did .0) ∙ is), λ rule. did .0 ∙ exactly .1 rule)
+
+  -- where none is found, the rule does not hold; and if it breaks with free moving too, the list there has more than 1,000 releases
+  pub none-breaks : r ≡ NoneFound → (readingOf (a .0 .now) .checked ≡ checked.Lawful) × (Passes (readingOf (a .0 .now) .plan) → ⊥)
+  none-breaks is = missed-none (a .0 .now) (a .1 .0 .now) (a .1 .1 .0) (sym (did .0) ∙ is)
+
+  pub none-too-long : r ≡ NoneFound → (q : Pair) → freeBreak (readingOf (a .0 .now) .plan) ≡ some q
+      → 1000 < length (missing (readingOf (a .0 .now) .plan) (q .l) (q .b))
+  none-too-long is = missed-none-free (a .0 .now) (a .1 .0 .now) (a .1 .1 .0) (sym (did .0) ∙ is)
+
+  -- what the desk refuses is refused with the same number and line, and nothing else is but for the room
+  pub refuses-as-desk : (f : Fault) (k : ℕ) → answerOf (a .0 .now) ≡ answer.Refused f k → r ≡ Refused f k
+  refuses-as-desk f k h = did .0 ∙ missed-refuses (a .0 .now) (a .1 .0 .now) (a .1 .1 .0) f k (desk-refused (a .0 .now) f k h)
+
+  pub refused-as-desk : (f : Fault) (k : ℕ) → r ≡ Refused f k
+      → (answerOf (a .0 .now) ≡ answer.Refused f k) ⊎ ((readingOf (a .0 .now) .checked ≡ checked.Lawful) × (f ≡ NoRoom) × (k ≡ 0))
+  refused-as-desk f k is = go (missed-refused (a .0 .now) (a .1 .0 .now) (a .1 .1 .0) f k (sym (did .0) ∙ is))
+    where
+      go : (readingOf (a .0 .now) .checked ≡ checked.Refused f k)
+          ⊎ ((readingOf (a .0 .now) .checked ≡ checked.Lawful) × (f ≡ NoRoom) × (k ≡ 0))
+          → (answerOf (a .0 .now) ≡ answer.Refused f k) ⊎ ((readingOf (a .0 .now) .checked ≡ checked.Lawful) × (f ≡ NoRoom) × (k ≡ 0))
+      go (inl h) = inl (desk-refuses (a .0 .now) f k h)
+      go (inr h) = inr h
+
+  -- but for a text, no byte of the page is another
+  pub no-text-keeps : ((len : ℕ) → r ≡ Text len → ⊥) → e .1 .0 .now ≡ a .1 .0 .now
+  no-text-keeps no-text =
+      did .1 .0 ∙ missed-keeps (a .0 .now) (a .1 .0 .now) (a .1 .1 .0) (λ len h. no-text len (did .0 ∙ h))

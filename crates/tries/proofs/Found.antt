@@ -1,0 +1,152 @@
+-- What the tries find: a try that is found has a list of at most 1,000 releases over which the plan misses; and where the rule with free
+-- moving breaks and the list there has at most 1,000 releases, one is found.
+use Prim.Native.Nat.{ℕ, _-_, _≤_, min}
+use mathlib.Core.Path.{_≡_, refl, sym, ap, _∙_}
+use mathlib.Core.Bool.{true}
+use mathlib.Core.List.{List, _∷_, _++_}
+use mathlib.Core.Option.{none, some}
+use native.Mathlib.Omega.{arith}
+use lib.ListN.{length, replicate}
+use lib.Seq.{take-all, take-append-seam}
+use Rattle.days.specs.Days.{day}
+use Rattle.days.specs.declared.Day.{Day}
+use Rattle.lists.proofs.Lists.{true-not-false}
+use Rattle.lists.proofs.FirstOf.{firstOf-none, firstOf-passes}
+use Rattle.faults.specs.declared.Checked.the-variants.{Lawful}
+use Rattle.faults.proofs.Checks.{by-checked, then-lawful}
+use Rattle.rules.specs.declared.Plan.{Plan}
+use Rattle.rules.specs.declared.Release.{Release}
+use Rattle.rules.specs.declared.Outcome.{Outcome}
+use Rattle.rules.specs.declared.Outcome.the-variants.{Refused, Miss, Clean}
+use Rattle.rules.specs.Release.{noRelease, releasesOf, firstUnlawful}
+use Rattle.rules.specs.Refusal.{planCheck, releasesCheck, runCheck, runAnswer}
+use Rattle.rules.specs.Run.{runOf}
+use Rattle.rules.specs.Verdict.{Pair}
+use Rattle.laws.proofs.Lawful.{LawfulPlan, dMax-le}
+use Rattle.laws.proofs.LawfulChecked.{lawful-checked}
+use Rattle.laws.proofs.Releases.{LawfulRun, runCheck-lawful, releasesCheck-good}
+use Rattle.laws.proofs.Answers.{run-lawful}
+use Rattle.horizon.proofs.Verdict.{firstBroken-names}
+use Rattle.horizon.specs.FirstBreak.{FirstBreak}
+use Rattle.missing.specs.Missing.{freely, withRun, missing, MissesBy}
+use Rattle.missing.proofs.Freely.{freely-lawful}
+use Rattle.missing.proofs.Exact.{withRun-lawful, break-misses-by}
+use Rattle.missing.proofs.Longer.{miss-soon, longer-misses}
+use Rattle.tries.specs.Tries.{Try, endOf, listOf, freeBreak, ownBreak, blockTry, freeTries, heldTries, stoppedTries, paidTries, tries}
+use Rattle.tries.specs.Tries.{packed, isMiss, missesOn, found, raised}
+
+-- ---- A list as the code has it
+
+pub packed-holds : (rs : List Release) → length rs ≤ 1000 → releasesOf (packed rs) ≡ rs
+packed-holds rs few =
+    let count : min (length rs) 1001 ≡ length rs = omega arith in
+    rw (count, take-all 1000 rs few) (take-append-seam rs (replicate (1000 - length rs) noRelease))
+
+-- ---- An answer that is a miss
+
+miss-only : (o : Outcome) → isMiss o ≡ true → (t : Day) × (place : ℕ) × (o ≡ Miss t place)
+unfolding isMiss
+miss-only (Refused f at) h = absurd (true-not-false (sym h))
+miss-only (Miss t place) h = (t, place, refl)
+miss-only (Clean w m i) h = absurd (true-not-false (sym h))
+
+module _ (q : Plan) (rs : List Release) where
+  module _ (h : isMiss (runAnswer q (packed rs)) ≡ true) where
+    checked : runCheck q (packed rs) ≡ Lawful
+    unfolding runAnswer isMiss
+    checked =
+        by-checked (runCheck q (packed rs)) (λ e. e)
+        (λ f at e. absurd (true-not-false (sym (rw e at h))))
+
+    lawful : LawfulRun q (packed rs)
+    lawful = runCheck-lawful q (packed rs) checked
+
+    -- the list is not too long, and the run is not too long
+    pub packed-few : length rs ≤ 1000
+    packed-few = omega (arith, lawful .few)
+
+    pub packed-bounded : q .run .0 ≤ 1000000
+    packed-bounded = lawful .plan .runMax
+
+    -- it is lawful and misses
+    pub packed-misses : MissesBy q rs (q .run .0)
+    packed-misses =
+        let holds = packed-holds rs packed-few in
+        let miss = miss-only (runAnswer q (packed rs)) h in
+        let ends : runOf q rs ≡ Miss (miss .0) (miss .1) =
+        ap (runOf q) (sym holds) ∙ sym (run-lawful q (packed rs) checked) ∙ miss .2 in
+        record {
+          listed = rw (sym holds) (lawful .none-bad);
+          t = miss .0 .0;
+          place = miss .1;
+          soon = miss-soon q rs (miss .0) (miss .1) ends;
+          ends = ends;
+        }
+
+  -- and the other way round: a short list that misses is answered with its miss
+  pub misses-packed : (d : ℕ) → planCheck q ≡ Lawful → length rs ≤ 1000 → (m : MissesBy q rs d)
+      → runAnswer q (packed rs) ≡ Miss (day (m .t)) (m .place)
+  unfolding runCheck
+  misses-packed d plan few m =
+      let holds = packed-holds rs few in
+      let list = releasesCheck-good q (packed rs) (omega arith) (ap (firstUnlawful q) holds ∙ m .listed) in
+      let check : runCheck q (packed rs) ≡ Lawful = then-lawful (planCheck q) (releasesCheck q (packed rs)) plan ∙ list in
+      run-lawful q (packed rs) check ∙ ap (runOf q) holds ∙ m .ends
+
+-- ---- The first try that misses
+
+module _ (p : Plan) (y : Try) (h : found p ≡ some y) where
+  found-on : missesOn p y ≡ true
+  unfolding found
+  found-on = firstOf-passes (missesOn p) (tries p) y h
+
+  pub found-bounded : endOf y ≤ 1000000
+  unfolding missesOn
+  found-bounded = packed-bounded (withRun p (endOf y)) (listOf p y) found-on
+
+  -- its list has at most 1,000 releases
+  pub found-few : length (listOf p y) ≤ 1000
+  unfolding missesOn
+  found-few = packed-few (withRun p (endOf y)) (listOf p y) found-on
+
+  -- and misses by the interval's end, N raised to it where it lies beyond
+  pub found-misses : MissesBy (withRun p (raised p y)) (listOf p y) (endOf y)
+  unfolding missesOn
+  found-misses =
+      longer-misses p (listOf p y) (endOf y) (raised p y) (omega arith) (endOf y)
+      (packed-misses (withRun p (endOf y)) (listOf p y) found-on)
+
+-- ---- Where the rule with free moving breaks
+
+module _ (p : Plan) (ok : LawfulPlan p) (q : Pair) (breaks : freeBreak p ≡ some q) (few : length (missing p (q .l) (q .b)) ≤ 1000) where
+  first : FirstBreak (freely p) (q .l) (q .b)
+  first = firstBroken-names (freely p) (q .l) (q .b) breaks
+
+  abbrev end : ℕ
+  end = endOf (blockTry p q)
+
+  end-bounded : end ≤ 1000000
+  end-bounded =
+      let free = freely-lawful p ok in
+      omega (arith, first .inRange, dMax-le (freely p) free, free .hMax)
+
+  block-misses : MissesBy (withRun p end) (missing p (q .l) (q .b)) end
+  block-misses =
+      let low : 1 ≤ end = omega (arith, first .pos) in
+      break-misses-by p ok end (q .l) (q .b) low end-bounded (omega arith) (first .allowed) (first .breaks)
+
+  block-found : missesOn p (blockTry p q) ≡ true
+  unfolding missesOn listOf missing isMiss
+  block-found =
+      let low : 1 ≤ end = omega (arith, first .pos) in
+      let lawful = lawful-checked (withRun p end) (withRun-lawful p end ok low end-bounded) in
+      ap isMiss (misses-packed (withRun p end) (listOf p (blockTry p q)) end lawful few block-misses)
+
+  -- a list is found
+  pub found-where-free : found p ≡ none → ⊥
+  unfolding found tries
+  found-where-free h =
+      let rest = heldTries p (ownBreak p) ++ (stoppedTries p ++ paidTries p) in
+      let all = firstOf-none (missesOn p) (tries p) .0 h in
+      let free : tries p ≡ blockTry p q ∷ rest = ap (λ o. freeTries p o ++ rest) breaks in
+      true-not-false (sym block-found ∙ (rw free at all) .0)

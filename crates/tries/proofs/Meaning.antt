@@ -1,0 +1,212 @@
+-- What each answer means for the user.
+--     Refused      as the plan's check refuses
+--     Passes       the plan passes, so no lawful list misses, whatever N
+--     Found        the list that is shown is lawful, and its run misses
+--     NoneFound    the plan does not pass; and if the rule breaks with free moving too, the list that misses there is longer than 1,000
+use Prim.Native.Nat.{ℕ, _≤_, _<_}
+use mathlib.Core.Path.{_≡_, refl, sym, ap, _∙_}
+use mathlib.Core.Logic.{_↔_}
+use mathlib.Core.Bool.{true, false}
+use mathlib.Core.Option.{Option, none, some}
+use native.Mathlib.Omega.{arith}
+use native.Mathlib.Decide.{decLe}
+use lib.ListN.{length}
+use Rattle.days.specs.Days.{day, days}
+use Rattle.days.specs.declared.Day.{Day}
+use Rattle.days.specs.declared.Length.{Length}
+use Rattle.lists.proofs.Lists.{by-bool, true-not-false}
+use Rattle.faults.specs.declared.Fault.{Fault}
+use Rattle.faults.specs.declared.Checked.the-variants as checked
+use Rattle.faults.proofs.Checks.{by-checked}
+use Rattle.rules.specs.declared.Plan.{Plan}
+use Rattle.rules.specs.declared.Outcome.the-variants.{Miss}
+use Rattle.rules.specs.Demand.{Passes}
+use Rattle.rules.specs.Verdict.{Pair, verdictOf, isPass}
+use Rattle.rules.specs.Refusal.{planCheck, runAnswer}
+use Rattle.laws.proofs.Lawful.{LawfulPlan, planCheck-lawful}
+use Rattle.laws.proofs.LawfulChecked.{lawful-checked}
+use Rattle.horizon.proofs.Verdict.{passes-of-pass, pass-of-passes}
+use Rattle.missing.specs.Missing.{withRun, missing, NeverMisses}
+use Rattle.missing.proofs.Exact.{withRun-lawful, passes-never}
+use Rattle.tries.specs.declared.Missing.{Missing}
+use Rattle.tries.specs.declared.Missing.the-variants as answer
+use Rattle.tries.specs.Tries.{Try, listOf, freeBreak, packed, found, raised, foundAs, missingOf, missingAnswer}
+use Rattle.tries.specs.Shown.{Shows}
+use Rattle.tries.proofs.Found.{misses-packed, found-bounded, found-few, found-misses, found-where-free}
+
+-- ---- How an answer comes about
+
+-- the four answers, told apart by a number
+abbrev kindOf : Missing → ℕ
+kindOf (answer.Refused f at) = 0
+kindOf answer.Passes = 1
+kindOf answer.NoneFound = 2
+kindOf (answer.Found n) = 3
+
+module _ (p : Plan) where
+  -- a plan that is lawful and does not pass
+  abbrev pub Tried : Type 0
+  Tried = (planCheck p ≡ checked.Lawful) × (isPass (verdictOf p) ≡ false)
+
+  refused-says : (f : Fault) (at : ℕ) → planCheck p ≡ checked.Refused f at → missingAnswer p .missing ≡ answer.Refused f at
+  unfolding missingAnswer
+  refused-says f at h = rw h
+
+  pass-says : planCheck p ≡ checked.Lawful → isPass (verdictOf p) ≡ true → missingAnswer p .missing ≡ answer.Passes
+  unfolding missingAnswer missingOf
+  pass-says lawful pass = rw (lawful, pass)
+
+  tried-says : Tried → missingAnswer p ≡ foundAs p (found p)
+  unfolding missingAnswer missingOf
+  tried-says tried = rw (tried .0, tried .1)
+
+  -- one of four ways
+  module _ {B : Type 0} (refused : (f : Fault) (at : ℕ) → planCheck p ≡ checked.Refused f at → B)
+      (passes : planCheck p ≡ checked.Lawful → isPass (verdictOf p) ≡ true → B)
+      (nothing : Tried → found p ≡ none → B)
+      (shown : Tried → (y : Try) → found p ≡ some y → B) where
+    by-found : Tried → (o : Option Try) → found p ≡ o → B
+    by-found tried none e = nothing tried e
+    by-found tried (some y) e = shown tried y e
+
+    by-answer : B
+    by-answer =
+        by-checked (planCheck p)
+        (λ lawful.
+        by-bool (isPass (verdictOf p)) (λ pass. passes lawful pass) (λ fails. by-found (lawful, fails) (found p) refl))
+        refused
+
+  nothing-says : Tried → found p ≡ none → missingAnswer p .missing ≡ answer.NoneFound
+  nothing-says tried none-is = ap (λ a. a .missing) (tried-says tried ∙ ap (foundAs p) none-is)
+
+  shown-is : Tried → (y : Try) → found p ≡ some y → missingAnswer p ≡ foundAs p (some y)
+  shown-is tried y is = tried-says tried ∙ ap (foundAs p) is
+
+  shown-says : Tried → (y : Try) → found p ≡ some y → missingAnswer p .missing ≡ answer.Found (days (raised p y))
+  shown-says tried y is = ap (λ a. a .missing) (shown-is tried y is)
+
+  not-same : (a b : Missing) → missingAnswer p .missing ≡ a → missingAnswer p .missing ≡ b → kindOf a ≡ kindOf b
+  not-same a b one two = ap kindOf (sym one ∙ two)
+
+  -- ---- Refused
+
+  pub answer-refused : (f : Fault) (at : ℕ) → (missingAnswer p .missing ≡ answer.Refused f at) ↔ (planCheck p ≡ checked.Refused f at)
+  answer-refused f at = (only, refused-says f at)
+    where
+      only : missingAnswer p .missing ≡ answer.Refused f at → planCheck p ≡ checked.Refused f at
+      only h =
+          by-answer
+          (λ g k e.
+          let said = sym (refused-says g k e) ∙ h in
+          let fault : g ≡ f = cc in
+          let place : k ≡ at = cc in
+          e ∙ ap (λ x. checked.Refused x k) fault ∙ ap (checked.Refused f) place)
+          (λ lawful pass. absurd (omega (arith, not-same _ _ (pass-says lawful pass) h)))
+          (λ tried none-is. absurd (omega (arith, not-same _ _ (nothing-says tried none-is) h)))
+          (λ tried y is. absurd (omega (arith, not-same _ _ (shown-says tried y is) h)))
+
+  -- ---- Passes
+
+  pub answer-passes : (missingAnswer p .missing ≡ answer.Passes) ↔ (planCheck p ≡ checked.Lawful) × (isPass (verdictOf p) ≡ true)
+  answer-passes = (only, λ h. pass-says (h .0) (h .1))
+    where
+      only : missingAnswer p .missing ≡ answer.Passes → (planCheck p ≡ checked.Lawful) × (isPass (verdictOf p) ≡ true)
+      only h =
+          by-answer
+          (λ f at e. absurd (omega (arith, not-same _ _ (refused-says f at e) h)))
+          (λ lawful pass. (lawful, pass))
+          (λ tried none-is. absurd (omega (arith, not-same _ _ (nothing-says tried none-is) h)))
+          (λ tried y is. absurd (omega (arith, not-same _ _ (shown-says tried y is) h)))
+
+  -- in the user's words: the plan is lawful and the rule holds at every interval
+  pub answer-passes-rule : (missingAnswer p .missing ≡ answer.Passes) ↔ LawfulPlan p × Passes p
+  answer-passes-rule = (
+    λ h.
+        let pass = answer-passes .0 h in
+        let ok = planCheck-lawful p (pass .0) in
+        (ok, passes-of-pass p ok (pass .1)),
+    λ h. pass-says (lawful-checked p (h .0)) (pass-of-passes p (h .0) (h .1)),
+  )
+
+  -- so there is no list that misses
+  pub answer-passes-never : missingAnswer p .missing ≡ answer.Passes → NeverMisses p
+  answer-passes-never h =
+      let good = answer-passes-rule .0 h in
+      passes-never p (good .0) (good .1)
+
+  -- ---- Found
+
+  -- what a try that is found shows
+  shown-misses : LawfulPlan p → (y : Try) → found p ≡ some y → Shows p (raised p y) (packed (listOf p y))
+  shown-misses ok y is =
+      let misses = found-misses p y is in
+      record {
+        list = listOf p y;
+        packed-as = refl;
+        few = found-few p y is;
+        longer = omega arith;
+        bounded = omega (arith, ok .runMax, found-bounded p y is);
+        misses =
+            record {
+              listed = misses .listed;
+              t = misses .t;
+              place = misses .place;
+              soon = omega (arith, misses .soon);
+              ends = misses .ends;
+            };
+      }
+
+  module _ (n : Length) (h : missingAnswer p .missing ≡ answer.Found n) where
+    pub answer-found : Tried × Shows p (n .0) (missingAnswer p .releases)
+    answer-found =
+        by-answer
+        (λ f at e. absurd (omega (arith, not-same _ _ (refused-says f at e) h)))
+        (λ lawful pass. absurd (omega (arith, not-same _ _ (pass-says lawful pass) h)))
+        (λ tried none-is. absurd (omega (arith, not-same _ _ (nothing-says tried none-is) h)))
+        (λ tried y is.
+        let said = sym (shown-says tried y is) ∙ h in
+        let run : days (raised p y) ≡ n = cc in
+        let list : packed (listOf p y) ≡ missingAnswer p .releases = sym (ap (λ a. a .releases) (shown-is tried y is)) in
+        (tried, rw (← run, ← list) (shown-misses (planCheck-lawful p (tried .0)) y is)))
+
+    -- the run entry, asked for the plan with this N and this list, answers with a miss
+    pub found-answers : (t : Day) × (place : ℕ) × (t .0 ≤ n .0) × (runAnswer (withRun p (n .0)) (missingAnswer p .releases) ≡ Miss t place)
+    found-answers =
+        let shows = answer-found .1 in
+        let misses = shows .misses in
+        let ok = planCheck-lawful p (answer-found .0 .0) in
+        let low : 1 ≤ n .0 = omega (arith, ok .runPos, shows .longer) in
+        let lawful = lawful-checked (withRun p (n .0)) (withRun-lawful p (n .0) ok low (shows .bounded)) in (
+          day (misses .t),
+          misses .place,
+          misses .soon,
+          ap (runAnswer (withRun p (n .0))) (shows .packed-as)
+              ∙ misses-packed (withRun p (n .0)) (shows .list) (n .0) lawful (shows .few) misses,
+        )
+
+  -- ---- NoneFound
+
+  module _ (h : missingAnswer p .missing ≡ answer.NoneFound) where
+    none-tried : Tried × (found p ≡ none)
+    none-tried =
+        by-answer
+        (λ f at e. absurd (omega (arith, not-same _ _ (refused-says f at e) h)))
+        (λ lawful pass. absurd (omega (arith, not-same _ _ (pass-says lawful pass) h)))
+        (λ tried none-is. (tried, none-is))
+        (λ tried y is. absurd (omega (arith, not-same _ _ (shown-says tried y is) h)))
+
+    pub answer-none : Tried
+    answer-none = none-tried .0
+
+    -- the rule breaks somewhere
+    pub answer-none-rule : Passes p → ⊥
+    answer-none-rule rule =
+        true-not-false (sym (pass-of-passes p (planCheck-lawful p (answer-none .0)) rule) ∙ answer-none .1)
+
+    -- and where it breaks with free moving too, the list that misses there is too long to be shown
+    pub answer-none-free : (q : Pair) → freeBreak p ≡ some q → 1000 < length (missing p (q .l) (q .b))
+    answer-none-free q breaks =
+        elim (decLe (length (missing p (q .l) (q .b))) 1000) [
+          | yes few ↦ absurd (found-where-free p (planCheck-lawful p (answer-none .0)) q breaks few (none-tried .1))
+          | no many ↦ omega arith
+        ]

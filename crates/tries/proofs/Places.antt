@@ -1,0 +1,59 @@
+-- Walks over the places of a plan, the first i of them done.
+--     after i n             the places after the first i of n
+use Prim.Native.Nat.{ℕ, suc, _+_, _-_, _≤_, _<_}
+use mathlib.Core.Path.{_≡_, ap, _∙_}
+use mathlib.Core.Bool.{Bool, true, false}
+use mathlib.Core.List.{List, [], _∷_}
+use native.Mathlib.Omega.{arith}
+use native.Mathlib.Numerals.{add-one}
+use lib.ListN.{getD}
+use lib.Seq.{getD-take}
+use Rattle.lists.specs.Count.{upFrom, leastFrom}
+use Rattle.rules.specs.declared.Plan.{Plan}
+use Rattle.rules.specs.Plan.{stringsOf, stringAt, noString}
+use Rattle.lists.proofs.Order.{upFrom-cons}
+use Rattle.lists.proofs.Least.{leastFrom-here, leastFrom-later}
+use Rattle.laws.proofs.Lawful.{PlanString}
+use Rattle.verdict.specs.Asked.{Ready}
+use Rattle.verdict.proofs.StringSums.{string-at}
+
+abbrev pub after : ℕ → ℕ → List ℕ
+after i n = upFrom (i + 1) (n - i)
+
+module _ (i n : ℕ) where
+  next-left : i < n → n - i ≡ suc (n - (i + 1))
+  next-left h = omega arith
+
+  pub after-next : i < n → after i n ≡ (i + 1) ∷ after (i + 1) n
+  after-next h = ap (upFrom (i + 1)) (next-left h) ∙ upFrom-cons (i + 1) (n - (i + 1)) ∙ rw (add-one (i + 1))
+
+  pub after-end : n ≤ i → after i n ≡ []
+  unfolding upFrom
+  after-end h =
+      let none-left : n - i ≡ 0 = omega arith in
+      rw none-left
+
+  -- the least place that passes
+  module _ (f : ℕ → Bool) where
+    pub least-here : i < n → f (i + 1) ≡ true → leastFrom f (i + 1) (n - i) ≡ i + 1
+    least-here h t = ap (leastFrom f (i + 1)) (next-left h) ∙ leastFrom-here f (i + 1) (n - (i + 1)) t
+
+    pub least-later : i < n → f (i + 1) ≡ false → leastFrom f (i + 1) (n - i) ≡ leastFrom f (i + 1 + 1) (n - (i + 1))
+    least-later h e =
+        ap (leastFrom f (i + 1)) (next-left h) ∙ leastFrom-later f (i + 1) (n - (i + 1)) e ∙ rw (add-one (i + 1))
+
+    pub least-end : n ≤ i → leastFrom f (i + 1) (n - i) ≡ i + 1
+    unfolding leastFrom
+    least-end h =
+        let none-left : n - i ≡ 0 = omega arith in
+        rw none-left
+
+-- the string at a place
+module _ (p : Plan) (ready : Ready p) (i : ℕ) (h : i < p .n) where
+  pub place-string : stringAt p (i + 1) ≡ getD (p .strings) i noString
+  place-string =
+      let here : i + 1 - 1 ≡ i = omega arith in
+      ap (λ j. getD (stringsOf p) j noString) here ∙ getD-take (p .n) (p .strings) i noString h
+
+  pub place-lawful : PlanString p (getD (p .strings) i noString)
+  place-lawful = string-at p ready i h

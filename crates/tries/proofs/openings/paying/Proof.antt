@@ -1,0 +1,87 @@
+-- `tries::openings::paying` meets its contract: two releases, and the takers when the second is almost done.
+use Prim.Native.Nat.{ℕ, _-_}
+use mathlib.Core.Path.{_≡_, sym, ap, _∙_}
+use mathlib.Core.List.{[], _∷_}
+use native.Mathlib.Omega.{arith}
+use borrow.Author.Needs.{needs}
+use lib.ListN.{getD}
+use lib.Seq.{getD-take}
+use Rattle.rules.specs.declared.BatteryString.{BatteryString}
+use Rattle.rules.specs.declared.Release.{Release}
+use Rattle.rules.specs.Plan.{stringAt, noString}
+use Rattle.rules.specs.Demand.{holdOf}
+use Rattle.laws.proofs.Lawful.{PlanString}
+use Rattle.laws.proofs.Demand.{holdOf-work, holdOf-le}
+use Rattle.verdict.proofs.StringSums.{string-at}
+use Rattle.missing.specs.Missing.{fullRelease}
+use Rattle.tries.specs.Tries.{Try}
+use Rattle.tries.proofs.openings.paying.Statement.{statement}
+use Rattle.tries.proofs.openings.paying.Tie as tie
+
+full-release-requires : tie.Need-full-release-requires
+full-release-requires c κs = search needs
+
+full-release-requires-2 : tie.Need-full-release-requires-2
+full-release-requires-2 c κs = search needs
+
+sub-taker : tie.Need-sub-taker
+sub-taker c = search needs
+
+mul-taker : tie.Need-mul-taker
+mul-taker c = search needs
+
+array-copy-out-taker : tie.Need-array-copy-out-taker
+array-copy-out-taker c = search needs
+
+-- the taker, which is a string of the plan
+abbrev taker : tie.After-taker → BatteryString
+taker c = getD (c .before .before .before .before .args .p .strings) (c .before .before .before .before .args .k - 1) noString
+
+of-plan : (c : tie.After-taker) → PlanString (c .before .before .before .before .args .p) (taker c)
+of-plan c =
+    let start = c .before .before .before .before in
+    string-at (start .args .p) (start .pre .0) (start .args .k - 1) (omega (arith, start .pre .1 .0))
+
+longest-hold-requires : tie.Need-longest-hold-requires
+longest-hold-requires c κs = of-plan c
+
+sub-delay : tie.Need-sub-delay
+sub-delay c =
+    let start = c .before .before .before .before .before in
+    let s = taker (c .before) in
+    omega (arith, c .longest-hold .ensures, holdOf-work (start .args .p) s, of-plan (c .before) .lawful .cPos)
+
+abbrev begins : Release → Release → ℕ → ℕ → Try
+begins r q hold l = record { head = r ∷ q ∷ []; lead = 2; delay = hold - 1; l = l }
+
+returns : tie.Need-returns
+returns c =
+    let made = c .before .before .before in
+    let start = made .before .before in
+    let p = start .args .p in
+    let k = start .args .k in
+    let v = start .args .v in
+    let q = made .full-release2 .result in
+    let hold = c .longest-hold .result in
+    let small = holdOf-le p _ (of-plan (c .before)) in
+    let held : hold ≡ holdOf p (stringAt p k) =
+    c .longest-hold .ensures
+    ∙ ap (holdOf p) (sym (getD-take (p .n) (p .strings) (k - 1) noString (omega (arith, start .pre .1 .0)))) in (
+      ap (λ r. begins r q hold) (made .before .full-release .ensures)
+          ∙ ap (λ r. begins (fullRelease p 0 v) r hold) (made .full-release2 .ensures)
+          ∙ ap (begins (fullRelease p 0 v) (fullRelease p 1 k)) held,
+      record { few = omega arith; soon = omega arith; short = omega (arith, c .longest-hold .ensures) },
+    )
+
+pub paying-spec : {M : Type 1} → statement M
+paying-spec =
+    tie.close
+    (tie.spec
+    full-release-requires
+    full-release-requires-2
+    sub-taker
+    mul-taker
+    array-copy-out-taker
+    longest-hold-requires
+    sub-delay
+    returns)

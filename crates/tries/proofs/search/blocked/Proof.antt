@@ -1,0 +1,111 @@
+-- `tries::search::blocked` meets its contract: where the rule with free moving breaks there is one try, elsewhere none.
+use Prim.Native.Nat.{_≤_}
+use mathlib.Core.Path.{_≡_, sym, ap, _∙_}
+use mathlib.Core.List.{[]}
+use mathlib.Core.Option.{some}
+use borrow.Author.Needs.{needs}
+use Rattle.days.specs.declared.Length.{Length}
+use Rattle.lists.specs.Count.{firstOf}
+use Rattle.lists.proofs.FirstOf.{firstOf-end, firstOf-here, firstOf-later}
+use Rattle.rules.specs.declared.Plan.{Plan}
+use Rattle.rules.specs.Refusal.{breakAnswer}
+use Rattle.laws.proofs.Lawful.{LawfulPlan}
+use Rattle.horizon.proofs.Pairs.{pair}
+use Rattle.missing.specs.Missing.{freely}
+use Rattle.missing.proofs.Freely.{freely-lawful}
+use Rattle.tries.specs.Tries.{freeTries, freeBreak, blockTry, missesOn}
+use Rattle.tries.proofs.Breaks.{broken-nowhere, broken-there, broken-interval, broken-blocking}
+use Rattle.tries.proofs.search.blocked.Statement.{statement}
+use Rattle.tries.proofs.search.blocked.Tie as tie
+
+with-free-moving-requires : tie.Need-with-free-moving-requires
+with-free-moving-requires c κs = search needs
+
+first-break-requires : tie.Need-first-break-requires
+first-break-requires c κs = search needs
+
+enum-known-broken : tie.Need-enum-known-broken
+enum-known-broken c = search needs
+
+-- it was asked of the plan with free moving
+asked : (c : tie.After-first-break) → c .first-break .result ≡ breakAnswer (freely (c .before .before .args .p))
+asked c = c .first-break .ensures ∙ ap breakAnswer (c .before .with-free-moving .ensures)
+
+returns : tie.Need-returns
+returns c =
+    let ask = c .before in
+    let start = ask .before .before in
+    let p = start .args .p in
+    let f = missesOn p in
+    let free = freely-lawful p (start .pre .lawful) in
+    ap (λ q. firstOf f (freeTries p q)) (broken-nowhere (freely p) free _ (asked ask) (c .match .keys2)) ∙ firstOf-end f
+
+-- the pair, and that it is small
+module _ (c : tie.After-known-told) where
+  abbrev ask : tie.After-first-break
+  ask = c .before .before .before
+
+  abbrev interval : Length
+  interval = c .before .broken .given .0 .0
+
+  abbrev blocking : Length
+  blocking = c .before .broken .given .0 .1 .0
+
+  abbrev p : Plan
+  p = ask .before .before .args .p
+
+  free : LawfulPlan (freely p)
+  free = freely-lawful p (ask .before .before .pre .lawful)
+
+  there : freeBreak p ≡ some (pair (interval .0) (blocking .0))
+  there = broken-there (freely p) free _ (asked ask) _ _ (c .before .broken .given .1)
+
+  short : interval .0 ≤ 101000
+  short = broken-interval (freely p) free _ (asked ask) _ _ (c .before .broken .given .1)
+
+  little : blocking .0 ≤ 1000
+  little = broken-blocking (freely p) free _ (asked ask) _ _ (c .before .broken .given .1)
+
+blocking-requires : tie.Need-blocking-requires
+blocking-requires c κs = (ask c .before .before .pre, little c)
+
+misses-on-requires : tie.Need-misses-on-requires
+misses-on-requires c κs = (ask (c .before) .before .before .pre, (c .blocking .ensures .1, short (c .before)))
+
+returns-2 : tie.Need-returns-2
+returns-2 c =
+    let made = c .before .before in
+    let told = made .before in
+    let p = ask told .before .before .args .p in
+    let f = missesOn p in
+    let q = pair (interval told .0) (blocking told .0) in
+    let opens = made .blocking .ensures .0 in
+    let misses = ap f (sym opens) ∙ sym (c .before .misses-on .ensures) ∙ c .if1 .taken in (
+      made .blocking .ensures .1,
+      short told,
+      ap (λ o. firstOf f (freeTries p o)) (there told) ∙ firstOf-here f (blockTry p q) [] misses ∙ ap some (sym opens),
+    )
+
+returns-3 : tie.Need-returns-3
+returns-3 c =
+    let made = c .before .before in
+    let told = made .before in
+    let p = ask told .before .before .args .p in
+    let f = missesOn p in
+    let q = pair (interval told .0) (blocking told .0) in
+    let opens = made .blocking .ensures .0 in
+    let holds = ap f (sym opens) ∙ sym (c .before .misses-on .ensures) ∙ c .if1 .left in
+    ap (λ o. firstOf f (freeTries p o)) (there told) ∙ firstOf-later f (blockTry p q) [] holds ∙ firstOf-end f
+
+pub blocked-spec : {M : Type 1} → statement M
+blocked-spec =
+    tie.close
+    (tie.spec
+    with-free-moving-requires
+    first-break-requires
+    enum-known-broken
+    returns
+    blocking-requires
+    misses-on-requires
+    returns-2
+    returns-3)

@@ -1,0 +1,17 @@
+-- `tries::without_list` meets its contract: a thousand places with no release.
+use mathlib.Core.Path.{ap}
+use borrow.Author.Needs.{needs}
+use lib.ListN.{replicate}
+use Rattle.tries.proofs.without_list.Statement.{statement}
+use Rattle.tries.proofs.without_list.Tie as tie
+
+no-release-requires : tie.Need-no-release-requires
+no-release-requires c κs = search needs
+
+returns : tie.Need-returns
+returns c =
+    ap (λ r. record { missing = c .before .args .missing; releases = record { count = 0; list = replicate 1000 r } })
+    (c .no-release .ensures)
+
+pub without-list-spec : {M : Type 1} → statement M
+without-list-spec = tie.close (tie.spec no-release-requires returns)

@@ -1,0 +1,20 @@
+-- What it means that a list is shown for a plan.
+--     Shows p n rs          rs is the code's list of at most 1,000 releases; N is raised to n at most, within the bounds; and with a run of
+--                           n days the list is lawful for the plan p and its run misses
+use Prim.Native.Nat.{ℕ, _≤_}
+use mathlib.Core.Path.{_≡_}
+use mathlib.Core.List.{List}
+use lib.ListN.{length}
+use Rattle.rules.specs.declared.Plan.{Plan}
+use Rattle.rules.specs.declared.Release.{Release}
+use Rattle.rules.specs.declared.Releases.{Releases}
+use Rattle.missing.specs.Missing.{withRun, MissesBy}
+use Rattle.tries.specs.Tries.{packed}
+
+pub record Shows (p : Plan) (n : ℕ) (rs : Releases) : Type 0 where
+  pub list : List Release
+  pub packed-as : rs ≡ packed list
+  pub few : length list ≤ 1000
+  pub longer : p .run .0 ≤ n
+  pub bounded : n ≤ 1000000
+  pub misses : MissesBy (withRun p n) list n

@@ -1,0 +1,108 @@
+// Releases that make a plan miss a deadline: the list of the theorem where the rule with free moving breaks, and lists in which a taker
+// pays.
+mod free;
+mod listing;
+mod openings;
+mod search;
+
+use bounds::plan_check;
+use days::Length;
+use faults::Checked;
+use faults::Fault;
+use listing::listed;
+use openings::no_release;
+use rules::Plan;
+use rules::Releases;
+use rules::Verdict;
+use search::Tried;
+use search::first_that_misses;
+ghost use mathlib.Core.Path.{_≡_};
+ghost use Prim.Native.Nat.{max};
+ghost use Rattle.days.specs.Days.{days};
+ghost use Rattle.rules.specs.Verdict.{isPass};
+ghost use Rattle.verdict.specs.Asked.{Ready};
+ghost use Rattle.tries.specs.Tries.{unlisted, missingOf, missingAnswer};
+
+// What is found for a plan: N of a run that misses; or that the plan passes, so that none does.
+pub enum Missing {
+    Refused { fault: Fault, at: usize },
+    Passes,
+    NoneFound,
+    Found { run: Length },
+}
+
+// What is shown for a plan: what was found, and the releases, none where no run was found.
+pub struct Shown {
+    pub missing: Missing,
+    pub releases: Releases,
+}
+
+// An answer with no list.
+fn without_list(missing: Missing) -> Shown
+    ensures { λ r. ⌜ r ≡ unlisted missing ⌝ }
+{
+    let none = no_release();
+    Shown {
+        missing,
+        releases: Releases {
+            count: 0,
+            list: [none; 1000],
+        },
+    }
+}
+
+fn passed(v: Verdict) -> bool
+    ensures { λ r. ⌜ r ≡ isPass v ⌝ }
+{
+    match v {
+        Verdict::Pass { pairs: _ } => true,
+        Verdict::Fail {
+            interval: _,
+            blocking: _,
+            demand: _,
+            pairs: _,
+        } => false,
+        Verdict::Overload => false,
+        Verdict::Refused { fault: _, at: _ } => false,
+    }
+}
+
+// N, or the interval's end where that lies beyond it.
+fn raised(run: Length, end: u32) -> Length
+    ensures { λ r. ⌜ r ≡ days (max (run .0) end) ⌝ }
+{
+    if run.0 < end { Length(end) } else { run }
+}
+
+// What is shown for a lawful plan.
+fn shown_for(p: Plan) -> Shown
+    requires { ⌜ Ready p ⌝ }
+    ensures { λ r. ⌜ r ≡ missingOf p ⌝ }
+{
+    if passed(verdict::quick(p)) {
+        return without_list(Missing::Passes);
+    }
+    let found = first_that_misses(p);
+    match found {
+        Tried::Misses { opening, l } => {
+            let run = raised(p.run, opening.lead + l);
+            let releases = listed(p, opening, l);
+            Shown {
+                missing: Missing::Found { run },
+                releases,
+            }
+        }
+        Tried::NoneMisses => without_list(Missing::NoneFound),
+    }
+}
+
+// The releases that make a plan miss a deadline, where some are found.
+pub fn releases_that_miss(p: Plan) -> Shown
+    ensures exact { λ r. ⌜ r ≡ missingAnswer p ⌝ }
+{
+    let checked = plan_check(p);
+    match checked {
+        Checked::Lawful => shown_for(p),
+        Checked::Refused { fault, at } => without_list(Missing::Refused { fault, at }),
+    }
+}

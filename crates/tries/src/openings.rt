@@ -1,0 +1,159 @@
+// How the lists begin: a job that blocks; a job on the bank; a job on the bank, and one that takes it.
+use days::Day;
+use days::Length;
+use rules::BatteryString;
+use rules::Plan;
+use rules::Release;
+ghost use mathlib.Core.Path.{_≡_};
+ghost use Prim.Native.Nat.{_+_, _≤_};
+ghost use Rattle.rules.specs.Demand.{holdOf};
+ghost use Rattle.rules.specs.Release.{noRelease};
+ghost use Rattle.laws.proofs.Lawful.{PlanString};
+ghost use Rattle.horizon.proofs.Pairs.{pair};
+ghost use Rattle.verdict.specs.Asked.{Ready};
+ghost use Rattle.missing.specs.Missing.{blockerPlace, canBlock, fullRelease};
+ghost use Rattle.tries.specs.Tries.{blockTry, stoppedTry, paidTry};
+ghost use Rattle.tries.specs.Openings.{tryOf, Small};
+
+// The first releases, as many as `count` says, of the two; the day on which the interval begins; and the days of it before takers come.
+pub(crate) struct Opening {
+    pub(crate) count: usize,
+    pub(crate) first: Release,
+    pub(crate) second: Release,
+    pub(crate) lead: u32,
+    pub(crate) delay: u32,
+}
+
+// What stands where there is no release.
+pub(crate) fn no_release() -> Release
+    ensures { λ r. ⌜ r ≡ noRelease ⌝ }
+{
+    Release {
+        day: Day(0),
+        place: 0,
+        need: Length(0),
+    }
+}
+
+// A release on day t of the string at a place, with as much work as is lawful.
+fn full_release(p: Plan, t: u32, place: usize) -> Release
+    requires { ⌜ Ready p ⌝ }
+    requires { ⌜ (1 ≤ place) × (place ≤ p .n) ⌝ }
+    ensures { λ r. ⌜ r ≡ fullRelease p t place ⌝ }
+{
+    let strings = p.strings;
+    let s = strings[place - 1];
+    let need = s.c;
+    Release {
+        day: Day(t),
+        place,
+        need,
+    }
+}
+
+// The longest that a job of the string holds the bank.
+fn longest_hold(p: Plan, s: BatteryString) -> u32
+    requires { ⌜ PlanString p s ⌝ }
+    ensures { λ r. ⌜ r ≡ holdOf p s ⌝ }
+{
+    s.c.0 + p.moving_cost(s).0 * s.x
+}
+
+// Whether a job of the string can block an interval of l days for b days.
+fn can_block(l: u32, b: u32, s: BatteryString) -> bool
+    ensures { λ r. ⌜ r ≡ canBlock l b s ⌝ }
+{
+    if l < s.d.0 {
+        return b < s.c.0;
+    }
+    false
+}
+
+// The place of the first string that can.
+fn blocker_place(p: Plan, l: u32, b: u32) -> usize
+    requires { ⌜ Ready p ⌝ }
+    ensures { λ r. ⌜ r ≡ blockerPlace p l b ⌝ }
+{
+    let n = p.n;
+    let strings = p.strings;
+    let mut i: usize = 0;
+    while i < n {
+        let s = strings[i];
+        if can_block(l, b, s) {
+            return i + 1;
+        }
+        i += 1;
+    }
+    i + 1
+}
+
+// A job that blocks for b days, released alone on day 0; none where b is 0.
+pub(crate) fn blocking(p: Plan, l: u32, b: u32) -> Opening
+    requires { ⌜ Ready p ⌝ }
+    requires { ⌜ b ≤ 1000 ⌝ }
+    ensures opens { λ r. ⌜ tryOf r l ≡ blockTry p (pair l b) ⌝ }
+    ensures small { λ r. ⌜ Small r ⌝ }
+{
+    let none = no_release();
+    if b == 0 {
+        return Opening {
+            count: 0,
+            first: none,
+            second: none,
+            lead: 0,
+            delay: 0,
+        };
+    }
+    let day = Day(0);
+    let place = blocker_place(p, l, b);
+    let need = Length(b + 1);
+    let first = Release { day, place, need };
+    Opening {
+        count: 1,
+        first,
+        second: none,
+        lead: 1,
+        delay: b,
+    }
+}
+
+// The string at place v is on the bank from day 0 on; takers come b days later than the others.
+pub(crate) fn stopping(p: Plan, b: u32, v: usize) -> Opening
+    requires { ⌜ Ready p ⌝ }
+    requires { ⌜ b ≤ 1000 ⌝ }
+    requires { ⌜ (1 ≤ v) × (v ≤ p .n) ⌝ }
+    ensures opens { λ r. ⌜ tryOf r ≡ stoppedTry p b v ⌝ }
+    ensures small { λ r. ⌜ Small r ⌝ }
+{
+    let first = full_release(p, 0, v);
+    let second = no_release();
+    Opening {
+        count: 1,
+        first,
+        second,
+        lead: 1,
+        delay: b,
+    }
+}
+
+// On day 1 the string at place k takes the bank from it and blocks.
+pub(crate) fn paying(p: Plan, k: usize, v: usize) -> Opening
+    requires { ⌜ Ready p ⌝ }
+    requires { ⌜ (1 ≤ k) × (k ≤ p .n) ⌝ }
+    requires { ⌜ (1 ≤ v) × (v ≤ p .n) ⌝ }
+    ensures opens { λ r. ⌜ tryOf r ≡ paidTry p k v ⌝ }
+    ensures small { λ r. ⌜ Small r ⌝ }
+{
+    let first = full_release(p, 0, v);
+    let second = full_release(p, 1, k);
+    let strings = p.strings;
+    let taker = strings[k - 1];
+    let delay = longest_hold(p, taker) - 1;
+    Opening {
+        count: 2,
+        first,
+        second,
+        lead: 2,
+        delay,
+    }
+}

@@ -1,0 +1,48 @@
+-- `verdict::growing::first_broken` meets its contract: the pairs below the largest D come first, then those from it on.
+use mathlib.Core.Path.{sym, ap, _∙_}
+use native.Mathlib.Omega.{arith}
+use borrow.Author.Needs.{needs}
+use Rattle.lists.specs.Count.{keep}
+use Rattle.rules.specs.Plan.{multipleOf, dMax}
+use Rattle.growth.specs.Quick.{grows}
+use Rattle.horizon.proofs.Pairs.{rows}
+use Rattle.verdict.specs.Steps.{onward, pairsOf}
+use Rattle.verdict.proofs.Onward.{onward-ended}
+use Rattle.verdict.proofs.growing.first_broken.Statement.{statement}
+use Rattle.verdict.proofs.growing.first_broken.Tie as tie
+
+early-requires : tie.Need-early-requires
+early-requires c κs = search needs
+
+enum-known-found : tie.Need-enum-known-found
+enum-known-found c = search needs
+
+returns : tie.Need-returns
+returns c = sym (onward-ended _ _ _ (c .match .keys2)) ∙ c .before .early .ensures .0
+
+late-requires : tie.Need-late-requires
+unfolding pairsOf
+late-requires c κs =
+    let early = c .before .before .before in
+    let start = early .before in
+    (start .pre .0, (start .pre .1, omega (arith, early .early .ensures .1, ap pairsOf (c .before .found .given .1))))
+
+returns-2 : tie.Need-returns-2
+unfolding onward
+returns-2 c =
+    let found = c .before .before in
+    let early = found .before .before in
+    let p = early .before .args .p in
+    c .late .ensures
+    ∙ sym (ap (λ v. onward p v (keep (grows p) (rows p (dMax p) (multipleOf p)))) (found .found .given .1))
+    ∙ early .early .ensures .0
+
+pub first-broken-spec : {M : Type 1} → statement M
+first-broken-spec =
+    tie.close
+    (tie.spec
+    early-requires
+    enum-known-found
+    returns
+    late-requires
+    returns-2)

@@ -1,0 +1,54 @@
+//! What the clerk may write for a plan, held against the rules.
+
+use super::free::{first_break, releases};
+use crate::rules::frames::read;
+use crate::rules::plan::{Length, Plan};
+use crate::rules::rule::passes;
+use crate::rules::run::{run, Outcome};
+
+/// What the clerk said.
+#[derive(Clone, Copy, PartialEq)]
+pub enum Said {
+    Passes,
+    NoneFound,
+    Found,
+}
+
+/// The most releases that a plan file may have.
+const MOST_RELEASES: u64 = 1_000;
+
+/// What was said for a lawful plan, or why that is wrong.
+pub fn said(plan: &Plan, given: &[u8]) -> Result<Said, &'static str> {
+    let cycle = plan.cycle().ok_or("the plan is not lawful")?;
+    let does_pass = passes(plan, cycle);
+    match given {
+        b"none: the plan passes\n" if does_pass => Ok(Said::Passes),
+        b"none: the plan passes\n" => Err("the plan does not pass"),
+        _ if does_pass => Err("the plan passes"),
+        b"none found\n" => none_found(plan, cycle),
+        text => found(plan, text),
+    }
+}
+
+/// Where the rule with free moving breaks there is a list; it may be too long for a file.
+fn none_found(plan: &Plan, cycle: Length) -> Result<Said, &'static str> {
+    match first_break(plan, cycle) {
+        Some(pair) if releases(plan, pair) <= MOST_RELEASES => Err("there is a list"),
+        _ => Ok(Said::NoneFound),
+    }
+}
+
+/// A plan file with the same strings, N raised or kept, and releases that miss.
+fn found(plan: &Plan, text: &[u8]) -> Result<Said, &'static str> {
+    let shown = read(text).map_err(|_| "no lawful plan file was written")?;
+    if shown.strings != plan.strings {
+        return Err("other strings were written");
+    }
+    if shown.days < plan.days {
+        return Err("N was lowered");
+    }
+    match run(&shown) {
+        Outcome::Miss { .. } => Ok(Said::Found),
+        Outcome::Clean { .. } => Err("the run does not miss"),
+    }
+}

@@ -1,0 +1,6 @@
+//! Releases that miss: what the clerk writes for plans that do not pass, and what can miss at all.
+
+pub mod ask;
+mod check;
+mod free;
+mod plans;
