@@ -1,5 +1,4 @@
-// Releases that make a plan miss a deadline: the list of the theorem where the rule with free moving breaks, and lists in which a taker
-// pays.
+// Releases that make a plan miss a deadline: the theorem's list where the rule with free moving breaks, and lists in which a taker pays.
 mod free;
 mod listing;
 mod openings;
