@@ -1,0 +1,2 @@
+pub mod Easing
+pub mod Permission
