@@ -23,6 +23,7 @@ pub(crate) fn miss(command: &[u8]) {
         Missed::Refused { fault, at } => say::refused(fault, at),
         Missed::Passes => say::answer(b"none: the plan passes\n"),
         Missed::NoneFound => say::answer(b"none found\n"),
+        Missed::TooMany => say::answer(b"none of at most 1000 releases\n"),
         Missed::Text { length } => say::answer(first(&page, length)),
     }
 }
