@@ -12,6 +12,7 @@ use crate::saving::{into_page, saved, written, Page};
 use crate::showing::shown;
 use crate::turning::turned;
 use crate::writing::{self, Version};
+use crate::wrong::{self, Mistake};
 
 /// The names of the cases that do not come out as the document says.
 pub fn wrong_cases() -> Vec<&'static str> {
@@ -26,6 +27,8 @@ pub fn wrong_cases() -> Vec<&'static str> {
         turnings(),
         showings(),
         dates(),
+        beside_dates(),
+        mistakes(),
     ]
     .concat();
     cases
@@ -374,6 +377,61 @@ fn dates() -> Cases {
         (
             "gaps of 30 June, edition 2",
             gaps(&calendar, "06-30", "2") == [365, 366],
+        ),
+    ]
+}
+
+/// What is said beside an empty list.
+fn beside_dates() -> Cases {
+    let calendar = Calendar::new();
+    let says = |words: &str, line: &str| {
+        let words: Vec<String> = words.split(' ').map(str::to_string).collect();
+        calendar.beside(&words) == line
+    };
+    vec![
+        (
+            "the next 29 February",
+            says(
+                "yearly 02-29 1 2025-01-01 2027-12-31",
+                "clerk: none; the next is 2028-02-29\n",
+            ),
+        ),
+        (
+            "no other 29 February",
+            says(
+                "yearly 02-29 1 2397-01-01 2399-12-31",
+                "clerk: none; there is none up to 2399-12-31\n",
+            ),
+        ),
+        ("a list", says("yearly 02-29 1 2024-01-01 2027-12-31", "")),
+        ("a refusal", says("yearly 02-30 1 2024-01-01 2027-12-31", "")),
+    ]
+}
+
+/// The sample with its X the other way round, to whoever reads X as "may be interrupted": all as on the page with X the right way round, but that
+/// nobody blocks, so that there are 19 pairs. Worked out by hand.
+fn mistakes() -> Cases {
+    const TURNED: &[u8] = b"010102000100000014\n0200000a00030005\n0201000a0005000a\n\
+        0302000000000005\n0301000000010003\n";
+    let says = |mistake, text: &[u8], lines: &str| {
+        wrong::answer(mistake, text).to_string() == lines
+    };
+    vec![
+        (
+            "who is interrupted",
+            says(
+                Mistake::WhoIsInterrupted,
+                TURNED,
+                "verdict pass pairs 19\nassign 2\nrun clean work 8 move 1 idle 11\n",
+            ),
+        ),
+        (
+            "who is interrupted, the sample",
+            says(
+                Mistake::WhoIsInterrupted,
+                SAMPLE,
+                "verdict fail interval 5 blocking 3 demand 6 pairs 8\nassign 2\nrun miss day 6 place 1\n",
+            ),
         ),
     ]
 }

@@ -110,6 +110,8 @@ fn all_said(asked: &Asked, folder: &Path, plans: &[Plan]) -> io::Result<Result<V
     fs::write(folder.join("commands"), commands)?;
     let output = ask(&asked.clerk, folder, &["each", "commands"])?;
     let mut rest = output.stdout.as_slice();
+    let reasons = String::from_utf8_lossy(&output.stderr).into_owned();
+    let mut reasons = reasons.lines();
     let mut all = Vec::new();
     for (number, plan) in plans.iter().enumerate() {
         let wrong = |what: &str| {
@@ -127,12 +129,21 @@ fn all_said(asked: &Asked, folder: &Path, plans: &[Plan]) -> io::Result<Result<V
             }
             None => return wrong("the command was not repeated"),
         };
-        match said(plan, answer) {
+        // where nothing is written, the next line of standard error says why
+        let reason = if answer.is_empty() {
+            Some(reasons.next().unwrap_or(""))
+        } else {
+            None
+        };
+        match said(plan, answer, reason) {
             Ok(one) => all.push(one),
             Err(what) => return wrong(what),
         }
     }
-    Ok(Ok(all))
+    match reasons.next() {
+        Some(more) => Ok(Err(format!("clerk miss said more: {more}"))),
+        None => Ok(Ok(all)),
+    }
 }
 
 fn command(number: usize) -> String {

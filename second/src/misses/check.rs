@@ -17,16 +17,17 @@ pub enum Said {
 /// The most releases that a plan file may have.
 const MOST_RELEASES: u64 = 1_000;
 
-/// What was said for a lawful plan, or why that is wrong.
-pub fn said(plan: &Plan, given: &[u8]) -> Result<Said, &'static str> {
+/// What was said for a lawful plan, a plan file or else the reason for none, or why that is wrong.
+pub fn said(plan: &Plan, given: &[u8], reason: Option<&str>) -> Result<Said, &'static str> {
     let cycle = plan.cycle().ok_or("the plan is not lawful")?;
     let does_pass = passes(plan, cycle);
-    match given {
-        b"none: the plan passes\n" if does_pass => Ok(Said::Passes),
-        b"none: the plan passes\n" => Err("the plan does not pass"),
+    match reason {
+        Some("clerk: none: the plan passes") if does_pass => Ok(Said::Passes),
+        Some("clerk: none: the plan passes") => Err("the plan does not pass"),
         _ if does_pass => Err("the plan passes"),
-        b"none found\n" => none_found(plan, cycle),
-        text => found(plan, text),
+        Some("clerk: none found") => none_found(plan, cycle),
+        Some(_) => Err("no reason for none"),
+        None => found(plan, given),
     }
 }
 
