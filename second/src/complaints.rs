@@ -9,12 +9,24 @@ const COMPLAINTS: [(&[&str], &str); 22] = [
     (&[], "no word; clerk help lists them"),
     (&["xyz"], "no word xyz; clerk help lists them"),
     (&["xyz", "x.plan"], "no word xyz; clerk help lists them"),
-    (&["save", "x.plan", "7"], "save [FILE], or save FILE SIZE PLACE"),
+    (
+        &["save", "x.plan", "7"],
+        "save [FILE], or save FILE SIZE PLACE",
+    ),
     (&["save", "x.plan"], "cannot read x.plan: no such file"),
-    (&["save", "x.plan", "65536", "0"], "cannot read x.plan: no such file"),
+    (
+        &["save", "x.plan", "65536", "0"],
+        "cannot read x.plan: no such file",
+    ),
     (&["save", "."], "cannot read .: a folder"),
-    (&["save", "x.plan", "65537", "0"], "65537 is no size of a page: 0 to 65536"),
-    (&["save", "x.plan", "1e3", "0"], "1e3 is no size of a page: 0 to 65536"),
+    (
+        &["save", "x.plan", "65537", "0"],
+        "65537 is no size of a page: 0 to 65536",
+    ),
+    (
+        &["save", "x.plan", "1e3", "0"],
+        "1e3 is no size of a page: 0 to 65536",
+    ),
     (
         &["save", "x.plan", "9", "18446744073709551616"],
         "18446744073709551616 is no place in a page: 0 or more",

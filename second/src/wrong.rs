@@ -60,11 +60,6 @@ pub fn answer(mistake: Mistake, text: &[u8]) -> Answer {
 fn answer_for(mistake: Mistake, plan: &Plan) -> Answer {
     let cycle = plan.cycle().expect("a plan that was read has H in bounds");
     let rule = rule(mistake);
-    let policy = Policy {
-        starts_early: mistake == Mistake::StartEarly,
-        stopped_pays: mistake == Mistake::StoppedPays,
-        x_is_interrupted: mistake == Mistake::WhoIsInterrupted,
-    };
     let set = if mistake == Mistake::OneByOne {
         switched_on(plan, cycle)
     } else {
@@ -73,11 +68,19 @@ fn answer_for(mistake: Mistake, plan: &Plan) -> Answer {
     Answer::Given {
         verdict: verdict_by(&rule, plan, cycle),
         set,
-        outcome: run_by(policy, plan),
+        outcome: run_by(policy(mistake), plan),
     }
 }
 
-fn rule(mistake: Mistake) -> Rule {
+pub fn policy(mistake: Mistake) -> Policy {
+    Policy {
+        starts_early: mistake == Mistake::StartEarly,
+        stopped_pays: mistake == Mistake::StoppedPays,
+        x_is_interrupted: mistake == Mistake::WhoIsInterrupted,
+    }
+}
+
+pub fn rule(mistake: Mistake) -> Rule {
     match mistake {
         Mistake::Equation7 => Rule {
             blocker: |_, string| string.c,

@@ -130,7 +130,9 @@ pub fn all_breaks(plan: &Plan, cycle: Length) -> Vec<(Length, Length, Length)> {
             .map(|blocking| (interval, blocking, demand(plan, interval, blocking)))
             .find(|(_, _, demand)| *demand > interval)
     };
-    (1..=(PAGE.last)(plan, cycle)).filter_map(first_at).collect()
+    (1..=(PAGE.last)(plan, cycle))
+        .filter_map(first_at)
+        .collect()
 }
 
 /// The jobs of a string that can be released and due in a window of so many days.
