@@ -26,7 +26,7 @@ const LAST: u32 = 146096;
 // A date's text has so many bytes.
 const DATE_BYTES: usize = 10;
 
-// `date_line` looks at the text itself and may refuse it.
+// The line would say by itself that there is no such date; how the command ended is asked for too.
 pub(crate) fn date(command: &[u8]) -> u8 {
     if word_count(command) != 2 {
         return say::complain(b"date YYYY-MM-DD");

@@ -10,7 +10,8 @@ use rules::Plan;
 use rules::Reading;
 use rules::Releases;
 
-// A plan file that was opened. `end` is ANSWERED where it holds a lawful plan, and the answer is still to be given; else it has been given, and ended so.
+// A plan file that was opened. Where `end` is ANSWERED it holds a lawful plan, and the answer is still to be given; else that has been
+// given, and ended so.
 pub(crate) struct Opened {
     pub(crate) end: u8,
     pub(crate) plan: Plan,

@@ -80,7 +80,7 @@ pub(crate) fn complain(what: &[u8]) -> u8 {
     complain_of(what, b"", b"")
 }
 
-// Why nothing is written, where that is no list of days.
+// Why nothing is written: there is no such plan file. Standard output stays empty, since the next program would read a reason as a plan.
 pub(crate) fn nothing(why: &[u8]) -> u8 {
     say(why, b"", b"");
     REFUSED
