@@ -5,14 +5,13 @@ use crate::stop::Stop;
 use std::path::Path;
 
 /// The words of a start, and what has to be said. There is no file of these names.
-const COMPLAINTS: [(&[&str], &str); 25] = [
+const COMPLAINTS: [(&[&str], &str); 22] = [
     (&[], "no word; clerk help lists them"),
     (&["xyz"], "no word xyz; clerk help lists them"),
     (&["xyz", "x.plan"], "no word xyz; clerk help lists them"),
-    (&["save"], "save FILE, or save FILE SIZE PLACE"),
     (
         &["save", "x.plan", "7"],
-        "save FILE, or save FILE SIZE PLACE",
+        "save [FILE], or save FILE SIZE PLACE",
     ),
     (&["save", "x.plan"], "cannot read x.plan: no such file"),
     (
@@ -32,19 +31,17 @@ const COMPLAINTS: [(&[&str], &str); 25] = [
         &["save", "x.plan", "9", "18446744073709551616"],
         "18446744073709551616 is no place in a page: 0 or more",
     ),
-    (&["quick"], "quick FILE"),
-    (&["quick", "x.plan", "7"], "quick FILE"),
+    (&["quick", "x.plan", "7"], "quick [FILE]"),
     (&["quick", "x.plan"], "cannot read x.plan: no such file"),
-    (&["miss"], "miss FILE"),
-    (&["miss", "x.plan", "7"], "miss FILE"),
+    (&["miss", "x.plan", "7"], "miss [FILE]"),
     (&["miss", "x.plan"], "cannot read x.plan: no such file"),
-    (&["show"], "show FILE"),
-    (&["show", "x.plan", "7"], "show FILE"),
+    (&["show", "x.plan", "7"], "show [FILE]"),
     (&["show", "x.plan"], "cannot read x.plan: no such file"),
-    (&["to-02"], "to-02 FILE"),
-    (&["to-01", "x.plan", "7"], "to-01 FILE"),
+    (&["to-02", "x.plan", "7"], "to-02 [FILE]"),
+    (&["to-01", "x.plan", "7"], "to-01 [FILE]"),
     (&["to-02", "x.plan"], "cannot read x.plan: no such file"),
     (&["to-01", "x.plan"], "cannot read x.plan: no such file"),
+    (&["each", "x", "y"], "each [COMMANDS]"),
     (&["each", "x"], "cannot read x: no such file"),
 ];
 

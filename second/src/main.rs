@@ -29,12 +29,16 @@ use calendar::ask::{first_difference, print_all, Asked};
 use compare::compare_all;
 use options::{task, Comparison, Task, USAGE};
 use rules::answer::Answer;
-use rules::frames::read;
+use rules::frames::{read, Refusal};
+use rules::plan::Plan;
+use rules::rule::{all_breaks, PAGE};
 use std::io::{ErrorKind, Write};
 use std::path::Path;
 use std::process::ExitCode;
 use stop::Stop;
 
+/// Status where a plan file is refused.
+const REFUSED: u8 = 1;
 /// Status where nothing could be compared.
 const UNABLE: u8 = 2;
 
@@ -42,7 +46,8 @@ fn main() -> ExitCode {
     match task(std::env::args().skip(1)) {
         Some(Task::Compare(job)) => run_comparison(&job),
         Some(Task::Answer(path)) => show_answer(&path, Answer::of_text),
-        Some(Task::Days(path)) => show_days(&path),
+        Some(Task::Days(path)) => show_plan(&path, board::days),
+        Some(Task::Breaks(path)) => show_plan(&path, breaks),
         Some(Task::Wrong(mistake, path)) => show_answer(&path, |text| wrong::answer(mistake, text)),
         Some(Task::Selftest) => run_selftest(),
         Some(Task::Calendar) => show_calendar(),
@@ -79,28 +84,47 @@ fn run_comparison(job: &Comparison) -> ExitCode {
 }
 
 fn show_answer(path: &Path, answer: impl Fn(&[u8]) -> Answer) -> ExitCode {
+    show(path, |text| match answer(text) {
+        Answer::Refused(refusal) => Err(refusal),
+        given => Ok(given.to_string()),
+    })
+}
+
+fn show_plan(path: &Path, lines: impl Fn(&Plan) -> String) -> ExitCode {
+    show(path, |text| read(text).map(|plan| lines(&plan)))
+}
+
+/// What is said of a plan file, or its refusal.
+fn show(path: &Path, said: impl Fn(&[u8]) -> Result<String, Refusal>) -> ExitCode {
     match std::fs::read(path) {
-        Ok(text) => shown(&answer(&text).to_string()),
+        Ok(text) => match said(&text) {
+            Ok(lines) => shown(&lines, ExitCode::SUCCESS),
+            Err(refusal) => shown(
+                &Answer::Refused(refusal).to_string(),
+                ExitCode::from(REFUSED),
+            ),
+        },
         Err(error) => unable(&format!("{}: {error}", path.display())),
     }
 }
 
 /// Written at once; a reader who has seen enough and went away, as `head` does, is no fault.
-fn shown(lines: &str) -> ExitCode {
+fn shown(lines: &str, status: ExitCode) -> ExitCode {
     match std::io::stdout().write_all(lines.as_bytes()) {
         Err(error) if error.kind() != ErrorKind::BrokenPipe => unable(&error.to_string()),
-        _ => ExitCode::SUCCESS,
+        _ => status,
     }
 }
 
-fn show_days(path: &Path) -> ExitCode {
-    match std::fs::read(path) {
-        Ok(text) => match read(&text) {
-            Ok(plan) => shown(&board::days(&plan)),
-            Err(refusal) => shown(&Answer::Refused(refusal).to_string()),
-        },
-        Err(error) => unable(&format!("{}: {error}", path.display())),
+/// A line for each interval that breaks the rule, and how many intervals were compared.
+fn breaks(plan: &Plan) -> String {
+    let cycle = plan.cycle().expect("a plan that was read has H in bounds");
+    let mut lines = String::new();
+    for (interval, blocking, demand) in all_breaks(plan, cycle) {
+        lines += &format!("interval {interval} blocking {blocking} demand {demand}\n");
     }
+    lines += &format!("intervals 1 to {}\n", (PAGE.last)(plan, cycle));
+    lines
 }
 
 fn run_selftest() -> ExitCode {

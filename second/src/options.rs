@@ -11,7 +11,8 @@ pub const USAGE: &str =
        second --clerk PATH [--about save|quick|show|turn] [--files N] [--seed S] [--batch B] [--keep DIR] [--tally]
        second --answer FILE
        second --days FILE
-       second --wrong equation-7|one-by-one|stop-at-dmax|load-equal-to-h|start-early|stopped-pays FILE
+       second --breaks FILE
+       second --wrong equation-7|one-by-one|stop-at-dmax|load-equal-to-h|start-early|stopped-pays|one-week|who-is-interrupted FILE
        second --calendar
        second --misses CLERK [--plans N] [--small M] [--seed S]
        second --dates [--ask CLERK] [--questions N] [--seed S]
@@ -21,6 +22,7 @@ pub enum Task {
     Compare(Comparison),
     Answer(PathBuf),
     Days(PathBuf),
+    Breaks(PathBuf),
     Wrong(Mistake, PathBuf),
     Selftest,
     Calendar,
@@ -89,6 +91,7 @@ pub fn task(mut words: impl Iterator<Item = String>) -> Option<Task> {
         match word.as_str() {
             "--answer" => return words.next().map(|path| Task::Answer(path.into())),
             "--days" => return words.next().map(|path| Task::Days(path.into())),
+            "--breaks" => return words.next().map(|path| Task::Breaks(path.into())),
             "--wrong" => return Some(Task::Wrong(value(&mut words)?, value(&mut words)?)),
             "--selftest" => return Some(Task::Selftest),
             "--calendar" => return Some(Task::Calendar),

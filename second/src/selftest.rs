@@ -1,17 +1,21 @@
 //! The plans whose answers document 01 gives, with document 02's blocking limit (W-205), and its dates.
 
 use crate::calendar::answer::Calendar;
+use crate::chance::Chance;
+use crate::misses::plans::any_small_plan;
 use crate::rules::answer::Answer;
+use crate::rules::every_list::can_miss_by;
 use crate::rules::frames::{read, Refusal};
 use crate::rules::plan::{BatteryString, Plan, Release};
 use crate::rules::quick::quick;
-use crate::rules::rule::{verdict, Verdict};
+use crate::rules::rule::{passes_by, verdict, Verdict};
 use crate::rules::run::{run, Outcome};
 use crate::rules::search::search;
 use crate::saving::{into_page, saved, written, Page};
 use crate::showing::shown;
 use crate::turning::turned;
 use crate::writing::{self, Version};
+use crate::wrong::{self, Mistake};
 
 /// The names of the cases that do not come out as the document says.
 pub fn wrong_cases() -> Vec<&'static str> {
@@ -26,6 +30,8 @@ pub fn wrong_cases() -> Vec<&'static str> {
         turnings(),
         showings(),
         dates(),
+        beside_dates(),
+        mistakes(),
     ]
     .concat();
     cases
@@ -376,6 +382,76 @@ fn dates() -> Cases {
             gaps(&calendar, "06-30", "2") == [365, 366],
         ),
     ]
+}
+
+/// What is said beside an empty list.
+fn beside_dates() -> Cases {
+    let calendar = Calendar::new();
+    let says = |words: &str, line: &str| {
+        let words: Vec<String> = words.split(' ').map(str::to_string).collect();
+        calendar.beside(&words) == line
+    };
+    vec![
+        (
+            "the next 29 February",
+            says(
+                "yearly 02-29 1 2025-01-01 2027-12-31",
+                "clerk: none; the next is 2028-02-29\n",
+            ),
+        ),
+        (
+            "no other 29 February",
+            says(
+                "yearly 02-29 1 2397-01-01 2399-12-31",
+                "clerk: none; there is none up to 2399-12-31\n",
+            ),
+        ),
+        ("a list", says("yearly 02-29 1 2024-01-01 2027-12-31", "")),
+        (
+            "a refusal",
+            says("yearly 02-30 1 2024-01-01 2027-12-31", ""),
+        ),
+    ]
+}
+
+/// The sample with its X the other way round, to whoever reads X as "may be interrupted": all as on the page with X the right way round, but that
+/// nobody blocks, so that there are 19 pairs. Worked out by hand.
+fn mistakes() -> Cases {
+    const TURNED: &[u8] = b"010102000100000014\n0200000a00030005\n0201000a0005000a\n\
+        0302000000000005\n0301000000010003\n";
+    let says =
+        |mistake, text: &[u8], lines: &str| wrong::answer(mistake, text).to_string() == lines;
+    vec![
+        (
+            "who is interrupted",
+            says(
+                Mistake::WhoIsInterrupted,
+                TURNED,
+                "verdict pass pairs 19\nassign 2\nrun clean work 8 move 1 idle 11\n",
+            ),
+        ),
+        (
+            "who is interrupted, the sample",
+            says(
+                Mistake::WhoIsInterrupted,
+                SAMPLE,
+                "verdict fail interval 5 blocking 3 demand 6 pairs 8\nassign 2\nrun miss day 6 place 1\n",
+            ),
+        ),
+        ("who is interrupted, rule and run", rule_and_run_agree()),
+    ]
+}
+
+/// The rule that follows from reading X as "may be interrupted" is one for the run that follows from it: a small plan that passes so misses so for no
+/// list of releases.
+fn rule_and_run_agree() -> bool {
+    const PLANS: u64 = 300;
+    let mistake = Mistake::WhoIsInterrupted;
+    (0..PLANS).all(|number| {
+        let plan = any_small_plan(&mut Chance::new(1, number));
+        let does_pass = |cycle| passes_by(&wrong::rule(mistake), &plan, cycle);
+        !plan.cycle().map_or(false, does_pass) || !can_miss_by(wrong::policy(mistake), &plan)
+    })
 }
 
 /// The gaps in days between successive days of a yearly test, each once, the smallest first.

@@ -2,13 +2,13 @@
 
 use crate::rules::answer::Answer;
 use crate::rules::frames::read;
-use crate::rules::plan::{Length, Plan};
+use crate::rules::plan::{BatteryString, Length, Plan};
 use crate::rules::rule::{blocking_limit, demand, passes, verdict_by, Rule, PAGE};
 use crate::rules::run::{run_by, Policy};
 use crate::rules::search::search_by;
 use std::str::FromStr;
 
-/// The mistakes of document 01, "Where planners go wrong".
+/// The mistakes of document 01, "Where planners go wrong", and those of plans/LESSONS.md.
 #[derive(Clone, Copy, PartialEq)]
 pub enum Mistake {
     /// Equation 7 as printed: the blocker's work alone.
@@ -21,16 +21,24 @@ pub enum Mistake {
     LoadEqualToH,
     StartEarly,
     StoppedPays,
+    /// Seven days are compared.
+    OneWeek,
+    /// X is read as "may be interrupted".
+    WhoIsInterrupted,
 }
 
-const NAMES: [(&str, Mistake); 6] = [
+const NAMES: [(&str, Mistake); 8] = [
     ("equation-7", Mistake::Equation7),
     ("one-by-one", Mistake::OneByOne),
     ("stop-at-dmax", Mistake::StopAtDmax),
     ("load-equal-to-h", Mistake::LoadEqualToH),
     ("start-early", Mistake::StartEarly),
     ("stopped-pays", Mistake::StoppedPays),
+    ("one-week", Mistake::OneWeek),
+    ("who-is-interrupted", Mistake::WhoIsInterrupted),
 ];
+
+const WEEK: Length = 7;
 
 impl FromStr for Mistake {
     type Err = ();
@@ -52,10 +60,6 @@ pub fn answer(mistake: Mistake, text: &[u8]) -> Answer {
 fn answer_for(mistake: Mistake, plan: &Plan) -> Answer {
     let cycle = plan.cycle().expect("a plan that was read has H in bounds");
     let rule = rule(mistake);
-    let policy = Policy {
-        starts_early: mistake == Mistake::StartEarly,
-        stopped_pays: mistake == Mistake::StoppedPays,
-    };
     let set = if mistake == Mistake::OneByOne {
         switched_on(plan, cycle)
     } else {
@@ -64,11 +68,19 @@ fn answer_for(mistake: Mistake, plan: &Plan) -> Answer {
     Answer::Given {
         verdict: verdict_by(&rule, plan, cycle),
         set,
-        outcome: run_by(policy, plan),
+        outcome: run_by(policy(mistake), plan),
     }
 }
 
-fn rule(mistake: Mistake) -> Rule {
+pub fn policy(mistake: Mistake) -> Policy {
+    Policy {
+        starts_early: mistake == Mistake::StartEarly,
+        stopped_pays: mistake == Mistake::StoppedPays,
+        x_is_interrupted: mistake == Mistake::WhoIsInterrupted,
+    }
+}
+
+pub fn rule(mistake: Mistake) -> Rule {
     match mistake {
         Mistake::Equation7 => Rule {
             blocker: |_, string| string.c,
@@ -82,7 +94,31 @@ fn rule(mistake: Mistake) -> Rule {
             overloaded: |load, cycle| load >= cycle,
             ..PAGE
         },
+        Mistake::OneWeek => Rule {
+            last: |_, _| WEEK,
+            ..PAGE
+        },
+        Mistake::WhoIsInterrupted => Rule {
+            hold: held_where_others_give_way,
+            // who blocks cannot be interrupted, whoever comes
+            comes_after: |_| false,
+            blocker: |plan, string| match string.x {
+                1 => 0,
+                _ => held_where_others_give_way(plan, string) - 1,
+            },
+            ..PAGE
+        },
         Mistake::OneByOne | Mistake::StartEarly | Mistake::StoppedPays => PAGE,
+    }
+}
+
+/// E to whoever reads X as "may be interrupted": a string moves where some string that is due later gives way.
+fn held_where_others_give_way(plan: &Plan, string: &BatteryString) -> Length {
+    let gives_way = |other: &BatteryString| other.x == 1 && other.d > string.d;
+    if plan.strings.iter().any(gives_way) {
+        string.c + string.moving
+    } else {
+        string.c
     }
 }
 

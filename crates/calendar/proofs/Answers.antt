@@ -1,6 +1,6 @@
 -- Laws of the calendar's answers: which case holds.
 use Prim.Native.Nat.{ℕ, _≤_, _<_}
-use mathlib.Core.Path.{_≡_, sym, ap, _∙_}
+use mathlib.Core.Path.{_≡_, refl, sym, ap, _∙_}
 use mathlib.Core.Logic.{_↔_}
 use mathlib.Core.Bool.{Bool, true, false, _||_}
 use mathlib.Core.List.{List, _++_}
@@ -20,11 +20,15 @@ use Rattle.calendar.specs.declared.WhichDay.the-variants as which-day
 use Rattle.calendar.specs.declared.WhichWeekday.the-variants as which-weekday
 use Rattle.calendar.specs.declared.YearlyDate.{YearlyDate}
 use Rattle.calendar.specs.declared.Listed.the-variants as listed
-use Rattle.calendar.specs.Dates.{dateExists}
-use Rattle.calendar.specs.Numbers.{dayNumber, dateOf, lastDay}
+use Rattle.lists.specs.Count.{sumOf, upFrom}
+use Rattle.calendar.specs.declared.Weekday.the-variants.{Saturday}
+use Rattle.calendar.specs.Years.{leapYear, monthsWith, monthLengths, monthLength}
+use Rattle.calendar.specs.Dates.{epoch, dateExists}
+use Rattle.calendar.specs.Numbers.{daysBeforeYear, daysBeforeMonth, dayNumber, dateOf, lastDay}
 use Rattle.calendar.specs.Weekdays.{weekdayOf}
 use Rattle.calendar.specs.Yearly.{noEdition, onLeapDay, inNoYear, yearlyDays}
 use Rattle.calendar.specs.Refusals.{dateAnswer, dayAnswer, weekdayAnswer, yearlyCheck, listedIf, storedIf, yearlyAnswer, yearlyListed}
+use Rattle.calendar.specs.Said.{Said, refused, days, dateSays, daySays, weekdaySays, listedSays}
 use Rattle.calendar.proofs.BothWays.{dateOf-exists, dayNumber-dateOf, dayNumber-in-range, dateOf-dayNumber}
 use Rattle.calendar.proofs.Editions.{editions-agree}
 
@@ -50,7 +54,7 @@ dateAnswer-date k d h =
         (within, same)
 
     outside : dateAnswer k ≡ which-date.Refused NoSuchDate 0 → (k ≤ lastDay) × (d ≡ dateOf k)
-    outside refused = absurd (never (cc))
+    outside is = absurd (never (cc))
 
 pub dateAnswer-exists : (k : ℕ) (d : Date) → dateAnswer k ≡ which-date.Is d → dateExists d ≡ true
 dateAnswer-exists k d h =
@@ -75,7 +79,7 @@ dayAnswer-day d k h = by-bool (dateExists d) (λ t. there t (dayAnswer-is d t)) 
         (t, same)
 
     none : dayAnswer d ≡ which-day.Refused NoSuchDate 0 → (dateExists d ≡ true) × (k ≡ day (dayNumber d))
-    none refused = absurd (never (cc))
+    none is = absurd (never (cc))
 
 -- there and back, and back and there
 pub day-and-back : (k : ℕ) (d : Date) → dateAnswer k ≡ which-date.Is d → dayAnswer d ≡ which-day.Is (day k)
@@ -100,7 +104,56 @@ pub weekdayAnswer-refused : (d : Date) → dateExists d ≡ false → weekdayAns
 unfolding weekdayAnswer
 weekdayAnswer-refused d h = rw h
 
+-- 10 with 0 exactly for a day outside the range, and for a date that does not exist
+pub date-ten-exactly : (k : ℕ) → (dateSays (dateAnswer k) ≡ refused 10 0) ↔ (lastDay < k)
+date-ten-exactly k = (only, λ over. ap dateSays (dateAnswer-refused k over))
+  where
+    only : dateSays (dateAnswer k) ≡ refused 10 0 → lastDay < k
+    only h =
+        elim (decLe k lastDay) [
+          | yes within ↦
+              let said = sym (ap dateSays (dateAnswer-is k within)) ∙ h in
+              absurd (never (cc))
+          | no over ↦ omega arith
+        ]
+
+module _ (d : Date) where
+  pub day-ten-exactly : (daySays (dayAnswer d) ≡ refused 10 0) ↔ (dateExists d ≡ false)
+  day-ten-exactly = (only, λ none. ap daySays (dayAnswer-refused d none))
+    where
+      only : daySays (dayAnswer d) ≡ refused 10 0 → dateExists d ≡ false
+      only h =
+          by-bool (dateExists d) (λ there.
+          let said = sym (ap daySays (dayAnswer-is d there)) ∙ h in
+          absurd (never (cc))) (λ none. none)
+
+  pub weekday-ten-exactly : (weekdaySays (weekdayAnswer d) ≡ refused 10 0) ↔ (dateExists d ≡ false)
+  weekday-ten-exactly = (only, λ none. ap weekdaySays (weekdayAnswer-refused d none))
+    where
+      only : weekdaySays (weekdayAnswer d) ≡ refused 10 0 → dateExists d ≡ false
+      only h =
+          by-bool (dateExists d) (λ there.
+          let said = sym (ap weekdaySays (weekdayAnswer-is d there)) ∙ h in
+          absurd (never (cc))) (λ none. none)
+
+-- the epoch is day 0, day 0 is the epoch, and it is a Saturday
+pub epoch-answers : (dayAnswer epoch ≡ which-day.Is (day 0)) × (dateAnswer 0 ≡ which-date.Is epoch)
+    × (weekdayAnswer epoch ≡ which-weekday.Is Saturday)
+unfolding
+    dayAnswer dateAnswer weekdayAnswer dateExists dayNumber daysBeforeYear daysBeforeMonth dateOf weekdayOf
+    leapYear monthsWith monthLengths monthLength sumOf upFrom
+epoch-answers = (refl, refl, refl)
+
 -- ---- The yearly list
+
+-- two refusals that are the same have one number, and a list is no refusal
+one-number : (n m : ℕ) → refused n 0 ≡ refused m 0 → (n ≡ m → ⊥) → ⊥
+one-number n m h other =
+    let same : n ≡ m = cc in
+    other same
+
+no-number : (k m : ℕ) → days k ≡ refused m 0 → ⊥
+no-number k m h = never (cc)
 
 module _ (ed : ℕ) (t : YearlyDate) (a e : ℕ) (list : List ℕ) where
   abbrev pub noSuch : Bool
@@ -200,55 +253,53 @@ module _ (ed : ℕ) (t : YearlyDate) (a e : ℕ) (list : List ℕ) where
           let is = yearly-listed known good room .0 in
           absurd (never (cc))
 
+  -- ---- Which number is said
+
+  eleven-said : noEdition ed ≡ true → listedSays (yearlyAnswer ed t a e (length list)) ≡ refused 11 0
+  eleven-said other = ap listedSays (yearly-no-edition other .0)
+
+  ten-said : noEdition ed ≡ false → noSuch ≡ true → listedSays (yearlyAnswer ed t a e (length list)) ≡ refused 10 0
+  ten-said known bad = ap listedSays (yearly-no-such known bad .0)
+
+  nine-said : noEdition ed ≡ false → noSuch ≡ false → length list < length (yearlyDays ed t a e)
+      → listedSays (yearlyAnswer ed t a e (length list)) ≡ refused 9 0
+  nine-said known good few = ap listedSays (yearly-no-room known good few .0)
+
+  all-said : noEdition ed ≡ false → noSuch ≡ false → length (yearlyDays ed t a e) ≤ length list
+      → listedSays (yearlyAnswer ed t a e (length list)) ≡ days (length (yearlyDays ed t a e))
+  all-said known good room = ap listedSays (yearly-listed known good room .0)
+
   -- 11 exactly where the edition is neither 1 nor 2, whatever the dates
-  pub eleven-exactly : (yearlyAnswer ed t a e (length list) ≡ listed.Refused NoSuchEdition 0) ↔ (noEdition ed ≡ true)
-  eleven-exactly = (λ h. by h outcome, λ other. yearly-no-edition other .0)
+  pub eleven-exactly : (listedSays (yearlyAnswer ed t a e (length list)) ≡ refused 11 0) ↔ (noEdition ed ≡ true)
+  eleven-exactly = (λ h. by h outcome, eleven-said)
     where
-      by : yearlyAnswer ed t a e (length list) ≡ listed.Refused NoSuchEdition 0 → Outcome → noEdition ed ≡ true
+      by : listedSays (yearlyAnswer ed t a e (length list)) ≡ refused 11 0 → Outcome → noEdition ed ≡ true
       by h (eleven other) = other
-      by h (ten known bad) =
-          let is = yearly-no-such known bad .0 in
-          absurd (never (cc))
-      by h (nine known good few) =
-          let is = yearly-no-room known good few .0 in
-          absurd (never (cc))
-      by h (all known good room) =
-          let is = yearly-listed known good room .0 in
-          absurd (never (cc))
+      by h (ten known bad) = absurd (one-number 10 11 (sym (ten-said known bad) ∙ h) (omega arith))
+      by h (nine known good few) = absurd (one-number 9 11 (sym (nine-said known good few) ∙ h) (omega arith))
+      by h (all known good room) = absurd (no-number _ 11 (sym (all-said known good room) ∙ h))
 
   -- then 10 exactly where something is no date or outside the range, whatever the room
-  pub ten-exactly : (yearlyAnswer ed t a e (length list) ≡ listed.Refused NoSuchDate 0) ↔ ((noEdition ed ≡ false) × (noSuch ≡ true))
-  ten-exactly = (λ h. by h outcome, λ p. yearly-no-such (p .0) (p .1) .0)
+  pub ten-exactly : (listedSays (yearlyAnswer ed t a e (length list)) ≡ refused 10 0) ↔ ((noEdition ed ≡ false) × (noSuch ≡ true))
+  ten-exactly = (λ h. by h outcome, λ p. ten-said (p .0) (p .1))
     where
-      by : yearlyAnswer ed t a e (length list) ≡ listed.Refused NoSuchDate 0 → Outcome → (noEdition ed ≡ false) × (noSuch ≡ true)
-      by h (eleven other) =
-          let is = yearly-no-edition other .0 in
-          absurd (never (cc))
+      by : listedSays (yearlyAnswer ed t a e (length list)) ≡ refused 10 0 → Outcome → (noEdition ed ≡ false) × (noSuch ≡ true)
+      by h (eleven other) = absurd (one-number 11 10 (sym (eleven-said other) ∙ h) (omega arith))
       by h (ten known bad) = (known, bad)
-      by h (nine known good few) =
-          let is = yearly-no-room known good few .0 in
-          absurd (never (cc))
-      by h (all known good room) =
-          let is = yearly-listed known good room .0 in
-          absurd (never (cc))
+      by h (nine known good few) = absurd (one-number 9 10 (sym (nine-said known good few) ∙ h) (omega arith))
+      by h (all known good room) = absurd (no-number _ 10 (sym (all-said known good room) ∙ h))
 
   -- then 9 exactly where the days do not fit
-  pub nine-exactly : (yearlyAnswer ed t a e (length list) ≡ listed.Refused NoRoom 0)
+  pub nine-exactly : (listedSays (yearlyAnswer ed t a e (length list)) ≡ refused 9 0)
       ↔ ((noEdition ed ≡ false) × (noSuch ≡ false) × (length list < length (yearlyDays ed t a e)))
-  nine-exactly = (λ h. by h outcome, λ p. yearly-no-room (p .0) (p .1) (p .2) .0)
+  nine-exactly = (λ h. by h outcome, λ p. nine-said (p .0) (p .1) (p .2))
     where
-      by : yearlyAnswer ed t a e (length list) ≡ listed.Refused NoRoom 0 → Outcome
+      by : listedSays (yearlyAnswer ed t a e (length list)) ≡ refused 9 0 → Outcome
           → (noEdition ed ≡ false) × (noSuch ≡ false) × (length list < length (yearlyDays ed t a e))
-      by h (eleven other) =
-          let is = yearly-no-edition other .0 in
-          absurd (never (cc))
-      by h (ten known bad) =
-          let is = yearly-no-such known bad .0 in
-          absurd (never (cc))
+      by h (eleven other) = absurd (one-number 11 9 (sym (eleven-said other) ∙ h) (omega arith))
+      by h (ten known bad) = absurd (one-number 10 9 (sym (ten-said known bad) ∙ h) (omega arith))
       by h (nine known good few) = (known, good, few)
-      by h (all known good room) =
-          let is = yearly-listed known good room .0 in
-          absurd (never (cc))
+      by h (all known good room) = absurd (no-number _ 9 (sym (all-said known good room) ∙ h))
 
 -- of every date but 29 February the editions answer and list the same
 pub answers-agree : (t : YearlyDate) → onLeapDay t ≡ false → (a e : ℕ) (list : List ℕ)

@@ -23,7 +23,7 @@ use year::year_start;
 ghost use mathlib.Core.Path.{_≡_};
 ghost use mathlib.Core.Bool.{true};
 ghost use Prim.Native.Nat.{_≤_};
-ghost use Rattle.calendar.specs.Dates.{dateExists};
+ghost use Rattle.calendar.specs.Dates.{epoch, dateExists};
 ghost use Rattle.calendar.specs.Numbers.{dayNumber, dateOf, lastDay};
 ghost use Rattle.calendar.specs.Weekdays.{weekdayOf};
 ghost use Rattle.calendar.specs.Refusals.{dateAnswer, dayAnswer, weekdayAnswer};
@@ -105,6 +105,13 @@ impl Date {
         month: 1,
         day: 1,
     };
+
+    // The epoch as a value: a contract speaks of what a function gives, and of no constant.
+    pub fn first() -> Date
+        ensures exact { λ r. ⌜ r ≡ epoch ⌝ }
+    {
+        Date::EPOCH
+    }
 
     // The date of a day.
     pub fn from_day(day: Day) -> WhichDate

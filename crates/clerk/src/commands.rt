@@ -100,13 +100,13 @@ fn wide(b: u8) -> u64 {
     b as u64
 }
 
-// The words of this start, after the program's own name, in lent room; their length, or 0 where one is empty or there is too little room.
-pub(crate) fn taken(room: &mut [u8]) -> usize
+// The words of this start from the `from`-th on, in lent room; their length, or 0 where one is empty or there is too little room.
+pub(crate) fn taken(from: usize, room: &mut [u8]) -> usize
     ensures { λ r. ⌜ Counts r (now (room .exit)) ⌝ }
 {
     let count = os::arg_count();
     let mut at: usize = 0;
-    let mut i: usize = 1;
+    let mut i = from;
     while i < count {
         let n = os::arg(i, &mut room[at..]);
         if n == 0 {

@@ -1,4 +1,7 @@
-// Files by name.
+// Files by name, and standard input.
+use super::commands::same;
+use super::commands::word;
+use super::commands::word_count;
 use super::say::complain_of;
 
 // What was read into lent room, from its start on: how many bytes. Nothing where the file cannot be read to its end or to the room's.
@@ -23,8 +26,28 @@ fn take(fd: i32, room: &mut [u8]) -> Got {
     Got::Bytes { count }
 }
 
-// The bytes of a file, as many as there is room for. A file that cannot be read is named.
-pub(crate) fn read_file(name: &[u8], room: &mut [u8]) -> Got {
+// The bytes of the file that a command names by its second word, as many as there is room for; of standard input where it has no second
+// word, or that is `-`. What cannot be read is named.
+pub(crate) fn read_named(command: &[u8], room: &mut [u8]) -> Got {
+    if word_count(command) < 2 {
+        return read_input(room);
+    }
+    let name = word(command, 1);
+    if same(name, b"-") {
+        return read_input(room);
+    }
+    read_file(name, room)
+}
+
+fn read_input(room: &mut [u8]) -> Got {
+    let got = take(libc::STDIN_FILENO, room);
+    if let Got::Nothing = got {
+        cannot_read(b"standard input");
+    }
+    got
+}
+
+fn read_file(name: &[u8], room: &mut [u8]) -> Got {
     let fd = os::open_read(name);
     if fd < 0 {
         cannot_read(name);

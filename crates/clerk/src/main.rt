@@ -20,21 +20,46 @@ use each::each;
 use say::complain;
 use words::answer;
 
-fn main() {
-    if os::arg_count() < 2 {
-        complain(b"no word; clerk help lists them");
-        return;
+// Whether the first word is empty. It is none of the clerk's then: the command ./clerk starts so and wants the status.
+fn asked_for_status() -> bool {
+    let mut word = [0u8; 1];
+    if os::arg(1, &mut word) != 0 {
+        return false;
+    }
+    os::errno() == 0
+}
+
+// The command that stands in the words from the `from`-th on.
+fn answer_from(from: usize) -> u8 {
+    if os::arg_count() <= from {
+        return complain(b"no word; clerk help lists them");
     }
     let mut room = [0u8; 8192];
-    let n = taken(&mut room);
+    let n = taken(from, &mut room);
     if n == 0 {
-        complain(b"a word is empty or too long");
-        return;
+        return complain(b"a word is empty or too long");
     }
     let command = &room[..n];
     if same(word(command, 0), b"each") {
-        each(command);
+        each(command)
     } else {
-        answer(command);
+        answer(command)
+    }
+}
+
+// An answer that cannot be written is said once.
+fn answer_and_say(from: usize) -> u8 {
+    let end = answer_from(from);
+    if end == say::UNWRITTEN {
+        return complain(b"the answer could not be written");
+    }
+    end
+}
+
+fn main() {
+    if asked_for_status() {
+        say::tell(answer_and_say(2));
+    } else {
+        answer_and_say(1);
     }
 }

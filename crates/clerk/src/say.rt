@@ -1,4 +1,4 @@
-// What the clerk writes: a refusal is an answer, on standard output; a complaint is one line on standard error.
+// What the clerk writes: a refusal is an answer, on standard output; a complaint is one line on standard error. Each says how it ended.
 use faults::Fault;
 use libc::STDERR_FILENO;
 use libc::STDOUT_FILENO;
@@ -7,26 +7,62 @@ use rules::Answer;
 ghost use Prim.Native.Nat.{_≤_};
 ghost use lib.ListN.{length};
 
-pub(crate) fn answer(text: &[u8]) {
-    if !io::write_all(STDOUT_FILENO, text) {
-        complain(b"the answer could not be written");
+// How a command ended; of several the largest. REFUSED is also the end of one that has nothing to write, as no list that misses.
+pub(crate) const ANSWERED: u8 = 0;
+
+pub(crate) const REFUSED: u8 = 1;
+
+pub(crate) const FAILED: u8 = 2;
+
+pub(crate) const UNWRITTEN: u8 = 3;
+
+// Where the status goes: the language has none of its own.
+const STATUS_FILENO: i32 = 3;
+
+// As one digit: what could not be read, understood or written is one status.
+pub(crate) fn tell(end: u8) {
+    if end == ANSWERED {
+        io::write_all(STATUS_FILENO, b"0");
+    } else if end == REFUSED {
+        io::write_all(STATUS_FILENO, b"1");
+    } else {
+        io::write_all(STATUS_FILENO, b"2");
     }
 }
 
-pub(crate) fn answer_page(page: Page)
+pub(crate) fn larger(a: u8, b: u8) -> u8 {
+    if a < b { b } else { a }
+}
+
+pub(crate) fn answer(text: &[u8]) -> u8 {
+    if io::write_all(STDOUT_FILENO, text) {
+        return ANSWERED;
+    }
+    UNWRITTEN
+}
+
+// A line behind others that ended so.
+pub(crate) fn more(end: u8, text: &[u8]) -> u8 {
+    larger(end, answer(text))
+}
+
+pub(crate) fn answer_page(page: Page) -> u8
     requires { ⌜ page .len ≤ length (page .bytes) ⌝ }
 {
     let n = page.len;
     let bytes = page.bytes;
-    answer(&bytes[..n]);
+    answer(&bytes[..n])
 }
 
-pub(crate) fn refused(fault: Fault, at: usize) {
-    answer_page(lines::written(Answer::Refused { fault, at }));
+pub(crate) fn refused(fault: Fault, at: usize) -> u8 {
+    larger(
+        REFUSED,
+        answer_page(lines::written(Answer::Refused { fault, at })),
+    )
 }
 
-// What is wrong, and about which word.
-pub(crate) fn complain_of(what: &[u8], word: &[u8], more: &[u8]) {
+// One line on standard error.
+fn say(what: &[u8], word: &[u8], more: &[u8]) {
     io::write_all(STDERR_FILENO, b"clerk: ");
     io::write_all(STDERR_FILENO, what);
     io::write_all(STDERR_FILENO, word);
@@ -34,6 +70,24 @@ pub(crate) fn complain_of(what: &[u8], word: &[u8], more: &[u8]) {
     io::write_all(STDERR_FILENO, b"\n");
 }
 
-pub(crate) fn complain(what: &[u8]) {
-    complain_of(what, b"", b"");
+// What is wrong, and about which word.
+pub(crate) fn complain_of(what: &[u8], word: &[u8], more: &[u8]) -> u8 {
+    say(what, word, more);
+    FAILED
+}
+
+pub(crate) fn complain(what: &[u8]) -> u8 {
+    complain_of(what, b"", b"")
+}
+
+// Why nothing is written: there is no such plan file. Standard output stays empty, since the next program would read a reason as a plan.
+pub(crate) fn nothing(why: &[u8]) -> u8 {
+    say(why, b"", b"");
+    REFUSED
+}
+
+// Why the list of days is empty; that it is, is the answer.
+pub(crate) fn empty(why: &[u8], day: &[u8]) -> u8 {
+    say(why, day, b"");
+    ANSWERED
 }

@@ -1,26 +1,24 @@
-// `to-02 FILE`, `to-01 FILE`: a plan file of version 01 as version 02, and of version 02 as version 01.
+// `to-02 [FILE]`, `to-01 [FILE]`: a plan file of version 01 as version 02, and of version 02 as version 01.
 use super::commands::first;
-use super::commands::word;
 use super::commands::word_count;
 use super::files::Got;
-use super::files::read_file;
+use super::files::read_named;
 use super::say;
 use writing::Saved;
 
 // Turned into the old version, or into the new one; `wanted` is how the command is to be said.
-pub(crate) fn turn(command: &[u8], old: bool, wanted: &[u8]) {
-    if word_count(command) != 2 {
-        say::complain(wanted);
-        return;
+pub(crate) fn turn(command: &[u8], old: bool, wanted: &[u8]) -> u8 {
+    if 2 < word_count(command) {
+        return say::complain(wanted);
     }
     let mut text = [0u8; 65537];
-    let got = read_file(word(command, 1), &mut text);
+    let got = read_named(command, &mut text);
     let Got::Bytes { count } = got else {
-        return;
+        return say::FAILED;
     };
     let mut page = [0u8; 65536];
     let saved = turned(first(&text, count), &mut page, old);
-    answer_turned(saved, &page);
+    answer_turned(saved, &page)
 }
 
 fn turned(text: &[u8], page: &mut [u8], old: bool) -> Saved {
@@ -31,7 +29,7 @@ fn turned(text: &[u8], page: &mut [u8], old: bool) -> Saved {
 }
 
 // The turned text at the head of the page, or the refusal.
-fn answer_turned(saved: Saved, page: &[u8]) {
+fn answer_turned(saved: Saved, page: &[u8]) -> u8 {
     match saved {
         Saved::Refused { fault, at } => say::refused(fault, at),
         Saved::Text { length } => say::answer(first(page, length)),

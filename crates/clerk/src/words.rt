@@ -11,51 +11,85 @@ use super::say;
 use super::show::show;
 use super::turn::turn;
 
-pub(crate) fn answer(command: &[u8]) {
+pub(crate) fn answer(command: &[u8]) -> u8 {
     let first = word(command, 0);
     if same(first, b"save") {
-        save(command);
+        save(command)
     } else if same(first, b"quick") {
-        quick_verdict(command);
+        quick_verdict(command)
     } else if same(first, b"miss") {
-        miss(command);
+        miss(command)
     } else if same(first, b"show") {
-        show(command);
+        show(command)
     } else if same(first, b"to-02") {
-        turn(command, false, b"to-02 FILE");
+        turn(command, false, b"to-02 [FILE]")
     } else if same(first, b"to-01") {
-        turn(command, true, b"to-01 FILE");
+        turn(command, true, b"to-01 [FILE]")
     } else if same(first, b"date") {
-        date(command);
+        date(command)
     } else if same(first, b"day") {
-        day(command);
+        day(command)
     } else if same(first, b"yearly") {
-        yearly_days(command);
+        yearly_days(command)
     } else if same(first, b"help") {
-        help();
+        help()
     } else if same(first, b"each") {
-        say::complain(b"each stands in no list of commands");
+        say::complain(b"each stands in no list of commands")
     } else {
-        say::complain_of(b"no word ", first, b"; clerk help lists them");
+        say::complain_of(b"no word ", first, b"; clerk help lists them")
     }
 }
 
-fn help() {
-    say::answer(b"date YYYY-MM-DD         the day number and the weekday of a date\n");
-    say::answer(b"day NUMBER              the date and the weekday of a day number\n");
-    say::answer(b"each COMMANDS           answer every line of a file of commands\n");
-    say::answer(b"help                    list the words\n");
-    say::answer(
-        b"miss FILE               write the plan in FILE with releases that make it miss\n",
+fn help() -> u8 {
+    let end = say::answer(b"date YYYY-MM-DD         the day number and the weekday of a date\n");
+    let end = say::more(
+        end,
+        b"day NUMBER              the date and the weekday of a day number\n",
     );
-    say::answer(b"quick FILE              the quick verdict on the plan in FILE\n");
-    say::answer(b"save FILE               write the plan in FILE back\n");
-    say::answer(b"save FILE SIZE PLACE    write it into a page of SIZE bytes, from PLACE on\n");
-    say::answer(b"show FILE               the plan in FILE in decimal words\n");
-    say::answer(b"to-01 FILE              write the version 02 file FILE as version 01\n");
-    say::answer(b"to-02 FILE              write the version 01 file FILE as version 02\n");
-    say::answer(b"yearly MM-DD EDITION FIRST LAST\n");
-    say::answer(
+    let end = say::more(
+        end,
+        b"each [COMMANDS]         answer every line of a file of commands\n",
+    );
+    let end = say::more(end, b"help                    list the words\n");
+    let end = say::more(
+        end,
+        b"miss [FILE]             write the plan in FILE with releases that make it miss a deadline:\n",
+    );
+    let end = say::more(
+        end,
+        b"                        the same strings, new releases, N raised where it must be\n",
+    );
+    let end = say::more(
+        end,
+        b"quick [FILE]            the quick verdict on the plan in FILE\n",
+    );
+    let end = say::more(
+        end,
+        b"save [FILE]             write the plan in FILE back\n",
+    );
+    let end = say::more(
+        end,
+        b"save FILE SIZE PLACE    write it into a page of SIZE bytes, from PLACE on\n",
+    );
+    let end = say::more(
+        end,
+        b"show [FILE]             the plan in FILE in decimal words\n",
+    );
+    let end = say::more(
+        end,
+        b"to-01 [FILE]            write the version 02 file FILE as version 01\n",
+    );
+    let end = say::more(
+        end,
+        b"to-02 [FILE]            write the version 01 file FILE as version 02\n",
+    );
+    let end = say::more(end, b"yearly MM-DD EDITION FIRST LAST\n");
+    let end = say::more(
+        end,
         b"                        the days on which a yearly test falls between two dates\n",
     );
+    say::more(
+        end,
+        b"With no FILE, and for a FILE that is -, standard input is read.\n",
+    )
 }

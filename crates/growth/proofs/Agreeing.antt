@@ -1,5 +1,5 @@
--- The quick verdict agrees with the full one on every plan, apart from its count of pairs: the first pair that is broken is one at which a
--- count grows, so both find it.
+-- The quick verdict agrees with the full one apart from its count of pairs: the first pair that is broken is one at which a count grows, so
+-- both find it. Only that each string is lawful is used: the strings may be any number, H and N any numbers.
 use Prim.Native.Nat.{ℕ}
 use mathlib.Core.Path.{_≡_, refl, sym, ap, _∙_}
 use mathlib.Core.Bool.{true}
@@ -11,14 +11,14 @@ use Rattle.rules.specs.declared.Verdict.{Verdict}
 use Rattle.rules.specs.declared.Verdict.the-variants.{Refused, Overload, Fail, Pass}
 use Rattle.faults.specs.declared.Checked.{Checked}
 use Rattle.faults.specs.declared.Checked.the-variants as checked
-use Rattle.rules.specs.Plan.{dMin}
+use Rattle.rules.specs.Plan.{stringsOf, dMin}
 use Rattle.rules.specs.Demand.{blockLimit, overloaded}
 use Rattle.rules.specs.Verdict.{Pair, allPairs, broken, firstBroken, compared, judged, verdictOf, verdictOver, isPass}
 use Rattle.rules.specs.Search.{withSet}
 use Rattle.rules.specs.Refusal.{planCheck, setCheck, onVerdict, verdictAnswer, setAnswer}
-use Rattle.lists.proofs.Lists.{by-bool}
+use Rattle.lists.proofs.Lists.{All, by-bool}
 use Rattle.lists.proofs.FirstOf.{firstOf-keep}
-use Rattle.laws.proofs.Lawful.{LawfulPlan, planCheck-lawful}
+use Rattle.laws.proofs.Lawful.{LawfulString, planCheck-lawful}
 use Rattle.laws.proofs.Answers.{set-plan}
 use Rattle.horizon.specs.FirstBreak.{FirstBreak}
 use Rattle.horizon.proofs.Verdict.{firstBroken-names}
@@ -42,13 +42,13 @@ break-under p l b first =
       less = first .less;
     }
 
-pub same-break : (p : Plan) → LawfulPlan p → firstBroken p (quickPairs p) ≡ firstBroken p (allPairs p)
+pub same-break : (p : Plan) → All LawfulString (stringsOf p) → firstBroken p (quickPairs p) ≡ firstBroken p (allPairs p)
 unfolding quickPairs
-same-break p ok = firstOf-keep (broken p) (grows p) (allPairs p) kept
+same-break p each = firstOf-keep (broken p) (grows p) (allPairs p) kept
   where
     kept : (q : Pair) → firstBroken p (allPairs p) ≡ some q → grows p q ≡ true
     kept q h =
-        first-grows p ok (blockLimit p) (dMin p) (early-no-jobs p) (limit-fits p) (q .l) (q .b)
+        first-grows p each (blockLimit p) (dMin p) (early-no-jobs p) (limit-fits p) (q .l) (q .b)
         (break-under p (q .l) (q .b) (firstBroken-names p (q .l) (q .b) h))
 
 -- ---- The same verdict
@@ -68,8 +68,8 @@ module _ (p : Plan) where
       (λ t. rw t)
       (λ e. rw (e, same) (judged-apart (firstBroken p rs) (length (compared p qs)) (length (compared p rs))))
 
-pub quick-agrees : (p : Plan) → LawfulPlan p → apartFromPairs (quickOf p) ≡ apartFromPairs (verdictOf p)
-quick-agrees p ok = verdictOver-apart p (quickPairs p) (allPairs p) (same-break p ok)
+pub quick-agrees : (p : Plan) → All LawfulString (stringsOf p) → apartFromPairs (quickOf p) ≡ apartFromPairs (verdictOf p)
+quick-agrees p each = verdictOver-apart p (quickPairs p) (allPairs p) (same-break p each)
 
 -- whether it is a pass does not depend on the count
 isPass-apart : (v : Verdict) → isPass (apartFromPairs v) ≡ isPass v
@@ -80,8 +80,8 @@ isPass-apart (Fail l b d k) = refl
 isPass-apart (Pass k) = refl
 
 -- the quick verdict passes exactly the plans that the full one passes
-pub quick-passes : (p : Plan) → LawfulPlan p → isPass (quickOf p) ≡ isPass (verdictOf p)
-quick-passes p ok = sym (isPass-apart (quickOf p)) ∙ ap isPass (quick-agrees p ok) ∙ isPass-apart (verdictOf p)
+pub quick-passes : (p : Plan) → All LawfulString (stringsOf p) → isPass (quickOf p) ≡ isPass (verdictOf p)
+quick-passes p each = sym (isPass-apart (quickOf p)) ∙ ap isPass (quick-agrees p each) ∙ isPass-apart (verdictOf p)
 
 -- ---- The same answer, for any input
 
@@ -93,10 +93,10 @@ answers-apart (checked.Refused f at) v w same = refl
 
 pub quick-answer-agrees : (p : Plan) → apartFromPairs (quickAnswer p) ≡ apartFromPairs (verdictAnswer p)
 unfolding quickAnswer verdictAnswer
-quick-answer-agrees p = answers-apart (planCheck p) (quickOf p) (verdictOf p) (λ h. quick-agrees p (planCheck-lawful p h))
+quick-answer-agrees p = answers-apart (planCheck p) (quickOf p) (verdictOf p) (λ h. quick-agrees p (planCheck-lawful p h .each))
 
 pub quick-set-answer-agrees : (p : Plan) (m : ℕ) → apartFromPairs (quickSetAnswer p m) ≡ apartFromPairs (setAnswer p m)
 unfolding quickSetAnswer setAnswer
 quick-set-answer-agrees p m =
     answers-apart (setCheck p m) (quickOf (withSet p m)) (verdictOf (withSet p m)) (λ h.
-    quick-agrees (withSet p m) (withSet-lawful p m (planCheck-lawful p (set-plan p m h))))
+    quick-agrees (withSet p m) (withSet-lawful p m (planCheck-lawful p (set-plan p m h)) .each))

@@ -16,7 +16,7 @@ use Rattle.rules.specs.Demand.{holdOf, jobs, need, demand}
 use Rattle.lists.proofs.Lists.{All, all-map, any-none, sumOf-eq, smallest-le}
 use Rattle.lists.proofs.Order.{all-both, all-of, sumOf-zero}
 use Rattle.laws.proofs.Jobs.{jobs-short, jobs-zero, jobs-mono}
-use Rattle.laws.proofs.Lawful.{LawfulString, LawfulPlan}
+use Rattle.laws.proofs.Lawful.{LawfulString}
 use Rattle.laws.proofs.Demand.{holdOf-other, need-taker, need-keeper}
 use Rattle.horizon.proofs.Pairs.{pair}
 use Rattle.growth.specs.Quick.{jobsLeft, countAt, grows}
@@ -92,16 +92,16 @@ early-no-jobs p l h =
     all-map (λ s. dMin p ≤ s .d .0) (λ s. jobs s l ≡ 0) (λ s low. jobs-short s l (omega arith)) (stringsOf p)
     (smallest-le (λ s. s .d .0) (stringsOf p))
 
-module _ (p : Plan) (ok : LawfulPlan p) where
+module _ (p : Plan) (each : All LawfulString (stringsOf p)) where
   pub start-no-jobs : NoJobs p 0
-  start-no-jobs = all-map LawfulString (λ s. jobs s 0 ≡ 0) (λ s lawful. jobs-zero s (lawful .dPos)) (stringsOf p) (ok .each)
+  start-no-jobs = all-map LawfulString (λ s. jobs s 0 ≡ 0) (λ s lawful. jobs-zero s (lawful .dPos)) (stringsOf p) each
 
   -- where no job fits, the blocking is all that is asked for
   pub demand-no-jobs : (l b : ℕ) → NoJobs p l → demand p l b ≡ b
   unfolding demand
   demand-no-jobs l b none =
       let nothing = sumOf-zero (need p l b) (stringsOf p)
-      (all-both LawfulString (λ s. jobs s l ≡ 0) (λ s. need p l b s ≡ 0) unasked (stringsOf p) (ok .each) none) in
+      (all-both LawfulString (λ s. jobs s l ≡ 0) (λ s. need p l b s ≡ 0) unasked (stringsOf p) each none) in
       omega arith
     where
       uncounted : (s : BatteryString) → LawfulString s → jobs s l ≡ 0 → countAt s l b ≡ 0
@@ -121,7 +121,7 @@ module _ (p : Plan) (ok : LawfulPlan p) where
   demand-still l b still =
       let same = sumOf-eq (need p (suc l) b) (need p l b) (stringsOf p)
       (all-both LawfulString (λ s. ltb (countAt s (suc l - 1) b) (countAt s (suc l) b) ≡ false) (λ s. need p (suc l) b s ≡ need p l b s)
-      asked (stringsOf p) (ok .each) (any-none _ (stringsOf p) still)) in
+      asked (stringsOf p) each (any-none _ (stringsOf p) still)) in
       omega arith
     where
       before : suc l - 1 ≡ l

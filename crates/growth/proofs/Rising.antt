@@ -10,14 +10,14 @@ use Rattle.rules.specs.declared.BatteryString.{BatteryString}
 use Rattle.rules.specs.declared.Plan.{Plan}
 use Rattle.rules.specs.Plan.{stringsOf}
 use Rattle.rules.specs.Demand.{holdOf, need, demand}
-use Rattle.lists.proofs.Lists.{by-bool, all-map, sumOf-less}
-use Rattle.laws.proofs.Lawful.{LawfulString, LawfulPlan}
+use Rattle.lists.proofs.Lists.{All, by-bool, all-map, sumOf-less}
+use Rattle.laws.proofs.Lawful.{LawfulString}
 use Rattle.laws.proofs.Demand.{holdOf-work}
 use Rattle.horizon.proofs.Pairs.{pair}
 use Rattle.growth.specs.Quick.{countAt, grows}
 use Rattle.growth.proofs.Counts.{need-counted, countAt-mono, demand-still}
 
-module _ (p : Plan) (ok : LawfulPlan p) where
+module _ (p : Plan) (each : All LawfulString (stringsOf p)) where
   -- every job holds the bank for a day at least
   asked-more :
       (l b : ℕ) (s : BatteryString) → LawfulString s → countAt s l b < countAt s (suc l) b → need p l b s < need p (suc l) b s
@@ -42,9 +42,9 @@ module _ (p : Plan) (ok : LawfulPlan p) where
   unfolding demand grows
   demand-grows l b some =
       let less = sumOf-less (need p l b) (need p (suc l) b) (λ s. ltb (countAt s (suc l - 1) b) (countAt s (suc l) b)) (stringsOf p)
-      (all-map LawfulString (λ s. need p l b s ≤ need p (suc l) b s) (asked-no-less l b) (stringsOf p) (ok .each))
+      (all-map LawfulString (λ s. need p l b s ≤ need p (suc l) b s) (asked-no-less l b) (stringsOf p) each)
       (all-map LawfulString (λ s. ltb (countAt s (suc l - 1) b) (countAt s (suc l) b) ≡ true → need p l b s < need p (suc l) b s) grown
-      (stringsOf p) (ok .each)) some in
+      (stringsOf p) each) some in
       omega arith
     where
       before : suc l - 1 ≡ l
@@ -62,7 +62,7 @@ module _ (p : Plan) (ok : LawfulPlan p) where
   grows-yes (suc l) b pos more =
       let before : suc l - 1 ≡ l = omega arith in
       let here : demand p l b < demand p (suc l) b = rw before at more in
-      by-bool (grows p (pair (suc l) b)) (λ t. t) (λ e. absurd (omega (arith, demand-still p ok l b e)))
+      by-bool (grows p (pair (suc l) b)) (λ t. t) (λ e. absurd (omega (arith, demand-still p each l b e)))
 
   pub grows-no : (l b : ℕ) → 1 ≤ l → demand p l b ≤ demand p (l - 1) b → grows p (pair l b) ≡ false
   grows-no zero b pos still = absurd (omega arith)

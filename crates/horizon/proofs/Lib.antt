@@ -3,6 +3,7 @@ pub mod Pairs
 pub mod Period
 pub mod Range
 pub mod PairList
+pub mod Unbroken
 pub mod Verdict
 pub mod Sets
 pub mod Alone

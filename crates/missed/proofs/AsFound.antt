@@ -17,7 +17,7 @@ use Rattle.tries.specs.declared.Missing.the-variants as missing
 use Rattle.tries.specs.declared.Shown.{Shown}
 use Rattle.tries.specs.Tries.{missingAnswer}
 use Rattle.missed.specs.declared.Missed.{Missed}
-use Rattle.missed.specs.declared.Missed.the-variants.{Refused, Passes, NoneFound}
+use Rattle.missed.specs.declared.Missed.the-variants.{Refused, Passes, NoneFound, TooMany}
 use Rattle.missed.specs.Missed.{asSaved, putAnswer, putPage, missedAnswer, missedPage}
 
 -- ---- The list, written
@@ -56,6 +56,12 @@ module _ (p : Plan) (m : Shown) (page : List ℕ) (at : ℕ) (found : m ≡ miss
   unfolding putAnswer putPage
   put-none h =
       let is : missingAnswer p .missing ≡ missing.NoneFound = ap (λ v. v .missing) (sym found) ∙ h in
+      (rw is, rw is)
+
+  pub put-many : m .missing ≡ missing.TooMany → Put TooMany page
+  unfolding putAnswer putPage
+  put-many h =
+      let is : missingAnswer p .missing ≡ missing.TooMany = ap (λ v. v .missing) (sym found) ∙ h in
       (rw is, rw is)
 
   pub put-shown : (n : Length) (r : Missed) (after : List ℕ) → m .missing ≡ missing.Found n

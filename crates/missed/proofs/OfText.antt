@@ -1,16 +1,16 @@
 -- What each answer for a text means.
 --     Refused      as the reader refuses, and so the desk; or 9 with 0, where there is no room
 --     Passes       the text is lawful and the plan passes
---     NoneFound    the text is lawful and the plan does not pass; and if the rule breaks with free moving too, the list that misses there
---                  is longer than 1,000
+--     NoneFound    the text is lawful and the plan does not pass; with free moving it would
+--     TooMany      the text is lawful and the plan does not pass, not even with free moving: there is a list that misses, and it has more
+--                  than 1,000 releases
 --     Text         what was written is the text of the same plan, with N raised, and of releases over which it misses
 -- But for Text, no byte of the page is another.
 use Prim.Native.Nat.{ℕ, _-_, _≤_, _<_}
-use mathlib.Core.Path.{_≡_, refl, sym, ap, _∙_}
+use mathlib.Core.Path.{_≡_, refl, sym, ap, _∙_, subst}
 use mathlib.Core.Logic.{_⊎_, inl, inr, _↔_}
 use mathlib.Core.Bool.{true, false}
 use mathlib.Core.List.{List}
-use mathlib.Core.Option.{some}
 use native.Mathlib.Omega.{arith}
 use lib.ListN.{length, take, drop, length-append, length-replicate, length-take}
 use lib.Seq.{take-all}
@@ -20,7 +20,9 @@ use Rattle.lists.proofs.Lists.{by-bool}
 use Rattle.faults.specs.declared.Fault.{Fault}
 use Rattle.faults.specs.declared.Fault.the-variants.{NoRoom}
 use Rattle.faults.specs.declared.Checked.the-variants as checked
+use Rattle.faults.specs.Checks.{faultNumber}
 use Rattle.faults.proofs.Checks.{by-checked, then-first}
+use Rattle.faults.proofs.Refusing.{Refusals}
 use Rattle.rules.specs.declared.Plan.{Plan}
 use Rattle.rules.specs.declared.Releases.{Releases}
 use Rattle.rules.specs.declared.Reading.{Reading}
@@ -32,34 +34,39 @@ use Rattle.rules.specs.declared.Answer.the-variants.{Answered}
 use Rattle.rules.specs.Answer.{answered, answerOf}
 use Rattle.rules.specs.Layout.{version02}
 use Rattle.rules.specs.Text.{linesOf, framesOf, readingOf}
-use Rattle.rules.specs.Verdict.{Pair}
 use Rattle.laws.proofs.Lawful.{planCheck-lawful}
 use Rattle.laws.proofs.Answers.{verdict-lawful, search-lawful}
+use Rattle.laws.proofs.RefusedBy.{Numbered, read-numbers}
+use Rattle.rules.specs.Said.{refused-with}
 use Rattle.writing.specs.declared.Saved.the-variants as saved
 use Rattle.writing.specs.Saved.{savedText, noRoom, saveCheck, savedAnswer, savedPage}
 use Rattle.onetext.specs.OneText.{blankPlan, blankReleases}
 use Rattle.onetext.proofs.ReadLawful.{read-lawful}
 use Rattle.onetext.proofs.OldAsNew.{read-blank, ten}
 use Rattle.onetext.proofs.InPage.{reading-the-page}
-use Rattle.missing.specs.Missing.{withRun, missing}
+use Rattle.missing.specs.Missing.{freely, withRun}
 use Rattle.missing.proofs.AnyRun.{verdict-run, search-run}
 use Rattle.tries.specs.declared.Missing.{Missing}
 use Rattle.tries.specs.declared.Missing.the-variants as answer
-use Rattle.tries.specs.Tries.{freeBreak, missingAnswer}
+use Rattle.tries.specs.Tries.{missingAnswer}
 use Rattle.tries.proofs.Found.{packed-holds}
+use Rattle.tries.specs.Shown.{MissesOverMany}
 use Rattle.tries.proofs.Meaning.{answer-refused, answer-passes-rule, answer-found, found-answers, answer-none-rule, answer-none-free}
+use Rattle.tries.proofs.Meaning.{answer-many-rule, answer-many}
 use Rattle.missed.specs.declared.Missed.{Missed}
-use Rattle.missed.specs.declared.Missed.the-variants.{Refused, NoneFound, Text}
+use Rattle.missed.specs.declared.Missed.the-variants.{Refused, NoneFound, TooMany, Text}
 use Rattle.missed.specs.declared.Missed.the-variants as missed
 use Rattle.missed.specs.Missed.{asSaved, putAnswer, putPage, missedAnswer, missedPage}
 use Rattle.missed.specs.ShowsMiss.{ShowsMiss}
+use Rattle.missed.specs.Said.{missedSays}
 
--- the four answers, told apart by a number
+-- the five answers, told apart by a number
 abbrev kindOf : Missed → ℕ
 kindOf (Refused f at) = 0
 kindOf missed.Passes = 1
 kindOf NoneFound = 2
 kindOf (Text len) = 3
+kindOf TooMany = 4
 
 -- ---- A list that was found, written
 
@@ -159,11 +166,20 @@ module _ (text page : List ℕ) (at : ℕ) where
       lawful-says .1 ∙ ap (putPage p (missingAnswer p .releases) page at) is,
     )
 
-  -- one of five ways
+    full-says : (n : Length) → missingAnswer p .missing ≡ answer.Found n
+        → noRoom page at (savedText version02 (withRun p (n .0)) (missingAnswer p .releases)) ≡ true → Says (Refused NoRoom 0) page
+    unfolding putAnswer putPage
+    full-says n is wanting =
+        let says = found-says (answer.Found n) is in
+        let said = found-full p n is page at wanting in
+        (says .0 ∙ ap asSaved (said .0), says .1 ∙ said .1)
+
+  -- one of six ways
   module _ {B : Type 0}
       (refused : (f : Fault) (k : ℕ) → readingOf text .checked ≡ checked.Refused f k → Says (Refused f k) page → B)
       (passes : readingOf text .checked ≡ checked.Lawful → missingAnswer p .missing ≡ answer.Passes → Says missed.Passes page → B)
       (nothing : readingOf text .checked ≡ checked.Lawful → missingAnswer p .missing ≡ answer.NoneFound → Says NoneFound page → B)
+      (many : readingOf text .checked ≡ checked.Lawful → missingAnswer p .missing ≡ answer.TooMany → Says TooMany page → B)
       (full : readingOf text .checked ≡ checked.Lawful → (n : Length) → missingAnswer p .missing ≡ answer.Found n
       → noRoom page at (savedText version02 (withRun p (n .0)) (missingAnswer p .releases)) ≡ true → Says (Refused NoRoom 0) page → B)
       (shown : readingOf text .checked ≡ checked.Lawful → (n : Length) (len : ℕ) → missingAnswer p .missing ≡ answer.Found n
@@ -179,12 +195,11 @@ module _ (text page : List ℕ) (at : ℕ) where
           absurd (omega arith)
       by-found h answer.Passes is = passes h is (found-says h answer.Passes is)
       by-found h answer.NoneFound is = nothing h is (found-says h answer.NoneFound is)
+      by-found h answer.TooMany is = many h is (found-says h answer.TooMany is)
       by-found h (answer.Found n) is =
           let says = found-says h (answer.Found n) is in
           by-bool (noRoom page at (savedText version02 (withRun p (n .0)) (missingAnswer p .releases)))
-          (λ wanting.
-          let said = found-full p n is page at wanting in
-          full h n is wanting (says .0 ∙ ap asSaved (said .0), says .1 ∙ said .1))
+          (λ wanting. full h n is wanting (full-says h n is wanting))
           (λ fits.
           let said = found-fits p n is page at fits in
           shown h n _ is said (says .0 ∙ ap asSaved said, says .1))
@@ -217,12 +232,49 @@ module _ (text page : List ℕ) (at : ℕ) where
       inl (e ∙ ap (λ x. checked.Refused x j) fault ∙ ap (checked.Refused f) place))
       (λ lawful is says. absurd (omega (arith, same-kind _ _ _ says h)))
       (λ lawful is says. absurd (omega (arith, same-kind _ _ _ says h)))
+      (λ lawful is says. absurd (omega (arith, same-kind _ _ _ says h)))
       (λ lawful n is wanting says.
       let said = sym (says .0) ∙ h in
       let fault : f ≡ NoRoom = cc in
       let place : k ≡ 0 = cc in
       inr (lawful, fault, place))
       (λ lawful n len is wrote says. absurd (omega (arith, same-kind _ _ _ says h)))
+
+  -- 9 with 0 exactly where a list was found and there is no room for its text
+  pub missed-nine : (missedSays (missedAnswer text page at) ≡ refused-with 9 0)
+      ↔ ((readingOf text .checked ≡ checked.Lawful) × ((n : Length) × (missingAnswer p .missing ≡ answer.Found n)
+      × (noRoom page at (savedText version02 (withRun p (n .0)) (missingAnswer p .releases)) ≡ true)))
+  missed-nine = (only, λ h. ap missedSays (full-says (h .0) (h .1 .0) (h .1 .1) (h .1 .2) .0))
+    where
+      low : (f : Fault) (k : ℕ) → readingOf text .checked ≡ checked.Refused f k → faultNumber f ≤ 8
+      low f k e = subst (Refusals (Numbered 8)) e (read-numbers text)
+
+      only : missedSays (missedAnswer text page at) ≡ refused-with 9 0
+          → (readingOf text .checked ≡ checked.Lawful) × ((n : Length) × (missingAnswer p .missing ≡ answer.Found n)
+          × (noRoom page at (savedText version02 (withRun p (n .0)) (missingAnswer p .releases)) ≡ true))
+      only h =
+          by-missed
+          (λ f k e says.
+          let said = ap missedSays (sym (says .0)) ∙ h in
+          let number : faultNumber f ≡ 9 = cc in
+          absurd (omega (arith, low f k e)))
+          (λ lawful is says.
+          let said = ap missedSays (sym (says .0)) ∙ h in
+          let z : _≡_ {A = ℕ} 0 1 = cc in
+          absurd (omega arith))
+          (λ lawful is says.
+          let said = ap missedSays (sym (says .0)) ∙ h in
+          let z : _≡_ {A = ℕ} 0 1 = cc in
+          absurd (omega arith))
+          (λ lawful is says.
+          let said = ap missedSays (sym (says .0)) ∙ h in
+          let z : _≡_ {A = ℕ} 0 1 = cc in
+          absurd (omega arith))
+          (λ lawful n is wanting says. (lawful, (n, is, wanting)))
+          (λ lawful n len is wrote says.
+          let said = ap missedSays (sym (says .0)) ∙ h in
+          let z : _≡_ {A = ℕ} 0 1 = cc in
+          absurd (omega arith))
 
   -- ---- Passes
 
@@ -239,6 +291,7 @@ module _ (text page : List ℕ) (at : ℕ) where
           (λ f k e says. absurd (omega (arith, same-kind _ _ _ says h)))
           (λ lawful is says. (lawful, answer-passes-rule p .0 is .1))
           (λ lawful is says. absurd (omega (arith, same-kind _ _ _ says h)))
+          (λ lawful is says. absurd (omega (arith, same-kind _ _ _ says h)))
           (λ lawful n is wanting says. absurd (omega (arith, same-kind _ _ _ says h)))
           (λ lawful n len is wrote says. absurd (omega (arith, same-kind _ _ _ says h)))
 
@@ -251,15 +304,36 @@ module _ (text page : List ℕ) (at : ℕ) where
         (λ f k e says. absurd (omega (arith, same-kind _ _ _ says h)))
         (λ lawful is says. absurd (omega (arith, same-kind _ _ _ says h)))
         (λ lawful is says. (lawful, is))
+        (λ lawful is says. absurd (omega (arith, same-kind _ _ _ says h)))
         (λ lawful n is wanting says. absurd (omega (arith, same-kind _ _ _ says h)))
         (λ lawful n len is wrote says. absurd (omega (arith, same-kind _ _ _ says h)))
 
     pub missed-none : (readingOf text .checked ≡ checked.Lawful) × (Passes p → ⊥)
-    missed-none = (none-is .0, answer-none-rule p (none-is .1))
+    missed-none = (none-is .0, answer-none-rule p (none-is .1) .1)
 
-    -- so it is never answered where the rule with free moving breaks and the list there has at most 1,000 releases
-    pub missed-none-free : (q : Pair) → freeBreak p ≡ some q → 1000 < length (missing p (q .l) (q .b))
+    -- it is the moving that breaks the rule
+    pub missed-none-free : Passes (freely p)
     missed-none-free = answer-none-free p (none-is .1)
+
+  -- ---- TooMany
+
+  module _ (h : missedAnswer text page at ≡ TooMany) where
+    many-is : (readingOf text .checked ≡ checked.Lawful) × (missingAnswer p .missing ≡ answer.TooMany)
+    many-is =
+        by-missed
+        (λ f k e says. absurd (omega (arith, same-kind _ _ _ says h)))
+        (λ lawful is says. absurd (omega (arith, same-kind _ _ _ says h)))
+        (λ lawful is says. absurd (omega (arith, same-kind _ _ _ says h)))
+        (λ lawful is says. (lawful, is))
+        (λ lawful n is wanting says. absurd (omega (arith, same-kind _ _ _ says h)))
+        (λ lawful n len is wrote says. absurd (omega (arith, same-kind _ _ _ says h)))
+
+    pub missed-many : (readingOf text .checked ≡ checked.Lawful) × (Passes p → ⊥)
+    missed-many = (many-is .0, answer-many-rule p (many-is .1) .1)
+
+    -- there is a list that misses, and a file does not hold it
+    pub missed-many-list : MissesOverMany p
+    missed-many-list = answer-many p (many-is .1)
 
   -- ---- Text
 
@@ -317,6 +391,7 @@ module _ (text page : List ℕ) (at : ℕ) where
       (λ f k e says. absurd (omega (arith, same-kind _ _ _ says h)))
       (λ lawful is says. absurd (omega (arith, same-kind _ _ _ says h)))
       (λ lawful is says. absurd (omega (arith, same-kind _ _ _ says h)))
+      (λ lawful is says. absurd (omega (arith, same-kind _ _ _ says h)))
       (λ lawful n is wanting says. absurd (omega (arith, same-kind _ _ _ says h)))
       (λ lawful n size is wrote says.
       let said = sym (says .0) ∙ h in
@@ -329,6 +404,7 @@ module _ (text page : List ℕ) (at : ℕ) where
   missed-keeps no-text =
       by-missed
       (λ f k e says. says .1)
+      (λ lawful is says. says .1)
       (λ lawful is says. says .1)
       (λ lawful is says. says .1)
       (λ lawful n is wanting says. says .1)

@@ -20,7 +20,7 @@ use Rattle.tries.specs.declared.Missing.{Missing}
 use Rattle.tries.specs.declared.Missing.the-variants as missing
 use Rattle.tries.specs.Tries.{missingAnswer}
 use Rattle.missed.specs.declared.Missed.{Missed}
-use Rattle.missed.specs.declared.Missed.the-variants.{Refused, Passes, NoneFound, Text}
+use Rattle.missed.specs.declared.Missed.the-variants.{Refused, Passes, NoneFound, TooMany, Text}
 
 abbrev pub asSaved : Saved → Missed
 asSaved (saved.Refused f at) = Refused f at
@@ -31,12 +31,14 @@ module _ (p : Plan) (rs : Releases) (page : List ℕ) (at : ℕ) where
   putAnswer (missing.Refused f k) = Refused f k
   putAnswer missing.Passes = Passes
   putAnswer missing.NoneFound = NoneFound
+  putAnswer missing.TooMany = TooMany
   putAnswer (missing.Found n) = asSaved (savedAnswer version02 (withRun p (n .0)) rs page at)
 
   unfoldable pub putPage : Missing → List ℕ
   putPage (missing.Refused f k) = page
   putPage missing.Passes = page
   putPage missing.NoneFound = page
+  putPage missing.TooMany = page
   putPage (missing.Found n) = savedPage version02 (withRun p (n .0)) rs page at
 
 abbrev pub onRead : Checked → Missed → Missed

@@ -13,11 +13,13 @@ ghost use Rattle.missing.specs.Missing.{withRun};
 ghost use Rattle.tries.specs.Tries.{missingAnswer};
 ghost use Rattle.missed.specs.Missed.{asSaved, putAnswer, putPage, missedAnswer, missedPage};
 
-// The length of the text that was written; or that the plan passes, so that there is nothing to show; or that no list was found.
+// The length of the text that was written; or that the plan passes, so that there is nothing to show; or that no list was found; or that
+// there is one, but of more than 1,000 releases.
 pub enum Missed {
     Refused { fault: Fault, at: usize },
     Passes,
     NoneFound,
+    TooMany,
     Text { length: usize },
 }
 
@@ -55,6 +57,7 @@ fn put(p: Plan, page: &mut [u8], at: usize) -> Missed
         Missing::Refused { fault, at } => Missed::Refused { fault, at },
         Missing::Passes => Missed::Passes,
         Missing::NoneFound => Missed::NoneFound,
+        Missing::TooMany => Missed::TooMany,
         Missing::Found { run } => show(p, run, releases, page, at),
     }
 }

@@ -1,10 +1,11 @@
 -- The calendar's promises, of what the code answered (document 02, W-203 and W-206).
-use Prim.Native.Nat.{ℕ}
+use Prim.Native.Nat.{ℕ, _<_}
 use mathlib.Core.Path.{_≡_, sym, ap, _∙_}
+use mathlib.Core.Logic.{_↔_}
 use contract.Lifetimes.{Lfts}
 use mathlib.Core.Bool.{true, false}
 use mathlib.Core.List.{map}
-use lib.ListN.{take, drop}
+use lib.ListN.{length, take, drop}
 use lib.Seq.{take-at, drop-at}
 use Rattle.days.specs.declared.Day.{Day}
 use Rattle.days.specs.Days.{day}
@@ -17,17 +18,25 @@ use Rattle.calendar.specs.declared.WhichDate.{WhichDate}
 use Rattle.calendar.specs.declared.WhichDate.the-variants as which-date
 use Rattle.calendar.specs.declared.WhichDay.{WhichDay}
 use Rattle.calendar.specs.declared.WhichDay.the-variants as which-day
+use Rattle.calendar.specs.declared.Weekday.the-variants.{Saturday}
+use Rattle.calendar.specs.declared.WhichWeekday.{WhichWeekday}
+use Rattle.calendar.specs.declared.WhichWeekday.the-variants as which-weekday
 use Rattle.calendar.specs.declared.Listed.{Listed}
 use Rattle.calendar.specs.declared.Listed.the-variants as listed
+use Rattle.calendar.specs.Dates.{dateExists}
 use Rattle.calendar.specs.Numbers.{dateOf, lastDay}
+use Rattle.calendar.specs.Refusals.{dayAnswer, weekdayAnswer}
 use Rattle.calendar.specs.Yearly.{years, noEdition, leapDay, onLeapDay, yearlyDays, gaps, YearGap, LeapGap}
-use Rattle.calendar.specs.Said.{refused, listedSays}
-use Rattle.calendar.proofs.Answers.{day-and-back, date-and-back, yearly-no-edition, listed-front, listed-exists, refused-kept, answers-agree}
+use Rattle.calendar.specs.Said.{refused, dateSays, daySays, weekdaySays, listedSays}
+use Rattle.calendar.proofs.Answers.{day-and-back, date-and-back, epoch-answers, date-ten-exactly, day-ten-exactly, weekday-ten-exactly}
+use Rattle.calendar.proofs.Answers.{noSuch, eleven-exactly, ten-exactly, nine-exactly, listed-front, listed-exists, refused-kept, answers-agree}
 use Rattle.calendar.proofs.Gaps.{edition-2-gaps, edition-1-leap-gaps, edition-2-every-year}
 use Rattle.calendar.proofs.Texts.{dateWriting-is}
 use Rattle.calendar.proofs.RoundTrip.{date-read-exists, date-written-back}
+use Rattle.calendar.proofs.Date.first.Reads as Date-first
 use Rattle.calendar.proofs.Date.from_day.Reads as Date-from-day
 use Rattle.calendar.proofs.Date.day_number.Reads as Date-day-number
+use Rattle.calendar.proofs.Date.weekday.Reads as Date-weekday
 use Rattle.calendar.proofs.date_read.Reads as date-read
 use Rattle.calendar.proofs.date_text.Reads as date-text
 use Rattle.calendar.proofs.yearly.Reads as yearly
@@ -43,6 +52,35 @@ day-there-and-back κs k d e f r h g = g ∙ day-and-back (k .0) d (sym h)
 pub date-there-and-back : (κs : Lfts 0) (d : Date) (k : Day) (e f : _) (r : WhichDate)
     → Date-day-number.Learnt κs (d, tt) (which-day.Is k) e → Date-from-day.Learnt κs (k, tt) r f → r ≡ which-date.Is d
 date-there-and-back κs d k e f r h g = g ∙ date-and-back d k (sym h)
+
+-- ---- The epoch, as `Date::first` gave it
+
+module _ (κs : Lfts 0) (a : _) (e f : _) (d : Date) (given : Date-first.Learnt κs a d e) where
+  -- its day is day 0
+  pub epoch-day : (r : WhichDay) → Date-day-number.Learnt κs (d, tt) r f → r ≡ which-day.Is (day 0)
+  epoch-day r h = h ∙ ap dayAnswer given ∙ epoch-answers .0
+
+  -- and the date of day 0 is the epoch
+  pub day-epoch : (r : WhichDate) → Date-from-day.Learnt κs (day 0, tt) r f → r ≡ which-date.Is d
+  day-epoch r h = h ∙ epoch-answers .1 ∙ ap which-date.Is (sym given)
+
+  -- a Saturday
+  pub epoch-weekday : (r : WhichWeekday) → Date-weekday.Learnt κs (d, tt) r f → r ≡ which-weekday.Is Saturday
+  epoch-weekday r h = h ∙ ap weekdayAnswer given ∙ epoch-answers .2
+
+-- ---- 10 with 0 exactly for a day outside the range, and for a date that does not exist
+
+pub date-ten : (κs : Lfts 0) (k : Day) (e : _) (r : WhichDate) → Date-from-day.Learnt κs (k, tt) r e
+    → (dateSays r ≡ refused 10 0) ↔ (lastDay < k .0)
+date-ten κs k e r h = rw h (date-ten-exactly (k .0))
+
+pub day-ten : (κs : Lfts 0) (d : Date) (e : _) (r : WhichDay) → Date-day-number.Learnt κs (d, tt) r e
+    → (daySays r ≡ refused 10 0) ↔ (dateExists d ≡ false)
+day-ten κs d e r h = rw h (day-ten-exactly d)
+
+pub weekday-ten : (κs : Lfts 0) (d : Date) (e : _) (r : WhichWeekday) → Date-weekday.Learnt κs (d, tt) r e
+    → (weekdaySays r ≡ refused 10 0) ↔ (dateExists d ≡ false)
+weekday-ten κs d e r h = rw h (weekday-ten-exactly d)
 
 -- ---- A date's text
 
@@ -72,12 +110,22 @@ module _ (κs : Lfts 1) (t : YearlyDate) (ed : ℕ) (first last : Day) (list : _
       → e .1 .1 .1 .1 .0 .now ≡ list .now
   yearly-refusal-keeps f at h = h .1 ∙ refused-kept ed t (first .0) (last .0) (list .now) f at (sym (h .0))
 
-  -- 11 for an edition that is neither 1 nor 2, whatever the dates and the room
-  pub yearly-eleven : (r : Listed) → noEdition ed ≡ true → yearly.Learnt κs (t, (ed, (first, (last, (list, tt))))) r e
-      → (listedSays r ≡ refused 11 0) × (e .1 .1 .1 .1 .0 .now ≡ list .now)
-  yearly-eleven r other h =
-      let no = yearly-no-edition ed t (first .0) (last .0) (list .now) other in
-      (ap listedSays (h .0 ∙ no .0), h .1 ∙ no .1)
+  -- 11 exactly for an edition that is neither 1 nor 2, whatever the dates and the room
+  pub yearly-eleven : (r : Listed) → yearly.Learnt κs (t, (ed, (first, (last, (list, tt))))) r e
+      → (listedSays r ≡ refused 11 0) ↔ (noEdition ed ≡ true)
+  yearly-eleven r h = rw (h .0) (eleven-exactly ed t (first .0) (last .0) (list .now))
+
+  -- then 10 exactly for a month and day that exist in no year or a day outside the range, whatever the room
+  pub yearly-ten : (r : Listed) → yearly.Learnt κs (t, (ed, (first, (last, (list, tt))))) r e
+      → (listedSays r ≡ refused 10 0) ↔ ((noEdition ed ≡ false) × (noSuch ed t (first .0) (last .0) (list .now) ≡ true))
+  yearly-ten r h = rw (h .0) (ten-exactly ed t (first .0) (last .0) (list .now))
+
+  -- then 9 exactly where the lent list has fewer places than there are days
+  pub yearly-nine : (r : Listed) → yearly.Learnt κs (t, (ed, (first, (last, (list, tt))))) r e
+      → (listedSays r ≡ refused 9 0)
+      ↔ ((noEdition ed ≡ false) × (noSuch ed t (first .0) (last .0) (list .now) ≡ false)
+      × (length (list .now) < length (yearlyDays ed t (first .0) (last .0))))
+  yearly-nine r h = rw (h .0) (nine-exactly ed t (first .0) (last .0) (list .now))
 
 module _ (κs : Lfts 1) (t : YearlyDate) (first last : Day) (list : _) (e : _) (n : ℕ) where
   -- the days that were listed by edition 2 are 365 or 366 apart

@@ -1,12 +1,11 @@
 -- The releases that miss, of what `miss` answered. Its arguments are the text, the page and the place; what it wrote is what stands in the
 -- page from the place on.
-use Prim.Native.Nat.{ℕ, _<_}
+use Prim.Native.Nat.{ℕ}
 use mathlib.Core.Path.{_≡_, refl, sym, ap, _∙_, subst}
 use mathlib.Core.Logic.{_⊎_, inl, inr, _↔_}
 use mathlib.Core.List.{List}
-use mathlib.Core.Option.{some}
 use native.Mathlib.Omega.{arith}
-use lib.ListN.{length, take, drop}
+use lib.ListN.{take, drop}
 use contract.Lifetimes.{Lfts}
 use Rattle.faults.specs.declared.Fault.{Fault}
 use Rattle.faults.specs.declared.Fault.the-variants.{NoRoom}
@@ -16,14 +15,14 @@ use Rattle.rules.specs.declared.Answer.the-variants as answer
 use Rattle.rules.specs.Answer.{answered, answerOf}
 use Rattle.rules.specs.Demand.{Passes}
 use Rattle.rules.specs.Text.{readingOf}
-use Rattle.rules.specs.Verdict.{Pair}
-use Rattle.missing.specs.Missing.{missing}
-use Rattle.tries.specs.Tries.{freeBreak}
+use Rattle.missing.specs.Missing.{freely}
+use Rattle.tries.specs.Shown.{MissesOverMany}
 use Rattle.missed.specs.declared.Missed.{Missed}
-use Rattle.missed.specs.declared.Missed.the-variants.{Refused, NoneFound, Text}
+use Rattle.missed.specs.declared.Missed.the-variants.{Refused, NoneFound, TooMany, Text}
 use Rattle.missed.specs.declared.Missed.the-variants as missed
 use Rattle.missed.specs.ShowsMiss.{ShowsMiss}
 use Rattle.missed.proofs.OfText.{missed-refuses, missed-refused, missed-passes, missed-none, missed-none-free, missed-text, missed-keeps}
+use Rattle.missed.proofs.OfText.{missed-many, missed-many-list}
 use Rattle.missed.proofs.miss.Reads as miss
 
 -- ---- What the desk refuses
@@ -63,13 +62,19 @@ module _ (κs : Lfts 2) (a : _) (e : _) (r : Missed) (did : miss.Learnt κs a r 
       let exactly = missed-passes (a .0 .now) (a .1 .0 .now) (a .1 .1 .0) in
       (λ is. exactly .0 (sym (did .0) ∙ is), λ rule. did .0 ∙ exactly .1 rule)
 
-  -- where none is found, the rule does not hold; and if it breaks with free moving too, the list there has more than 1,000 releases
+  -- where none is found, the rule does not hold, and with free moving it would
   pub none-breaks : r ≡ NoneFound → (readingOf (a .0 .now) .checked ≡ checked.Lawful) × (Passes (readingOf (a .0 .now) .plan) → ⊥)
   none-breaks is = missed-none (a .0 .now) (a .1 .0 .now) (a .1 .1 .0) (sym (did .0) ∙ is)
 
-  pub none-too-long : r ≡ NoneFound → (q : Pair) → freeBreak (readingOf (a .0 .now) .plan) ≡ some q
-      → 1000 < length (missing (readingOf (a .0 .now) .plan) (q .l) (q .b))
-  none-too-long is = missed-none-free (a .0 .now) (a .1 .0 .now) (a .1 .1 .0) (sym (did .0) ∙ is)
+  pub none-paid : r ≡ NoneFound → Passes (freely (readingOf (a .0 .now) .plan))
+  none-paid is = missed-none-free (a .0 .now) (a .1 .0 .now) (a .1 .1 .0) (sym (did .0) ∙ is)
+
+  -- where there are too many, the rule does not hold either, and a list misses that has more than 1,000 releases
+  pub many-breaks : r ≡ TooMany → (readingOf (a .0 .now) .checked ≡ checked.Lawful) × (Passes (readingOf (a .0 .now) .plan) → ⊥)
+  many-breaks is = missed-many (a .0 .now) (a .1 .0 .now) (a .1 .1 .0) (sym (did .0) ∙ is)
+
+  pub many-miss : r ≡ TooMany → MissesOverMany (readingOf (a .0 .now) .plan)
+  many-miss is = missed-many-list (a .0 .now) (a .1 .0 .now) (a .1 .1 .0) (sym (did .0) ∙ is)
 
   -- what the desk refuses is refused with the same number and line, and nothing else is but for the room
   pub refuses-as-desk : (f : Fault) (k : ℕ) → answerOf (a .0 .now) ≡ answer.Refused f k → r ≡ Refused f k

@@ -14,12 +14,14 @@ use Rattle.rules.specs.Text.{linesOf, framesOf, readingIn, readingOf}
 use Rattle.writing.specs.declared.Saved.the-variants.{Text}
 use Rattle.writing.specs.Saved.{patched, savedAnswer, savedPage}
 use Rattle.onetext.specs.OneText.{lawfulText}
+use Rattle.onetext.proofs.WriteBack.{one-text}
 use Rattle.onetext.proofs.InPage.{reading-the-page, saving-what-was-read}
 use Rattle.reading.proofs.read.Reads as read
 use Rattle.writing.proofs.write.Reads as write
 
 module _ (κs κt : Lfts 1) (lent : _) (after : _) (r : Reading) (was-read : read.Learnt κs lent r after) where
-  -- the text that was read stands in a page where it was written; places after the n-th and releases after the count come back blank
+  -- the text that was read stands in a page where it was written; places after the n-th and releases after the count come back blank.
+  -- A plan has ten places and a list a thousand: their types in the code say so, but a statement sees lists, of any length
   pub written-reads-back : (a : _) (e : _) (len : ℕ) → write.Learnt κt a (Text len) e → length (a .0 .strings) ≡ 10
       → length (a .1 .0 .list) ≡ 1000
       → lent .0 .now ≡ take len (drop (a .1 .1 .1 .0) (e .1 .1 .0 .now)) → r ≡ lawfulText (a .0) (a .1 .0)
@@ -46,3 +48,17 @@ module _ (κs κt : Lfts 1) (lent : _) (after : _) (r : Reading) (was-read : rea
       wrote .1 ∙ ap (λ p. savedPage version02 p (a .1 .0) page at) plan-is
       ∙ ap (λ rs. savedPage version02 (readingIn version02 text .plan) rs page at) list-is
       ∙ saving-what-was-read 2 text page at len (sym (ap (λ s. s .checked) read) ∙ lawful) saves
+
+-- two texts of version 02 that were read as the same plan and releases are the same bytes
+pub one-text-read : (κs κt : Lfts 1) (lent other : _) (after later : _) (r s : Reading)
+    → read.Learnt κs lent r after → read.Learnt κt other s later
+    → framesOf (linesOf (lent .0 .now)) ≡ version02 → framesOf (linesOf (other .0 .now)) ≡ version02
+    → r .checked ≡ Lawful → r ≡ s → lent .0 .now ≡ other .0 .now
+unfolding framesFor readingOf
+one-text-read κs κt lent other after later r s read-one read-other new-one new-other lawful same =
+    let one : r ≡ readingIn version02 (lent .0 .now) = read-one .0 ∙ ap (λ v. readingIn v (lent .0 .now)) new-one in
+    let two : s ≡ readingIn version02 (other .0 .now) = read-other .0 ∙ ap (λ v. readingIn v (other .0 .now)) new-other in
+    let both : readingIn version02 (lent .0 .now) ≡ readingIn version02 (other .0 .now) = sym one ∙ same ∙ two in
+    let first : readingIn version02 (lent .0 .now) .checked ≡ Lawful = ap (λ t. t .checked) (sym one) ∙ lawful in
+    one-text 2 (lent .0 .now) (other .0 .now) first (ap (λ t. t .checked) (sym both) ∙ first) (ap (λ t. t .plan) both)
+    (ap (λ t. t .releases) both)

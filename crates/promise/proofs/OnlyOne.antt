@@ -17,6 +17,7 @@ use Rattle.rules.specs.declared.Assign.{Assign}
 use Rattle.rules.specs.declared.Outcome.{Outcome}
 use Rattle.rules.specs.declared.Figures.{Figures}
 use Rattle.lines.specs.declared.Page.{Page}
+use Rattle.calendar.specs.declared.Date.{Date}
 use Rattle.calendar.specs.declared.WhichDate.{WhichDate}
 use Rattle.calendar.specs.declared.WhichDay.{WhichDay}
 use Rattle.calendar.specs.declared.WhichWeekday.{WhichWeekday}
@@ -32,6 +33,7 @@ use Rattle.days.proofs.Day.since.Reads as Day-since
 use Rattle.days.proofs.Day.before.Reads as Day-before
 use Rattle.days.proofs.Length.shorter.Reads as Length-shorter
 use Rattle.faults.proofs.fault_number.Reads as fault-number
+use Rattle.calendar.proofs.Date.first.Reads as Date-first
 use Rattle.calendar.proofs.Date.from_day.Reads as Date-from-day
 use Rattle.calendar.proofs.Date.day_number.Reads as Date-day-number
 use Rattle.calendar.proofs.Date.weekday.Reads as Date-weekday
@@ -126,6 +128,9 @@ pub one-fault-number : (κs : Lfts 0) (a : _) (e f : _) (r s : ℕ) → fault-nu
 one-fault-number κs a e f r s h k = h ∙ sym k
 
 -- calendar
+pub one-Date-first : (κs : Lfts 0) (a : _) (e f : _) (r s : Date) → Date-first.Learnt κs a r e → Date-first.Learnt κs a s f → r ≡ s
+one-Date-first κs a e f r s h k = h ∙ sym k
+
 pub one-Date-from-day : (κs : Lfts 0) (a : _) (e f : _) (r s : WhichDate) → Date-from-day.Learnt κs a r e → Date-from-day.Learnt κs a s f
     → r ≡ s
 one-Date-from-day κs a e f r s h k = h ∙ sym k

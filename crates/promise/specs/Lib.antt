@@ -1,3 +1,4 @@
 pub mod NeverMiss
 pub mod Wrong
 pub mod SaysMiss
+pub mod OtherVersion

@@ -1,6 +1,5 @@
 -- What an answer says, in document 01's words, numbers and values ("Where an answer is an enum, a definition gives this paper's number and
--- values
--- for each of the enum's cases"). Statements about an answer speak of what it says.
+-- values for each of the enum's cases"). Statements about an answer speak of what it says.
 --     lawful                                  nothing is refused
 --     refused number at                       the refusal number, and the line, the place, or 0 for the whole
 --     overload pairs                          the pair count of an overload is 0
@@ -9,12 +8,23 @@
 --     takers set, none                        the search
 --     miss day place, clean work moving idle  the run
 --     checkedSays c, verdictSays v, assignSays a, outcomeSays o     what each answer says
+-- And what is answered beside the desk's three lines:
+--     refused-with number at                  the refusal number and the place, as above
+--     unbroken, breaks interval blocking      the first pair that breaks the rule
+--     text length                             what was written into a page
+--     passing, none-found, too-many, misses run
+--                                             releases that miss: none, the plan passes; none was found; there are some, but more than
+--                                             1,000; the days of a run that misses
+--     brokenSays b                            what the first broken pair says
+-- Of texts that are written and of releases that miss the crates writing, tries and missed have it: savedSays, missingSays, missedSays.
 use Prim.Native.Nat.{ℕ}
 use Rattle.faults.specs.declared.Checked.{Checked}
 use Rattle.faults.specs.declared.Checked.the-variants as checked
 use Rattle.faults.specs.Checks.{faultNumber}
 use Rattle.rules.specs.declared.Verdict.{Verdict}
 use Rattle.rules.specs.declared.Verdict.the-variants as verdict
+use Rattle.rules.specs.declared.Broken.{Broken}
+use Rattle.rules.specs.declared.Broken.the-variants as broken
 use Rattle.rules.specs.declared.Assign.{Assign}
 use Rattle.rules.specs.declared.Assign.the-variants as assign
 use Rattle.rules.specs.declared.Outcome.{Outcome}
@@ -50,3 +60,20 @@ abbrev pub outcomeSays : Outcome → Said
 outcomeSays (outcome.Refused f at) = refused (faultNumber f) at
 outcomeSays (outcome.Miss t i) = miss (t .0) i
 outcomeSays (outcome.Clean w m i) = clean (w .0) (m .0) (i .0)
+
+-- ---- Beside the desk's lines
+
+pub data Noted : Type 0 where
+  refused-with : ℕ → ℕ → Noted
+  unbroken : Noted
+  breaks : ℕ → ℕ → Noted
+  text : ℕ → Noted
+  passing : Noted
+  none-found : Noted
+  too-many : Noted
+  misses : ℕ → Noted
+
+abbrev pub brokenSays : Broken → Noted
+brokenSays (broken.Refused f at) = refused-with (faultNumber f) at
+brokenSays broken.Nowhere = unbroken
+brokenSays (broken.At l b) = breaks (l .0) (b .0)

@@ -1,9 +1,8 @@
--- Found: a try that is found misses, and where one is found. Meaning: what each answer means. MovingFree: where moving is free. Worked:
+-- Found: a try that is found misses, and where one is found. Meaning: what each answer means. Worked:
 -- plans with their answers. Places, Packing, DayByDay, Freed, Searching: laws for the loops. Breaks: the first
 -- broken pair with free moving.
 pub mod Found
 pub mod Meaning
-pub mod MovingFree
 pub mod Worked
 pub mod Places
 pub mod Packing

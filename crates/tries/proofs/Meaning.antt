@@ -2,7 +2,8 @@
 --     Refused      as the plan's check refuses
 --     Passes       the plan passes, so no lawful list misses, whatever N
 --     Found        the list that is shown is lawful, and its run misses
---     NoneFound    the plan does not pass; and if the rule breaks with free moving too, the list that misses there is longer than 1,000
+--     NoneFound    the plan does not pass; with free moving it would
+--     TooMany      the plan does not pass, not even with free moving: there is a list that misses, and it has more than 1,000 releases
 use Prim.Native.Nat.{ℕ, _≤_, _<_}
 use mathlib.Core.Path.{_≡_, refl, sym, ap, _∙_}
 use mathlib.Core.Logic.{_↔_}
@@ -23,25 +24,28 @@ use Rattle.rules.specs.declared.Outcome.the-variants.{Miss}
 use Rattle.rules.specs.Demand.{Passes}
 use Rattle.rules.specs.Verdict.{Pair, verdictOf, isPass}
 use Rattle.rules.specs.Refusal.{planCheck, runAnswer}
-use Rattle.laws.proofs.Lawful.{LawfulPlan, planCheck-lawful}
+use Rattle.laws.proofs.Lawful.{LawfulPlan, dMax-le, planCheck-lawful}
 use Rattle.laws.proofs.LawfulChecked.{lawful-checked}
-use Rattle.horizon.proofs.Verdict.{passes-of-pass, pass-of-passes}
-use Rattle.missing.specs.Missing.{withRun, missing, NeverMisses}
-use Rattle.missing.proofs.Exact.{withRun-lawful, passes-never}
+use Rattle.horizon.proofs.Unbroken.{passes-of-none}
+use Rattle.horizon.proofs.Verdict.{firstBroken-names, passes-of-pass, pass-of-passes}
+use Rattle.missing.specs.Missing.{freely, withRun, missing, NeverMisses, FreeMoving}
+use Rattle.missing.proofs.Freely.{freely-lawful, free-passes}
+use Rattle.missing.proofs.Exact.{withRun-lawful, break-misses, passes-never}
 use Rattle.tries.specs.declared.Missing.{Missing}
 use Rattle.tries.specs.declared.Missing.the-variants as answer
-use Rattle.tries.specs.Tries.{Try, listOf, freeBreak, packed, found, raised, foundAs, missingOf, missingAnswer}
-use Rattle.tries.specs.Shown.{Shows}
+use Rattle.tries.specs.Tries.{Try, listOf, freeBreak, packed, found, raised, unfound, foundAs, missingOf, missingAnswer}
+use Rattle.tries.specs.Shown.{Shows, MissesOverMany}
 use Rattle.tries.proofs.Found.{misses-packed, found-bounded, found-few, found-misses, found-where-free}
 
 -- ---- How an answer comes about
 
--- the four answers, told apart by a number
+-- the five answers, told apart by a number
 abbrev kindOf : Missing → ℕ
 kindOf (answer.Refused f at) = 0
 kindOf answer.Passes = 1
 kindOf answer.NoneFound = 2
 kindOf (answer.Found n) = 3
+kindOf answer.TooMany = 4
 
 module _ (p : Plan) where
   -- a plan that is lawful and does not pass
@@ -60,13 +64,18 @@ module _ (p : Plan) where
   unfolding missingAnswer missingOf
   tried-says tried = rw (tried .0, tried .1)
 
-  -- one of four ways
+  -- one of five ways
   module _ {B : Type 0} (refused : (f : Fault) (at : ℕ) → planCheck p ≡ checked.Refused f at → B)
       (passes : planCheck p ≡ checked.Lawful → isPass (verdictOf p) ≡ true → B)
-      (nothing : Tried → found p ≡ none → B)
+      (nothing : Tried → found p ≡ none → freeBreak p ≡ none → B)
+      (many : Tried → found p ≡ none → (q : Pair) → freeBreak p ≡ some q → B)
       (shown : Tried → (y : Try) → found p ≡ some y → B) where
+    by-free : Tried → found p ≡ none → (o : Option Pair) → freeBreak p ≡ o → B
+    by-free tried e none whole = nothing tried e whole
+    by-free tried e (some q) breaks = many tried e q breaks
+
     by-found : Tried → (o : Option Try) → found p ≡ o → B
-    by-found tried none e = nothing tried e
+    by-found tried none e = by-free tried e (freeBreak p) refl
     by-found tried (some y) e = shown tried y e
 
     by-answer : B
@@ -76,8 +85,14 @@ module _ (p : Plan) where
         by-bool (isPass (verdictOf p)) (λ pass. passes lawful pass) (λ fails. by-found (lawful, fails) (found p) refl))
         refused
 
-  nothing-says : Tried → found p ≡ none → missingAnswer p .missing ≡ answer.NoneFound
-  nothing-says tried none-is = ap (λ a. a .missing) (tried-says tried ∙ ap (foundAs p) none-is)
+  unfound-says : Tried → found p ≡ none → missingAnswer p .missing ≡ unfound (freeBreak p)
+  unfound-says tried none-is = ap (λ a. a .missing) (tried-says tried ∙ ap (foundAs p) none-is)
+
+  nothing-says : Tried → found p ≡ none → freeBreak p ≡ none → missingAnswer p .missing ≡ answer.NoneFound
+  nothing-says tried none-is whole = unfound-says tried none-is ∙ ap unfound whole
+
+  many-says : Tried → found p ≡ none → (q : Pair) → freeBreak p ≡ some q → missingAnswer p .missing ≡ answer.TooMany
+  many-says tried none-is q breaks = unfound-says tried none-is ∙ ap unfound breaks
 
   shown-is : Tried → (y : Try) → found p ≡ some y → missingAnswer p ≡ foundAs p (some y)
   shown-is tried y is = tried-says tried ∙ ap (foundAs p) is
@@ -102,7 +117,8 @@ module _ (p : Plan) where
           let place : k ≡ at = cc in
           e ∙ ap (λ x. checked.Refused x k) fault ∙ ap (checked.Refused f) place)
           (λ lawful pass. absurd (omega (arith, not-same _ _ (pass-says lawful pass) h)))
-          (λ tried none-is. absurd (omega (arith, not-same _ _ (nothing-says tried none-is) h)))
+          (λ tried none-is whole. absurd (omega (arith, not-same _ _ (nothing-says tried none-is whole) h)))
+          (λ tried none-is q breaks. absurd (omega (arith, not-same _ _ (many-says tried none-is q breaks) h)))
           (λ tried y is. absurd (omega (arith, not-same _ _ (shown-says tried y is) h)))
 
   -- ---- Passes
@@ -115,7 +131,8 @@ module _ (p : Plan) where
           by-answer
           (λ f at e. absurd (omega (arith, not-same _ _ (refused-says f at e) h)))
           (λ lawful pass. (lawful, pass))
-          (λ tried none-is. absurd (omega (arith, not-same _ _ (nothing-says tried none-is) h)))
+          (λ tried none-is whole. absurd (omega (arith, not-same _ _ (nothing-says tried none-is whole) h)))
+          (λ tried none-is q breaks. absurd (omega (arith, not-same _ _ (many-says tried none-is q breaks) h)))
           (λ tried y is. absurd (omega (arith, not-same _ _ (shown-says tried y is) h)))
 
   -- in the user's words: the plan is lawful and the rule holds at every interval
@@ -162,7 +179,8 @@ module _ (p : Plan) where
         by-answer
         (λ f at e. absurd (omega (arith, not-same _ _ (refused-says f at e) h)))
         (λ lawful pass. absurd (omega (arith, not-same _ _ (pass-says lawful pass) h)))
-        (λ tried none-is. absurd (omega (arith, not-same _ _ (nothing-says tried none-is) h)))
+        (λ tried none-is whole. absurd (omega (arith, not-same _ _ (nothing-says tried none-is whole) h)))
+        (λ tried none-is q breaks. absurd (omega (arith, not-same _ _ (many-says tried none-is q breaks) h)))
         (λ tried y is.
         let said = sym (shown-says tried y is) ∙ h in
         let run : days (raised p y) ≡ n = cc in
@@ -184,29 +202,64 @@ module _ (p : Plan) where
               ∙ misses-packed (withRun p (n .0)) (shows .list) (n .0) lawful (shows .few) misses,
         )
 
-  -- ---- NoneFound
+  -- ---- NoneFound and TooMany
 
+  -- where no list is shown the rule breaks somewhere
+  tried-breaks : Tried → Passes p → ⊥
+  tried-breaks tried rule = true-not-false (sym (pass-of-passes p (planCheck-lawful p (tried .0)) rule) ∙ tried .1)
+
+  -- none was found: with free moving the rule would hold
   module _ (h : missingAnswer p .missing ≡ answer.NoneFound) where
-    none-tried : Tried × (found p ≡ none)
+    none-tried : Tried × (freeBreak p ≡ none)
     none-tried =
         by-answer
         (λ f at e. absurd (omega (arith, not-same _ _ (refused-says f at e) h)))
         (λ lawful pass. absurd (omega (arith, not-same _ _ (pass-says lawful pass) h)))
-        (λ tried none-is. (tried, none-is))
+        (λ tried none-is whole. (tried, whole))
+        (λ tried none-is q breaks. absurd (omega (arith, not-same _ _ (many-says tried none-is q breaks) h)))
         (λ tried y is. absurd (omega (arith, not-same _ _ (shown-says tried y is) h)))
 
-    pub answer-none : Tried
-    answer-none = none-tried .0
+    pub answer-none-rule : LawfulPlan p × (Passes p → ⊥)
+    answer-none-rule = (planCheck-lawful p (none-tried .0 .0), tried-breaks (none-tried .0))
 
-    -- the rule breaks somewhere
-    pub answer-none-rule : Passes p → ⊥
-    answer-none-rule rule =
-        true-not-false (sym (pass-of-passes p (planCheck-lawful p (answer-none .0)) rule) ∙ answer-none .1)
+    pub answer-none-free : Passes (freely p)
+    answer-none-free =
+        passes-of-none (freely p) (freely-lawful p (planCheck-lawful p (none-tried .0 .0))) (none-tried .1)
 
-    -- and where it breaks with free moving too, the list that misses there is too long to be shown
-    pub answer-none-free : (q : Pair) → freeBreak p ≡ some q → 1000 < length (missing p (q .l) (q .b))
-    answer-none-free q breaks =
-        elim (decLe (length (missing p (q .l) (q .b))) 1000) [
-          | yes few ↦ absurd (found-where-free p (planCheck-lawful p (answer-none .0)) q breaks few (none-tried .1))
-          | no many ↦ omega arith
-        ]
+    -- so where moving is free it is never answered
+    pub answer-none-paid : FreeMoving p → ⊥
+    answer-none-paid free = answer-none-rule .1 (free-passes p free answer-none-free)
+
+  -- there are too many: the rule breaks with free moving too, and the list that misses there cannot be shown
+  module _ (h : missingAnswer p .missing ≡ answer.TooMany) where
+    many-tried : Tried × (found p ≡ none) × ((q : Pair) × (freeBreak p ≡ some q))
+    many-tried =
+        by-answer
+        (λ f at e. absurd (omega (arith, not-same _ _ (refused-says f at e) h)))
+        (λ lawful pass. absurd (omega (arith, not-same _ _ (pass-says lawful pass) h)))
+        (λ tried none-is whole. absurd (omega (arith, not-same _ _ (nothing-says tried none-is whole) h)))
+        (λ tried none-is q breaks. (tried, none-is, (q, breaks)))
+        (λ tried y is. absurd (omega (arith, not-same _ _ (shown-says tried y is) h)))
+
+    pub answer-many-rule : LawfulPlan p × (Passes p → ⊥)
+    answer-many-rule = (planCheck-lawful p (many-tried .0 .0), tried-breaks (many-tried .0))
+
+    pub answer-many : MissesOverMany p
+    answer-many =
+        let ok = planCheck-lawful p (many-tried .0 .0) in
+        let q = many-tried .2 .0 in
+        let breaks = many-tried .2 .1 in
+        let first = firstBroken-names (freely p) (q .l) (q .b) breaks in
+        record {
+          l = q .l;
+          b = q .b;
+          many =
+              elim (decLe (length (missing p (q .l) (q .b))) 1000) [
+                | yes few ↦ absurd (found-where-free p ok q breaks few (many-tried .1))
+                | no over ↦ omega arith
+              ];
+          misses =
+              break-misses p ok 1000000 (q .l) (q .b) (omega arith)
+              (omega (arith, first .inRange, dMax-le (freely p) (freely-lawful p ok), freely-lawful p ok .hMax))
+              (first .allowed) (first .breaks);
+        }

@@ -1,3 +1,4 @@
 pub mod Tries
 pub mod Shown
+pub mod Said
 pub mod Openings

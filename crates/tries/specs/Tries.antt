@@ -17,7 +17,9 @@
 --     found p               the first try that misses
 --     raised p y            N, raised to the interval's end where that lies beyond it
 --     unlisted m            the answer m with an empty list
---     missingAnswer p       what is answered: the refusal, that the plan passes, that none was found, or N and the list
+--     unfound q             what is answered where no list that was tried misses, q being the free break: if there is one, so is a list
+--                           that misses, the theorem's, but it has more than 1,000 releases; else none was found
+--     missingAnswer p       what is answered: the refusal, that the plan passes, why no list is shown, or N and the list
 use Prim.Native.Nat.{ℕ, _+_, _-_, min, max}
 use mathlib.Core.Bool.{Bool, true, false, cond}
 use mathlib.Core.List.{List, [], _∷_, _++_, map, flatMap}
@@ -39,7 +41,7 @@ use Rattle.rules.specs.Release.{noRelease}
 use Rattle.rules.specs.Refusal.{planCheck, runAnswer}
 use Rattle.missing.specs.Missing.{freely, withRun, leadOf, blockerRelease, fullRelease, othersIn}
 use Rattle.tries.specs.declared.Missing.{Missing}
-use Rattle.tries.specs.declared.Missing.the-variants.{Refused, Passes, NoneFound, Found}
+use Rattle.tries.specs.declared.Missing.the-variants.{Refused, Passes, NoneFound, TooMany, Found}
 use Rattle.tries.specs.declared.Shown.{Shown}
 
 pub record Try : Type 0 where
@@ -120,8 +122,12 @@ raised p y = max (p .run .0) (endOf y)
 abbrev pub unlisted : Missing → Shown
 unlisted m = record { missing = m; releases = packed [] }
 
+abbrev pub unfound : Option Pair → Missing
+unfound none = NoneFound
+unfound (some q) = TooMany
+
 abbrev pub foundAs : Plan → Option Try → Shown
-foundAs p none = unlisted NoneFound
+foundAs p none = unlisted (unfound (freeBreak p))
 foundAs p (some y) = record { missing = Found (days (raised p y)); releases = packed (listOf p y) }
 
 abbrev pub onMissing : Checked → Shown → Shown

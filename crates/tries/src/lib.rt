@@ -8,8 +8,10 @@ use bounds::plan_check;
 use days::Length;
 use faults::Checked;
 use faults::Fault;
+use free::with_free_moving;
 use listing::listed;
 use openings::no_release;
+use rules::Broken;
 use rules::Plan;
 use rules::Releases;
 use rules::Verdict;
@@ -20,13 +22,15 @@ ghost use Prim.Native.Nat.{max};
 ghost use Rattle.days.specs.Days.{days};
 ghost use Rattle.rules.specs.Verdict.{isPass};
 ghost use Rattle.verdict.specs.Asked.{Ready};
-ghost use Rattle.tries.specs.Tries.{unlisted, missingOf, missingAnswer};
+ghost use Rattle.tries.specs.Tries.{freeBreak, unlisted, unfound, missingOf, missingAnswer};
 
-// What is found for a plan: N of a run that misses; or that the plan passes, so that none does.
+// What is found for a plan: N of a run that misses; or that the plan passes, so that none does; or that none of the lists tried does, and
+// whether there is one, of more than 1,000 releases.
 pub enum Missing {
     Refused { fault: Fault, at: usize },
     Passes,
     NoneFound,
+    TooMany,
     Found { run: Length },
 }
 
@@ -73,6 +77,22 @@ fn raised(run: Length, end: u32) -> Length
     if run.0 < end { Length(end) } else { run }
 }
 
+// Why no list is shown: where the rule with free moving breaks there is one that misses, and it has more than 1,000 releases.
+fn not_shown(p: Plan) -> Missing
+    requires { ⌜ Ready p ⌝ }
+    ensures { λ r. ⌜ r ≡ unfound (freeBreak p) ⌝ }
+{
+    let broken = verdict::first_break(with_free_moving(p));
+    let Broken::At {
+        interval: _,
+        blocking: _,
+    } = broken
+    else {
+        return Missing::NoneFound;
+    };
+    Missing::TooMany
+}
+
 // What is shown for a lawful plan.
 fn shown_for(p: Plan) -> Shown
     requires { ⌜ Ready p ⌝ }
@@ -91,7 +111,7 @@ fn shown_for(p: Plan) -> Shown
                 releases,
             }
         }
-        Tried::NoneMisses => without_list(Missing::NoneFound),
+        Tried::NoneMisses => without_list(not_shown(p)),
     }
 }
 

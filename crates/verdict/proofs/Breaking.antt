@@ -32,11 +32,11 @@ module _ (p : Plan) (ok : LawfulPlan p) (v : Verdict) (scanned : v ≡ scanFrom 
   unfolding brokenAt scanFrom
   broken-nowhere other =
       let none-quick = none-broken p (firstBroken p (quickPairs p)) (0 + length (compared p (quickPairs p))) v (sym scanned) other in
-      ap brokenAt (sym (same-break p ok) ∙ none-quick)
+      ap brokenAt (sym (same-break p (ok .each)) ∙ none-quick)
 
   pub broken-there : (l b d : Length) (k : ℕ) → v ≡ Fail l b d k → brokenAt (firstBroken p (allPairs p)) ≡ At l b
   unfolding brokenAt scanFrom
   broken-there l b d k e =
       let count = 0 + length (compared p (quickPairs p)) in
       let named = judged-fail p (firstBroken p (quickPairs p)) count l b d k (sym scanned ∙ e) .0 in
-      ap brokenAt (sym (same-break p ok) ∙ named)
+      ap brokenAt (sym (same-break p (ok .each)) ∙ named)

@@ -39,15 +39,15 @@ module _ (p : Plan) (ok : LawfulPlan p) (l b : ℕ) (pos : 1 ≤ l) where
   pub keepers-rise : askedBy p 0 (l - 1) < askedBy p 0 l → grows p (pair l b) ≡ true
   keepers-rise more =
       let takers = askedBy-mono p 1 (l - b - 1) (l - b) ok (omega arith) in
-      grows-yes p ok l b pos (omega (arith, before, demand-parts p l b ok))
+      grows-yes p (ok .each) l b pos (omega (arith, before, demand-parts p l b ok))
 
   pub takers-rise : askedBy p 1 (l - b - 1) < askedBy p 1 (l - b) → grows p (pair l b) ≡ true
   takers-rise more =
       let keepers = askedBy-mono p 0 (l - 1) l ok (omega arith) in
-      grows-yes p ok l b pos (omega (arith, before, demand-parts p l b ok))
+      grows-yes p (ok .each) l b pos (omega (arith, before, demand-parts p l b ok))
 
   pub none-rises : askedBy p 0 l ≡ askedBy p 0 (l - 1) → askedBy p 1 (l - b) ≡ askedBy p 1 (l - b - 1) → grows p (pair l b) ≡ false
-  none-rises keepers takers = grows-no p ok l b pos (omega (arith, before, demand-parts p l b ok))
+  none-rises keepers takers = grows-no p (ok .each) l b pos (omega (arith, before, demand-parts p l b ok))
 
 -- before the smallest D none grows
 pub early-still : (p : Plan) (ok : LawfulPlan p) (l b : ℕ) → 1 ≤ l → l < dMin p → grows p (pair l b) ≡ false

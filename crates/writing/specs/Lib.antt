@@ -1,4 +1,5 @@
--- Written and Saved say what is promised; Cells is for the proofs inside.
+-- Written, Saved and Said say what is promised; Cells is for the proofs inside.
 pub mod Written
 pub mod Saved
+pub mod Said
 pub mod Cells

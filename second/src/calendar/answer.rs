@@ -39,6 +39,26 @@ impl Calendar {
         lines.unwrap_or_else(|| NO_SUCH_DATE.to_string())
     }
 
+    /// What is said beside the answer: an empty list of days says why, or when the test falls next.
+    pub fn beside(&self, words: &[String]) -> String {
+        let (on, edition, first, last) = match words {
+            [word, on, edition, first, last] if word == "yearly" => (on, edition, first, last),
+            _ => return String::new(),
+        };
+        if !self.answer(words).is_empty() {
+            return String::new();
+        }
+        // texts of dates are in order as the dates are
+        if last < first {
+            return "clerk: none: the first day is after the last\n".to_string();
+        }
+        let days = self.by_text[last]..self.sheets.len();
+        match days.into_iter().find(|day| self.falls(on, edition, *day)) {
+            Some(day) => format!("clerk: none; the next is {}\n", self.sheets[day].text()),
+            None => "clerk: none; there is none up to 2399-12-31\n".to_string(),
+        }
+    }
+
     fn date(&self, text: &str) -> Option<String> {
         let sheet = &self.sheets[*self.by_text.get(text)?];
         Some(format!("{} {}\n", sheet.day, sheet.weekday()))

@@ -32,16 +32,17 @@ pub fn first_difference(clerk: &Path, asked: &Asked) -> io::Result<Option<String
         if words.iter().any(|word| word.is_empty()) {
             continue;
         }
-        let expected = calendar.answer(&words);
+        let (expected, beside) = (calendar.answer(&words), calendar.beside(&words));
         let given = Command::new(clerk)
             .args(&words)
             .stdin(Stdio::null())
             .output()?;
-        if given.stdout != expected.as_bytes() {
+        if given.stdout != expected.as_bytes() || given.stderr != beside.as_bytes() {
+            let said = String::from_utf8_lossy(&given.stderr);
             let given = String::from_utf8_lossy(&given.stdout);
             return Ok(Some(format!(
-                "question {} of seed {}: clerk {:?}\nexpected:\n{}given:\n{}",
-                number, asked.seed, words, expected, given
+                "question {} of seed {}: clerk {:?}\nexpected:\n{}{}given:\n{}{}",
+                number, asked.seed, words, expected, beside, given, said
             )));
         }
     }

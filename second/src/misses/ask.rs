@@ -29,6 +29,7 @@ pub struct Counts {
     passes: u64,
     found: u64,
     none_found: u64,
+    too_many: u64,
     small: u64,
     small_can_miss: u64,
     small_found: u64,
@@ -50,7 +51,7 @@ pub fn ask_all(asked: &Asked) -> io::Result<Result<Counts, String>> {
 fn any_plans(asked: &Asked, folder: &Path) -> io::Result<Result<Counts, String>> {
     let mut counts = Counts::default();
     let mut first = 0;
-    while counts.found + counts.none_found < asked.plans {
+    while counts.failing() < asked.plans {
         let plans: Vec<Plan> = (first..first + BATCH)
             .map(|number| any_plan(&mut Chance::new(asked.seed, number)))
             .collect();
@@ -60,6 +61,7 @@ fn any_plans(asked: &Asked, folder: &Path) -> io::Result<Result<Counts, String>>
                 Said::Passes => counts.passes += 1,
                 Said::Found => counts.found += 1,
                 Said::NoneFound => counts.none_found += 1,
+                Said::TooMany => counts.too_many += 1,
             }),
         }
         first += BATCH;
@@ -110,6 +112,8 @@ fn all_said(asked: &Asked, folder: &Path, plans: &[Plan]) -> io::Result<Result<V
     fs::write(folder.join("commands"), commands)?;
     let output = ask(&asked.clerk, folder, &["each", "commands"])?;
     let mut rest = output.stdout.as_slice();
+    let reasons = String::from_utf8_lossy(&output.stderr).into_owned();
+    let mut reasons = reasons.lines();
     let mut all = Vec::new();
     for (number, plan) in plans.iter().enumerate() {
         let wrong = |what: &str| {
@@ -127,12 +131,21 @@ fn all_said(asked: &Asked, folder: &Path, plans: &[Plan]) -> io::Result<Result<V
             }
             None => return wrong("the command was not repeated"),
         };
-        match said(plan, answer) {
+        // where nothing is written, the next line of standard error says why
+        let reason = if answer.is_empty() {
+            Some(reasons.next().unwrap_or(""))
+        } else {
+            None
+        };
+        match said(plan, answer, reason) {
             Ok(one) => all.push(one),
             Err(what) => return wrong(what),
         }
     }
-    Ok(Ok(all))
+    match reasons.next() {
+        Some(more) => Ok(Err(format!("clerk miss said more: {more}"))),
+        None => Ok(Ok(all)),
+    }
 }
 
 fn command(number: usize) -> String {
@@ -149,13 +162,20 @@ fn answer_end(text: &[u8]) -> usize {
     at
 }
 
+impl Counts {
+    fn failing(&self) -> u64 {
+        self.found + self.too_many + self.none_found
+    }
+}
+
 impl fmt::Display for Counts {
     fn fmt(&self, out: &mut fmt::Formatter) -> fmt::Result {
         writeln!(
             out,
-            "second: {} plans that do not pass: releases that miss for {}, none found for {}; {} plans pass; no difference",
-            self.found + self.none_found,
+            "second: {} plans that do not pass: releases that miss for {}, over 1,000 of them for {}, none found for {}; {} plans pass; no difference",
+            self.failing(),
             self.found,
+            self.too_many,
             self.none_found,
             self.passes
         )?;

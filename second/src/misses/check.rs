@@ -11,30 +11,37 @@ use crate::rules::run::{run, Outcome};
 pub enum Said {
     Passes,
     NoneFound,
+    TooMany,
     Found,
 }
 
 /// The most releases that a plan file may have.
 const MOST_RELEASES: u64 = 1_000;
 
-/// What was said for a lawful plan, or why that is wrong.
-pub fn said(plan: &Plan, given: &[u8]) -> Result<Said, &'static str> {
+/// What was said for a lawful plan, a plan file or else the reason for none, or why that is wrong.
+pub fn said(plan: &Plan, given: &[u8], reason: Option<&str>) -> Result<Said, &'static str> {
     let cycle = plan.cycle().ok_or("the plan is not lawful")?;
     let does_pass = passes(plan, cycle);
-    match given {
-        b"none: the plan passes\n" if does_pass => Ok(Said::Passes),
-        b"none: the plan passes\n" => Err("the plan does not pass"),
+    match reason {
+        Some("clerk: none: the plan passes") if does_pass => Ok(Said::Passes),
+        Some("clerk: none: the plan passes") => Err("the plan does not pass"),
         _ if does_pass => Err("the plan passes"),
-        b"none found\n" => none_found(plan, cycle),
-        text => found(plan, text),
+        Some("clerk: none found") => match first_break(plan, cycle) {
+            None => Ok(Said::NoneFound),
+            Some(_) => Err("there is a list"),
+        },
+        Some("clerk: none written: the list has over 1000 releases") => too_many(plan, cycle),
+        Some(_) => Err("no reason for none"),
+        None => found(plan, given),
     }
 }
 
 /// Where the rule with free moving breaks there is a list; it may be too long for a file.
-fn none_found(plan: &Plan, cycle: Length) -> Result<Said, &'static str> {
+fn too_many(plan: &Plan, cycle: Length) -> Result<Said, &'static str> {
     match first_break(plan, cycle) {
-        Some(pair) if releases(plan, pair) <= MOST_RELEASES => Err("there is a list"),
-        _ => Ok(Said::NoneFound),
+        Some(pair) if releases(plan, pair) > MOST_RELEASES => Ok(Said::TooMany),
+        Some(_) => Err("there is a list that is not too long"),
+        None => Err("with free moving the rule holds"),
     }
 }
 

@@ -3,4 +3,4 @@
 pub mod ask;
 mod check;
 mod free;
-mod plans;
+pub mod plans;

@@ -33,7 +33,8 @@ pub fn small_plan(chance: &mut Chance) -> Plan {
     }
 }
 
-fn any_small_plan(chance: &mut Chance) -> Plan {
+/// A plan of two or three strings whose lists can all be gone through.
+pub fn any_small_plan(chance: &mut Chance) -> Plan {
     let strings = (0..chance.between(2, 3)).map(|_| small_string(chance));
     Plan {
         days: 1,

@@ -17,6 +17,10 @@ const TODAY: Day = 1_000_000;
 
 /// Some list of releases misses.
 pub fn can_miss(plan: &Plan) -> bool {
+    can_miss_by(Policy::default(), plan)
+}
+
+pub fn can_miss_by(policy: Policy, plan: &Plan) -> bool {
     let first = Morning {
         hall: Hall::empty(),
         since: plan.strings.iter().map(|string| string.t).collect(),
@@ -28,7 +32,7 @@ pub fn can_miss(plan: &Plan) -> bool {
             return true;
         }
         for joins in all_joins(plan, &morning.since) {
-            let next = after(plan, &morning, &joins);
+            let next = after(policy, plan, &morning, &joins);
             if seen.insert(next.clone()) {
                 open.push(next);
             }
@@ -52,7 +56,7 @@ fn all_joins(plan: &Plan, since: &[Length]) -> Vec<Vec<Length>> {
 }
 
 /// The next morning.
-fn after(plan: &Plan, morning: &Morning, joins: &[Length]) -> Morning {
+fn after(policy: Policy, plan: &Plan, morning: &Morning, joins: &[Length]) -> Morning {
     let mut next = morning.clone();
     for (at, need) in joins.iter().enumerate().filter(|(_, need)| **need > 0) {
         let release = Release {
@@ -63,7 +67,7 @@ fn after(plan: &Plan, morning: &Morning, joins: &[Length]) -> Morning {
         next.hall.waiting.push(job(plan, &release));
         next.since[at] = 0;
     }
-    next.hall.take_and_give(Policy::default(), TODAY, plan);
+    next.hall.take_and_give(policy, TODAY, plan);
     next.hall.use_day();
     next.hall.move_back_a_day();
     for (since, string) in next.since.iter_mut().zip(&plan.strings) {

@@ -20,6 +20,10 @@ pub enum Verdict {
 /// How the page is read where planners read it wrongly.
 #[derive(Clone, Copy)]
 pub struct Rule {
+    /// E: the most days for which a job of a string can hold the bank.
+    pub hold: fn(&Plan, &BatteryString) -> Length,
+    /// Whether the string's jobs count only once the blocking is over: they would have taken the bank from who blocks.
+    pub comes_after: fn(&BatteryString) -> bool,
     /// The longest that a job of a string blocks others.
     pub blocker: fn(&Plan, &BatteryString) -> Length,
     /// The last interval that is compared.
@@ -30,6 +34,8 @@ pub struct Rule {
 
 /// As the page says it.
 pub const PAGE: Rule = Rule {
+    hold: Plan::hold,
+    comes_after: |string| string.x == 1,
     // it has already worked a day
     blocker: |plan, string| plan.hold(string) - 1,
     last: |plan, cycle| plan.largest_d() + cycle - 1,
@@ -42,14 +48,14 @@ pub fn verdict(plan: &Plan, cycle: Length) -> Verdict {
 }
 
 pub fn verdict_by(rule: &Rule, plan: &Plan, cycle: Length) -> Verdict {
-    if (rule.overloaded)(load(plan, cycle), cycle) {
+    if (rule.overloaded)(load_by(rule, plan, cycle), cycle) {
         return Verdict::Overload;
     }
     let mut pairs = 0;
     for interval in 1..=(rule.last)(plan, cycle) {
         for blocking in 0..=blocking_limit(rule, plan, interval) {
             pairs += 1;
-            let demand = demand(plan, interval, blocking);
+            let demand = demand_by(rule, plan, interval, blocking);
             if demand > interval {
                 return Verdict::Fail {
                     interval,
@@ -74,9 +80,13 @@ pub fn passes_by(rule: &Rule, plan: &Plan, cycle: Length) -> bool {
 
 /// The days of the bank that all strings together may ask for in one cycle.
 pub fn load(plan: &Plan, cycle: Length) -> Length {
+    load_by(&PAGE, plan, cycle)
+}
+
+fn load_by(rule: &Rule, plan: &Plan, cycle: Length) -> Length {
     plan.strings
         .iter()
-        .map(|string| plan.hold(string) * (cycle / string.t))
+        .map(|string| (rule.hold)(plan, string) * (cycle / string.t))
         .sum()
 }
 
@@ -96,15 +106,33 @@ pub fn blocking_limit(rule: &Rule, plan: &Plan, interval: Length) -> Length {
 }
 
 pub fn demand(plan: &Plan, interval: Length, blocking: Length) -> Length {
+    demand_by(&PAGE, plan, interval, blocking)
+}
+
+/// Where a string may not take the bank its E is its C.
+fn demand_by(rule: &Rule, plan: &Plan, interval: Length, blocking: Length) -> Length {
     let mut demand = blocking;
     for string in &plan.strings {
-        demand += if string.x == 1 {
-            jobs(string, interval - blocking) * plan.hold(string)
+        let window = if (rule.comes_after)(string) {
+            interval - blocking
         } else {
-            jobs(string, interval) * string.c
+            interval
         };
+        demand += jobs(string, window) * (rule.hold)(plan, string);
     }
     demand
+}
+
+/// Every interval that the page compares and that breaks the rule, each with its first such blocking and the demand there.
+pub fn all_breaks(plan: &Plan, cycle: Length) -> Vec<(Length, Length, Length)> {
+    let first_at = |interval| {
+        (0..=blocking_limit(&PAGE, plan, interval))
+            .map(|blocking| (interval, blocking, demand(plan, interval, blocking)))
+            .find(|(_, _, demand)| *demand > interval)
+    };
+    (1..=(PAGE.last)(plan, cycle))
+        .filter_map(first_at)
+        .collect()
 }
 
 /// The jobs of a string that can be released and due in a window of so many days.

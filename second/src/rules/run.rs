@@ -20,6 +20,7 @@ pub enum Outcome {
 #[derive(Clone, PartialEq, Eq, Hash)]
 pub struct Job {
     pub place: u64,
+    /// X is 1.
     taker: bool,
     release: Day,
     pub deadline: Day,
@@ -48,6 +49,8 @@ pub struct Policy {
     pub starts_early: bool,
     /// The moving is charged to the job that was stopped.
     pub stopped_pays: bool,
+    /// X 1 is taken to mean that a string's jobs may be interrupted.
+    pub x_is_interrupted: bool,
 }
 
 /// Runs a lawful list of releases over all N days.
@@ -134,10 +137,17 @@ impl Hall {
             Some(job) => job,
             None => return,
         };
+        let permitted = |job: &Job| {
+            if policy.x_is_interrupted {
+                stopped.taker
+            } else {
+                job.taker
+            }
+        };
         let payer = self
             .waiting
             .iter_mut()
-            .filter(|job| job.taker && job.release == today && job.deadline < stopped.deadline)
+            .filter(|job| permitted(job) && job.release == today && job.deadline < stopped.deadline)
             .min_by_key(|job| (job.deadline, job.place));
         if let Some(payer) = payer {
             let cost = plan.strings[payer.place as usize - 1].moving;

@@ -1,6 +1,6 @@
 -- `put` meets its contract: each answer of the search for releases is shown as it is to be.
 use borrow.Author.Needs.{needs}
-use Rattle.missed.proofs.AsFound.{put-refused, put-passes, put-none, put-shown}
+use Rattle.missed.proofs.AsFound.{put-refused, put-passes, put-none, put-many, put-shown}
 use Rattle.missed.proofs.put.Statement.{statement}
 use Rattle.missed.proofs.put.Tie as tie
 
@@ -15,6 +15,9 @@ enum-told c = search needs
 
 enum-told-2 : tie.Need-enum-told-2
 enum-told-2 c = search needs
+
+enum-told-3 : tie.Need-enum-told-3
+enum-told-3 c = search needs
 
 enum-known-missing-2 : tie.Need-enum-known-missing-2
 enum-known-missing-2 c = search needs
@@ -43,11 +46,18 @@ returns-3 c =
     put-none (g .p) (found .releases-that-miss .result) (g .page .now) (g .at) (found .releases-that-miss .ensures)
     (c .enum-told2 .given .1)
 
+returns-4 : tie.Need-returns-4
+returns-4 c =
+    let found = c .before .before .before in
+    let g = found .before .before .args in
+    put-many (g .p) (found .releases-that-miss .result) (g .page .now) (g .at) (found .releases-that-miss .ensures)
+    (c .enum-told3 .given .1)
+
 same-length : tie.Need-same-length
 same-length c = search needs
 
-returns-4 : tie.Need-returns-4
-returns-4 c =
+returns-5 : tie.Need-returns-5
+returns-5 c =
     let show = c .before .before in
     let told = show .before .before .before in
     let found = told .before .before .before in
@@ -63,10 +73,12 @@ put-spec =
     enum-known-missing
     enum-told
     enum-told-2
+    enum-told-3
     enum-known-missing-2
     show-requires
     returns
     returns-2
     returns-3
+    returns-4
     same-length
-    returns-4)
+    returns-5)

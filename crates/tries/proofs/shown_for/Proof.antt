@@ -38,7 +38,7 @@ pass-is c =
     let start = c .before .before in
     let p = start .args .p in
     let ok = start .pre .lawful in
-    sym (quick-passes p ok)
+    sym (quick-passes p (ok .each))
     ∙ ap isPass (sym (quick-lawful p (lawful-checked p ok)) ∙ sym (c .before .quick .ensures))
     ∙ sym (c .passed .ensures)
 
@@ -80,6 +80,9 @@ listed-requires c κs =
 enum-told : tie.Need-enum-told
 enum-told c = search needs
 
+not-shown-requires : tie.Need-not-shown-requires
+not-shown-requires c κs = search needs
+
 without-list-requires-2 : tie.Need-without-list-requires-2
 without-list-requires-2 c κs = search needs
 
@@ -96,11 +99,13 @@ returns-2 c =
 
 returns-3 : tie.Need-returns-3
 returns-3 c =
-    let search = c .before .before .before in
+    let search = c .before .before .before .before in
     let asked = search .before .before in
     let p = asked .before .before .args .p in
-    let none-is = finds-none (search .first-that-misses .result) _ (c .before .enum-told .given .1) (search .first-that-misses .ensures) in
-    c .without-list2 .ensures ∙ sym (tried-shown p _ (pass-is asked ∙ search .before .if1 .left) none-is)
+    let told = c .before .before .enum-told .given .1 in
+    let none-is = finds-none (search .first-that-misses .result) _ told (search .first-that-misses .ensures) in
+    c .without-list2 .ensures ∙ ap unlisted (c .before .not-shown .ensures)
+    ∙ sym (tried-shown p _ (pass-is asked ∙ search .before .if1 .left) none-is)
 
 pub shown-for-spec : {M : Type 1} → statement M
 shown-for-spec =
@@ -116,6 +121,7 @@ shown-for-spec =
     raised-requires
     listed-requires
     enum-told
+    not-shown-requires
     without-list-requires-2
     returns-2
     returns-3)

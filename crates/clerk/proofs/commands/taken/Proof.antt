@@ -9,10 +9,10 @@ use Rattle.clerk.proofs.commands.taken.Statement.{statement}
 use Rattle.clerk.proofs.commands.taken.Tie as tie
 
 abbrev Inv-loop : tie.InvT-loop
-Inv-loop room₀ count at₀ i₀ room at i = (at ≤ length room) × (length room ≡ length room₀)
+Inv-loop from room₀ count at₀ i₀ room at i = (at ≤ length room) × (length room ≡ length room₀)
 
 abbrev μ-loop : tie.MeasureT-loop
-μ-loop room₀ count at₀ i₀ room at i = count - i
+μ-loop from room₀ count at₀ i₀ room at i = count - i
 
 arg-count-requires : tie.Need-arg-count-requires Inv-loop μ-loop
 arg-count-requires c κs = tt

@@ -6,25 +6,28 @@ use Rattle.clerk.proofs.dates.write_days.Statement.{statement}
 use Rattle.clerk.proofs.dates.write_days.Tie as tie
 
 abbrev Inv-loop : tie.InvT-loop
-Inv-loop count list i₀ i = i ≤ 400
+Inv-loop count list end₀ i₀ end i = i ≤ 400
 
 abbrev μ-loop : tie.MeasureT-loop
-μ-loop count list i₀ i = 400 - i
+μ-loop count list end₀ i₀ end i = 400 - i
 
 loop-holds : tie.Need-loop-holds Inv-loop μ-loop
 loop-holds c = omega arith
 
-mul-t7 : tie.Need-mul-t7 Inv-loop μ-loop
-mul-t7 c = omega arith
+mul-t8 : tie.Need-mul-t8 Inv-loop μ-loop
+mul-t8 c = omega arith
 
-array-read-t10 : tie.Need-array-read-t10 Inv-loop μ-loop
-array-read-t10 c = omega arith
+array-read-t11 : tie.Need-array-read-t11 Inv-loop μ-loop
+array-read-t11 c = omega arith
 
 day-line-requires : tie.Need-day-line-requires Inv-loop μ-loop
 day-line-requires c κs = search needs
 
 answer-page-requires : tie.Need-answer-page-requires Inv-loop μ-loop
 answer-page-requires c κs = search needs
+
+larger-requires : tie.Need-larger-requires Inv-loop μ-loop
+larger-requires c κs = tt
 
 add-i : tie.Need-add-i Inv-loop μ-loop
 add-i c = omega arith
@@ -45,10 +48,11 @@ write-days-spec =
     Inv-loop
     μ-loop
     loop-holds
-    mul-t7
-    array-read-t10
+    mul-t8
+    array-read-t11
     day-line-requires
     answer-page-requires
+    larger-requires
     add-i
     loop-less
     loop-again

@@ -7,10 +7,10 @@ use Rattle.clerk.proofs.each.answer_lines.Statement.{statement}
 use Rattle.clerk.proofs.each.answer_lines.Tie as tie
 
 abbrev Inv-loop : tie.InvT-loop
-Inv-loop text₀ count from₀ text from = (from ≤ length text) × (length text ≡ length text₀)
+Inv-loop text₀ count end₀ from₀ text end from = (from ≤ length text) × (length text ≡ length text₀)
 
 abbrev μ-loop : tie.MeasureT-loop
-μ-loop text₀ count from₀ text from = length text₀ - from
+μ-loop text₀ count end₀ from₀ text end from = length text₀ - from
 
 loop-holds : tie.Need-loop-holds Inv-loop μ-loop
 loop-holds c = omega arith
@@ -27,8 +27,8 @@ part-find-end c = omega arith
 find-requires : tie.Need-find-requires Inv-loop μ-loop
 find-requires c κs = tt
 
-add-end : tie.Need-add-end Inv-loop μ-loop
-add-end c = omega arith
+add-stop : tie.Need-add-stop Inv-loop μ-loop
+add-stop c = omega arith
 
 same-length : tie.Need-same-length Inv-loop μ-loop
 same-length c = omega arith
@@ -51,17 +51,26 @@ part-answer-line-end c = omega arith
 answer-line-requires : tie.Need-answer-line-requires Inv-loop μ-loop
 answer-line-requires c κs = tt
 
-loop-less : tie.Need-loop-less Inv-loop μ-loop
-loop-less c = omega arith
-
-loop-again : tie.Need-loop-again Inv-loop μ-loop
-loop-again c = omega arith
+larger-requires : tie.Need-larger-requires Inv-loop μ-loop
+larger-requires c κs = tt
 
 same-length-2 : tie.Need-same-length-2 Inv-loop μ-loop
 same-length-2 c = omega arith
 
 returns-2 : tie.Need-returns-2 Inv-loop μ-loop
 returns-2 c = tt
+
+loop-less : tie.Need-loop-less Inv-loop μ-loop
+loop-less c = omega arith
+
+loop-again : tie.Need-loop-again Inv-loop μ-loop
+loop-again c = omega arith
+
+same-length-3 : tie.Need-same-length-3 Inv-loop μ-loop
+same-length-3 c = omega arith
+
+returns-3 : tie.Need-returns-3 Inv-loop μ-loop
+returns-3 c = tt
 
 pub answer-lines-spec : {M : Type 1} → statement M
 answer-lines-spec =
@@ -74,7 +83,7 @@ answer-lines-spec =
     part-find-start
     part-find-end
     find-requires
-    add-end
+    add-stop
     same-length
     returns
     add-next
@@ -82,7 +91,10 @@ answer-lines-spec =
     part-answer-line-start
     part-answer-line-end
     answer-line-requires
+    larger-requires
+    same-length-2
+    returns-2
     loop-less
     loop-again
-    same-length-2
-    returns-2)
+    same-length-3
+    returns-3)

@@ -6,10 +6,10 @@ use Rattle.clerk.proofs.show.show_releases.Statement.{statement}
 use Rattle.clerk.proofs.show.show_releases.Tie as tie
 
 abbrev Inv-loop : tie.InvT-loop
-Inv-loop releases count passed₀ passed = passed ≤ count
+Inv-loop releases count end₀ passed₀ end passed = passed ≤ count
 
 abbrev μ-loop : tie.MeasureT-loop
-μ-loop releases count passed₀ passed = count - passed
+μ-loop releases count end₀ passed₀ end passed = count - passed
 
 loop-holds : tie.Need-loop-holds Inv-loop μ-loop
 loop-holds c = omega arith
@@ -22,6 +22,9 @@ release-shown-requires c κs = search needs
 
 answer-page-requires : tie.Need-answer-page-requires Inv-loop μ-loop
 answer-page-requires c κs = search needs
+
+larger-requires : tie.Need-larger-requires Inv-loop μ-loop
+larger-requires c κs = tt
 
 loop-less : tie.Need-loop-less Inv-loop μ-loop
 loop-less c = omega arith
@@ -42,6 +45,7 @@ show-releases-spec =
     add-passed
     release-shown-requires
     answer-page-requires
+    larger-requires
     loop-less
     loop-again
     returns)

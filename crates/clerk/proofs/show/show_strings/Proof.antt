@@ -6,10 +6,10 @@ use Rattle.clerk.proofs.show.show_strings.Statement.{statement}
 use Rattle.clerk.proofs.show.show_strings.Tie as tie
 
 abbrev Inv-loop : tie.InvT-loop
-Inv-loop plan n passed₀ passed = passed ≤ n
+Inv-loop plan n end₀ passed₀ end passed = passed ≤ n
 
 abbrev μ-loop : tie.MeasureT-loop
-μ-loop plan n passed₀ passed = n - passed
+μ-loop plan n end₀ passed₀ end passed = n - passed
 
 loop-holds : tie.Need-loop-holds Inv-loop μ-loop
 loop-holds c = omega arith
@@ -22,6 +22,9 @@ string-shown-requires c κs = search needs
 
 answer-page-requires : tie.Need-answer-page-requires Inv-loop μ-loop
 answer-page-requires c κs = search needs
+
+larger-requires : tie.Need-larger-requires Inv-loop μ-loop
+larger-requires c κs = tt
 
 loop-less : tie.Need-loop-less Inv-loop μ-loop
 loop-less c = omega arith
@@ -42,6 +45,7 @@ show-strings-spec =
     add-passed
     string-shown-requires
     answer-page-requires
+    larger-requires
     loop-less
     loop-again
     returns)

@@ -27,7 +27,7 @@ pass-of :
     (c : tie.After-quickly-judged) (v : Verdict) → c .quickly-judged .result ≡ v → isPass v ≡ isPass (verdictOf (c .before .args .p))
 pass-of c v e =
     let start = c .before in
-    ap isPass (sym e ∙ c .quickly-judged .ensures) ∙ quick-passes (start .args .p) (start .pre .0 .lawful)
+    ap isPass (sym e ∙ c .quickly-judged .ensures) ∙ quick-passes (start .args .p) (start .pre .0 .lawful .each)
 
 returns : tie.Need-returns
 unfolding isPass
