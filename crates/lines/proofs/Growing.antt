@@ -15,6 +15,9 @@ pub textOf-pageOf : (text : List ℕ) → textOf (pageOf text) ≡ text
 unfolding textOf pageOf
 textOf-pageOf text = take-append-seam text (replicate (256 - length text) 0)
 
+pub text-is : (page : Page) (text : List ℕ) → page ≡ pageOf text → textOf page ≡ text
+text-is page text e = ap textOf e ∙ textOf-pageOf text
+
 pub written : (page : Page) (text : List ℕ) → page ≡ pageOf text → Written page
 unfolding Written
 written page text e = e ∙ ap pageOf (sym (textOf-pageOf text) ∙ ap textOf (sym e))
@@ -39,18 +42,7 @@ within page text e =
 -- what a page holds, once more is appended
 pub grown : (page next : Page) (text more : List ℕ) → page ≡ pageOf text → next ≡ pageOf (textOf page ++ more)
     → next ≡ pageOf (text ++ more)
-grown page next text more e f = f ∙ ap (λ t. pageOf (t ++ more)) (ap textOf e ∙ textOf-pageOf text)
-
--- the same behind a part of a line: a word alone, and a word and its number
-pub behind : (page next : Page) (text part word : List ℕ) → page ≡ pageOf (text ++ part) → next ≡ pageOf (textOf page ++ word)
-    → next ≡ pageOf (text ++ (part ++ word))
-behind page next text part word e f = grown page next (text ++ part) word e f ∙ ap pageOf (append-assoc text part word)
-
-pub behind-both : (page next : Page) (text part word number : List ℕ) → page ≡ pageOf (text ++ part)
-    → next ≡ pageOf (textOf page ++ (word ++ number))
-    → next ≡ pageOf (text ++ (part ++ word ++ number))
-behind-both page next text part word number e f =
-    behind page next text part (word ++ number) e f ∙ ap (λ line. pageOf (text ++ line)) (sym (append-assoc part word number))
+grown page next text more e f = f ∙ ap (λ t. pageOf (t ++ more)) (text-is page text e)
 
 pub len-more : (page next : Page) (text word : List ℕ) → page ≡ pageOf text → next ≡ pageOf (textOf page ++ word)
     → next .len ≡ page .len + length word

@@ -11,3 +11,4 @@ pub mod FirstN
 pub mod Parts
 pub mod Storing
 pub mod Members
+pub mod Digits

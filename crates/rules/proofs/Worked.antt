@@ -24,8 +24,9 @@ use Rattle.rules.specs.Refusal.{countCheck, runLengthCheck, costCheck, s
 use Rattle.rules.specs.Said.{Said, lawful, refused, overload, fail, pass, takers, miss, clean, checkedSays, verdictSays, assignSays, outcomeSays}
 use Rattle.rules.specs.Answer.{answerOf}
 use Rattle.rules.specs.Answer as answers
-use Rattle.rules.specs.Lines.{bytesOf, decimalIn, decimal, refusedLine, verdictLine, assignLine, outcomeLine, linesFor}
+use Rattle.rules.specs.Lines.{bytesOf, decimal, wordedIn, refusedLine, verdictLine, assignLine, outcomeLine, linesFor}
 use Rattle.lists.specs.Count.{filled}
+use Rattle.lists.specs.Digits.{digitsIn, digitsOf}
 use Rattle.rules.specs.Layout.{numberFrom, hasField, fieldAmong, fieldIn, framesFor}
 use Rattle.rules.specs.Text.{before, linesOf, digitOf, wellFormed, pairsOf, frameOf, fieldOf, frameCheck, nIn, runIn, aIn, costOf, stringOf, releaseOf}
 use Rattle.rules.specs.Text.{planIn, releasesIn, versionCheck, headerCheck, stringLineCheck, stringLinesCheck, releaseLineCheck}
@@ -216,5 +217,5 @@ unfolding
     nIn runIn aIn costOf stringOf releaseOf planIn releasesIn frameCheck versionCheck headerCheck
     stringLineCheck stringLinesCheck releaseLineCheck releaseLinesCheck bodyCheck linesCheck textCheck lawfulReading readingIn framesOf
     readingOf
-    answers.answered answerOf bytesOf decimalIn decimal refusedLine verdictLine assignLine outcomeLine linesFor
+    answers.answered answerOf bytesOf digitsIn digitsOf decimal wordedIn refusedLine verdictLine assignLine outcomeLine linesFor
 worked = refl

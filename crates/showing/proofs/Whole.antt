@@ -1,20 +1,19 @@
 -- The lines that are asked for one by one, put together, are the whole text.
 use Prim.Native.Nat.{ℕ, zero, suc, _+_, _-_, _≤_}
-use mathlib.Core.Path.{_≡_, refl, sym, ap, _∙_}
-use mathlib.Core.List.{List, [], _∷_, _++_, flatMap}
+use mathlib.Core.Path.{_≡_, sym, ap, _∙_}
+use mathlib.Core.List.{List, _++_, flatMap}
 use native.Mathlib.Omega.{arith}
 use native.Mathlib.Decide.{decLe}
-use lib.ListN.{length, getD, drop, length-take, drop-of-length-le}
+use lib.ListN.{length, drop, length-take, drop-of-length-le}
 use lib.Seq.{drop-cons}
 use Rattle.lists.specs.Count.{upFrom}
 use Rattle.faults.specs.declared.Checked.the-variants.{Lawful}
 use Rattle.rules.specs.declared.Plan.{Plan}
 use Rattle.rules.specs.declared.Releases.{Releases}
-use Rattle.rules.specs.Plan.{stringsOf, noString, multipleOf}
-use Rattle.rules.specs.Demand.{load}
+use Rattle.rules.specs.Plan.{stringsOf, noString}
 use Rattle.rules.specs.Release.{releasesOf, noRelease}
 use Rattle.rules.specs.Refusal.{planCheck}
-use Rattle.lines.specs.Shown.{planLine, loadLine, releaseLine}
+use Rattle.lines.specs.Shown.{releaseLine}
 use Rattle.showing.specs.Shown.{inPlace, inOrder, onText, stringWords, planShown, stringShown, loadShown, releaseShown, shownText}
 use Rattle.showing.proofs.InPlace.{inPlace-there, inPlace-none}
 

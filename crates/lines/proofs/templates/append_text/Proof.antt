@@ -1,4 +1,4 @@
--- `lines::dates::append_date` meets its contract: the text of a date that exists.
+-- `lines::templates::append_text` meets its contract: the text of a date that exists.
 use mathlib.Core.Path.{_≡_, ap, _∙_}
 use mathlib.Core.List.{_++_}
 use native.Mathlib.Omega.{arith}
@@ -9,18 +9,12 @@ use Rattle.calendar.specs.Texts.{dateText}
 use Rattle.calendar.proofs.Texts.{dateWriting-is}
 use Rattle.calendar.proofs.RoundTrip.{dateText-ten}
 use Rattle.lines.specs.Pages.{pageOf, textOf}
-use Rattle.lines.proofs.dates.append_date.Statement.{statement}
-use Rattle.lines.proofs.dates.append_date.Tie as tie
+use Rattle.lines.proofs.templates.append_text.Statement.{statement}
+use Rattle.lines.proofs.templates.append_text.Tie as tie
 
 -- what was written
 written : (c : tie.After-date-text) → c .date-text .result .bytes ≡ dateText (c .before .args .d)
 written c = ap (λ (t : DateText). t .bytes) (c .date-text .ensures ∙ dateWriting-is (c .before .args .d) (c .before .pre .1 .1))
-
-date-text-requires : tie.Need-date-text-requires
-date-text-requires c κs = search needs
-
-slice-aggregate-append : tie.Need-slice-aggregate-append
-slice-aggregate-append c = search needs
 
 append-requires : tie.Need-append-requires
 append-requires c κs =
@@ -32,5 +26,5 @@ returns c =
     let text = c .before .before .before in
     c .append .ensures ∙ ap (λ bytes. pageOf (textOf (text .before .args .page) ++ bytes)) (written text)
 
-pub append-date-spec : {M : Type 1} → statement M
-append-date-spec = tie.close (tie.spec date-text-requires slice-aggregate-append append-requires returns)
+pub append-text-spec : {M : Type 1} → statement M
+append-text-spec = tie.close (tie.spec (λ c κs. search needs) (λ c. search needs) append-requires returns)
