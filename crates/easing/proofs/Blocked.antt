@@ -6,7 +6,6 @@ use mathlib.Core.Path.{_≡_}
 use native.Mathlib.Omega.{arith}
 use native.Mathlib.Decide.{decLe}
 use native.Mathlib.Nat.{le-refl}
-use borrow.Author.Tests.{lt-leb}
 use lib.ListN.{length}
 use Rattle.rules.specs.declared.BatteryString.{BatteryString}
 use Rattle.rules.specs.declared.Plan.{Plan}
@@ -15,7 +14,7 @@ use Rattle.rules.specs.Plan.{stringsOf, noString, dMin, dMax}
 use Rattle.rules.specs.Demand.{blockerHold, blockLimit, need}
 use Rattle.lists.proofs.Lists.{All, all-map, sumOf-le, largest-ge, largest-le, largest-some, smallest-le, smallest-above}
 use Rattle.laws.proofs.Lawful.{LawfulString}
-use Rattle.laws.proofs.Demand.{blockLimit-late, blockLimit-interval, blockLimit-between, blockerHold-late}
+use Rattle.laws.proofs.Demand.{blockLimit-early, blockLimit-late, blockLimit-interval, blockLimit-between, blockerHold-late}
 use Rattle.easing.specs.Easing.{EasedStrings, end, eased, dropped, EasedPlan}
 use Rattle.easing.proofs.Asked.{need-blocked, need-eased, blocker-asked}
 
@@ -66,15 +65,11 @@ module _ (p q : Plan) (l b : ℕ) where
 
 -- ---- The blocking limit
 
-limit-early : (p : Plan) (l : ℕ) → l < dMin p → blockLimit p l ≡ 0
-unfolding blockLimit
-limit-early p l early = rw (lt-leb (dMin p) l early)
-
 module _ (p : Plan) (l b : ℕ) (some : 1 ≤ b) where
   -- a blocking within the limit: some D is within l, some string blocks for as long
   module _ (under : b ≤ blockLimit p l) where
     pub limit-from : dMin p ≤ l
-    limit-from = elim (decLe (dMin p) l) [ yes from ↦ from | no early ↦ absurd (omega (arith, limit-early p l (omega arith))) ]
+    limit-from = elim (decLe (dMin p) l) [ yes from ↦ from | no early ↦ absurd (omega (arith, blockLimit-early p l (omega arith))) ]
 
     limit-until : l < dMax p
     limit-until = elim (decLe (dMax p) l) [ yes late ↦ absurd (omega (arith, blockLimit-late p l late)) | no until ↦ omega arith ]

@@ -20,27 +20,14 @@ use Rattle.lists.proofs.Lists.{All, by-bool}
 use Rattle.lists.proofs.FirstOf.{firstOf-keep}
 use Rattle.laws.proofs.Lawful.{LawfulString, planCheck-lawful}
 use Rattle.laws.proofs.Answers.{set-plan}
-use Rattle.horizon.specs.FirstBreak.{FirstBreak}
 use Rattle.horizon.proofs.Verdict.{firstBroken-names}
 use Rattle.horizon.proofs.Sets.{withSet-lawful}
 use Rattle.growth.specs.Quick.{grows, quickPairs, quickOf, quickAnswer, quickSetAnswer, apartFromPairs}
-use Rattle.growth.specs.Limit.{FirstBreakUnder}
 use Rattle.growth.proofs.Counts.{early-no-jobs}
 use Rattle.growth.proofs.Growing.{first-grows}
 use Rattle.growth.proofs.BlockingLimit.{limit-fits}
 
 -- ---- The same break
-
--- the first break that a fail names is the first under the blocking limit
-break-under : (p : Plan) (l b : ℕ) → FirstBreak p l b → FirstBreakUnder (blockLimit p) p l b
-break-under p l b first =
-    record {
-      pos = first .pos;
-      allowed = first .allowed;
-      breaks = first .breaks;
-      shorter = first .shorter;
-      less = first .less;
-    }
 
 pub same-break : (p : Plan) → All LawfulString (stringsOf p) → firstBroken p (quickPairs p) ≡ firstBroken p (allPairs p)
 unfolding quickPairs
@@ -49,7 +36,7 @@ same-break p each = firstOf-keep (broken p) (grows p) (allPairs p) kept
     kept : (q : Pair) → firstBroken p (allPairs p) ≡ some q → grows p q ≡ true
     kept q h =
         first-grows p each (blockLimit p) (dMin p) (early-no-jobs p) (limit-fits p) (q .l) (q .b)
-        (break-under p (q .l) (q .b) (firstBroken-names p (q .l) (q .b) h))
+        (firstBroken-names p (q .l) (q .b) h)
 
 -- ---- The same verdict
 

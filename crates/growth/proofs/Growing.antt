@@ -16,7 +16,8 @@ use Rattle.rules.specs.Demand.{demand}
 use Rattle.lists.proofs.Lists.{All, by-bool}
 use Rattle.laws.proofs.Lawful.{LawfulString}
 use Rattle.horizon.proofs.Pairs.{pair}
-use Rattle.growth.specs.Limit.{Rises, FirstBreakUnder}
+use Rattle.horizon.specs.FirstBreak.{FirstBreakUnder}
+use Rattle.growth.specs.Limit.{Rises}
 use Rattle.growth.specs.Quick.{grows}
 use Rattle.growth.proofs.Counts.{NoJobs, start-no-jobs, demand-no-jobs, demand-still, demand-all-blocked}
 

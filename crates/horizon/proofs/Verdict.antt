@@ -23,6 +23,7 @@ use Rattle.horizon.proofs.Range.{overload-at-period, range-suffices}
 use Rattle.horizon.proofs.PairList.{Within, Before, all-pairs, each-of-pairs, pairs-rising}
 use Rattle.lists.proofs.FirstOf.{firstOf-none, firstOf-passes, firstOf-in, firstOf-least}
 use Rattle.horizon.proofs.PairList.{compared-all}
+use Rattle.horizon.proofs.Unbroken.{passes-of-none}
 use Rattle.horizon.specs.FirstBreak.{FirstBreak}
 
 -- ---- Verdicts
@@ -109,7 +110,6 @@ module _ (p : Plan) where
   firstBroken-names l b h =
       record {
         pos = within .0;
-        inRange = within .1;
         allowed = within .2;
         breaks = broken-over p (pair l b) (firstOf-passes (broken p) (allPairs p) (pair l b) h);
         shorter = λ m c low under limit. holds m c low (le-trans (omega arith) (within .1)) limit (inl under);
@@ -140,6 +140,11 @@ module _ (p : Plan) where
           by-bool (broken p (pair m c))
           (λ t. absurd (not-after m c earlier (least m c low high limit t)))
           (λ e. unbroken-holds p (pair m c) e)
+
+  -- it lies within the range
+  pub firstBroken-in-range : (l b : ℕ) → firstBroken p (allPairs p) ≡ some (pair l b) → l ≤ dMax p + multipleOf p - 1
+  firstBroken-in-range l b h =
+      firstOf-in (broken p) (Within p) (allPairs p) (pair l b) (all-pairs p (Within p) (λ i c low high limit. (low, high, limit))) h .1
 
   pub fail-not-overloaded : (l b d : Length) (k : ℕ) → verdictOf p ≡ Fail l b d k → overloaded p ≡ false
   fail-not-overloaded l b d k h = by-bool (overloaded p) (λ t. absurd (no-fail (sym (verdictOver-overload p (allPairs p) t) ∙ h))) (λ e. e)
@@ -180,20 +185,18 @@ firstBreak-unique p l b m c one two =
         elim (decLe b c) [ yes h ↦ h | no h ↦ absurd (omega (arith, two .breaks, one .less c (omega arith))) ]
 
 module _ (p : Plan) where
-  -- a plan that is not overloaded and has a first break fails there
+  -- a plan that is not overloaded and has a first break fails there: were no pair of the range broken, the rule would hold
   pub break-fails :
-      (l b : ℕ) → overloaded p ≡ false → FirstBreak p l b
+      LawfulPlan p → (l b : ℕ) → overloaded p ≡ false → FirstBreak p l b
       → verdictOf p ≡ Fail (days l) (days b) (days (demand p l b)) (length (compared p (allPairs p)))
   unfolding verdictOver judged
-  break-fails l b light first =
+  break-fails ok l b light first =
       let at = found (firstBroken p (allPairs p)) refl in
       rw (light, at)
     where
       found : (o : Option Pair) → firstBroken p (allPairs p) ≡ o → firstBroken p (allPairs p) ≡ some (pair l b)
       found none e =
-          let unbroken = firstOf-none (broken p) (allPairs p) .0 e in
-          let holds = each-of-pairs p (λ q. broken p q ≡ false) unbroken l b (first .pos) (first .inRange) (first .allowed) in
-          absurd (omega (arith, first .breaks, unbroken-holds p (pair l b) holds))
+          absurd (omega (arith, first .breaks, passes-of-none p ok e l b (first .pos) (first .allowed)))
       found (some q) e =
           let same = firstBreak-unique p (q .l) (q .b) l b (firstBroken-names p (q .l) (q .b) e) first in
           let interval : q .l ≡ l = same .0 in

@@ -5,7 +5,7 @@ use mathlib.Core.Bool.{_&&_}
 use native.Mathlib.Omega.{arith}
 use native.Mathlib.Decide.{decLe, ℕ-discrete}
 use native.Mathlib.Nat.{mul-one, mul-zero, mul-le-mul}
-use borrow.Author.Tests.{lt-ltb, le-ltb, le-leb, eq-eqb, ne-eqb}
+use borrow.Author.Tests.{lt-ltb, le-ltb, le-leb, lt-leb, eq-eqb, ne-eqb}
 use lib.Dec.{leb, ltb}
 use Rattle.rules.specs.declared.BatteryString.{BatteryString}
 use Rattle.rules.specs.declared.Plan.{Plan}
@@ -58,6 +58,11 @@ need-unblocked p l s h =
     ]
 
 -- ---- The blocking limit
+
+-- before the smallest D nothing blocks
+pub blockLimit-early : (p : Plan) (l : ℕ) → l < dMin p → blockLimit p l ≡ 0
+unfolding blockLimit
+blockLimit-early p l h = rw (lt-leb (dMin p) l h)
 
 -- from the largest D on nothing blocks
 pub blockLimit-late : (p : Plan) (l : ℕ) → dMax p ≤ l → blockLimit p l ≡ 0

@@ -12,7 +12,7 @@ use Rattle.rules.specs.Layout.{version02}
 use Rattle.rules.specs.Text.{readingOf}
 use Rattle.writing.specs.declared.Saved.{Saved}
 use Rattle.writing.specs.Saved.{savedAnswer, savedPage}
-use Rattle.missing.specs.Missing.{withRun}
+use Rattle.rules.specs.Plan.{withRun}
 use Rattle.tries.specs.declared.Missing.the-variants as missing
 use Rattle.tries.specs.declared.Shown.{Shown}
 use Rattle.tries.specs.Tries.{missingAnswer}

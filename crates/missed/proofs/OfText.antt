@@ -44,7 +44,8 @@ use Rattle.onetext.specs.OneText.{blankPlan, blankReleases}
 use Rattle.onetext.proofs.ReadLawful.{read-lawful}
 use Rattle.onetext.proofs.OldAsNew.{read-blank, ten}
 use Rattle.onetext.proofs.InPage.{reading-the-page}
-use Rattle.missing.specs.Missing.{freely, withRun}
+use Rattle.rules.specs.Plan.{withRun}
+use Rattle.missing.specs.Missing.{freely}
 use Rattle.missing.proofs.AnyRun.{verdict-run, search-run}
 use Rattle.tries.specs.declared.Missing.{Missing}
 use Rattle.tries.specs.declared.Missing.the-variants as answer

@@ -12,7 +12,7 @@ use Rattle.rules.specs.Plan.{multipleOf, dMin, dMax}
 use Rattle.rules.specs.Demand.{movingCost, holdOf, blockerHold, blockLimit, need, demand, load, overloaded}
 use Rattle.rules.specs.Verdict.{Pair, pairsAt, allPairs, broken, firstBroken, compared, judged, verdictOver, verdictOf, isPass}
 use Rattle.rules.specs.Search.{withSet, setPasses, ordered, assigned, searchOf}
-use Rattle.missing.specs.Missing.{withRun}
+use Rattle.rules.specs.Plan.{withRun}
 
 module _ (p : Plan) (n : ℕ) where
   judged-run : (o : Option Pair) (k : ℕ) → judged (withRun p n) o k ≡ judged p o k

@@ -17,7 +17,8 @@ use Rattle.laws.proofs.Lawful.{LawfulPlan, dMax-le}
 use Rattle.horizon.proofs.Verdict.{fail-names, overload-exactly}
 use Rattle.horizon.proofs.Range.{overload-at-period, range-suffices}
 use Rattle.sound.proofs.Clean.{run-clean}
-use Rattle.missing.specs.Missing.{freely, withRun, endOf, blockerPlace, blockerRelease, releasesIn, othersIn, missing}
+use Rattle.rules.specs.Plan.{withRun}
+use Rattle.missing.specs.Missing.{freely, endOf, blockerPlace, blockerRelease, releasesIn, othersIn, missing}
 use Rattle.missing.specs.Missing.{MissesBy, NeverMisses, FreeMoving}
 use Rattle.missing.proofs.Freely.{freely-multiple, freely-lawful, free-passes}
 use Rattle.missing.proofs.Misses.{list-misses}

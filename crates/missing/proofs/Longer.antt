@@ -21,7 +21,8 @@ use Rattle.rules.specs.Run.{newSlot, joinFrom, joined, taken, morning, stateAt,
 use Rattle.lists.proofs.Lists.{by-bool, and-left, and-right}
 use Rattle.lists.proofs.Least.{leastFrom-passes}
 use Rattle.laws.proofs.History.{missDay-before, missDay-is, runOf-miss}
-use Rattle.missing.specs.Missing.{withRun, MissesBy}
+use Rattle.rules.specs.Plan.{withRun}
+use Rattle.missing.specs.Missing.{MissesBy}
 
 -- ---- The day of a miss
 

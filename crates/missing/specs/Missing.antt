@@ -1,7 +1,6 @@
 -- The releases that miss. Where the demand rule with free moving breaks at an interval l with blocking b, these releases make the plan miss
 -- a deadline: first one job that blocks the bank for b days, then everybody else as early and as often as is lawful.
 --     freely p              the plan p with every moving cost 0
---     withRun p n           the plan p with a run of n days
 --     leadOf b              the days before the interval: 1 where a job blocks, released alone on day 0, else 0
 --     endOf l b             the day by which the releases are due: the interval's end
 --     blockerPlace p l b    the place of the string whose job blocks: the first with D over l and C over b
@@ -29,7 +28,7 @@ use Rattle.rules.specs.declared.BatteryString.{BatteryString}
 use Rattle.rules.specs.declared.Plan.{Plan}
 use Rattle.rules.specs.declared.Release.{Release}
 use Rattle.rules.specs.declared.Outcome.the-variants.{Miss}
-use Rattle.rules.specs.Plan.{stringsOf, stringAt}
+use Rattle.rules.specs.Plan.{stringsOf, stringAt, withRun}
 use Rattle.rules.specs.Demand.{movingCost}
 use Rattle.rules.specs.Release.{firstUnlawful}
 use Rattle.rules.specs.Run.{runOf}
@@ -41,9 +40,6 @@ movedFreely s = record { t = s .t; c = s .c; d = s .d; x = s .x; a = days 0 }
 
 abbrev pub freely : Plan → Plan
 freely p = record { n = p .n; run = p .run; strings = map movedFreely (p .strings) }
-
-abbrev pub withRun : Plan → ℕ → Plan
-withRun p n = record { n = p .n; run = days n; strings = p .strings }
 
 -- ---- The interval
 

@@ -24,7 +24,8 @@ use Rattle.laws.proofs.Answers.{run-lawful}
 use Rattle.laws.proofs.Releases.{releasesCheck-good}
 use Rattle.horizon.proofs.Verdict.{fail-names, overload-exactly}
 use Rattle.horizon.proofs.Range.{overload-at-period}
-use Rattle.missing.specs.Missing.{withRun, missing, MissesBy, FreeMoving}
+use Rattle.rules.specs.Plan.{withRun}
+use Rattle.missing.specs.Missing.{missing, MissesBy, FreeMoving}
 use Rattle.missing.proofs.Freely.{free-demand, free-limit}
 use Rattle.missing.proofs.Exact.{withRun-lawful, break-misses}
 use Rattle.verdict.proofs.verdict.Reads as verdict

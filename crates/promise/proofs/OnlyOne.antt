@@ -50,6 +50,8 @@ use Rattle.rules.specs.declared.Job.{Job}
 use Rattle.rules.specs.declared.Slot.{Slot}
 use Rattle.rules.specs.declared.Use.{Use}
 use Rattle.rules.proofs.Plan.moving_cost.Reads as Plan-moving-cost
+use Rattle.rules.proofs.Plan.with_run.Reads as Plan-with-run
+use Rattle.rules.specs.declared.Plan.{Plan}
 use Rattle.slots.proofs.chosen_place.Reads as chosen-place
 use Rattle.slots.proofs.stopped_job.Reads as stopped-job
 use Rattle.slots.proofs.seated_job.Reads as seated-job
@@ -173,6 +175,9 @@ one-yearly-text κs a e f r s h k = h ∙ sym k
 pub one-Plan-moving-cost : (κs : Lfts 0) (a : _) (e f : _) (r s : Length) → Plan-moving-cost.Learnt κs a r e
     → Plan-moving-cost.Learnt κs a s f → r ≡ s
 one-Plan-moving-cost κs a e f r s h k = h ∙ sym k
+
+pub one-Plan-with-run : (κs : Lfts 0) (a : _) (e f : _) (r s : Plan) → Plan-with-run.Learnt κs a r e → Plan-with-run.Learnt κs a s f → r ≡ s
+one-Plan-with-run κs a e f r s h k = h ∙ sym k
 
 -- slots
 pub one-chosen-place : (κs : Lfts 0) (a : _) (e f : _) (r s : ℕ) → chosen-place.Learnt κs a r e → chosen-place.Learnt κs a s f → r ≡ s

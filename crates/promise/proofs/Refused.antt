@@ -32,7 +32,7 @@ use Rattle.writing.specs.Said.{savedSays}
 use Rattle.turning.specs.Turned.{lineOf, alikeCheck, turnedText, turnCheck, turnedAnswer, turnedPage}
 use Rattle.tries.specs.declared.Missing.the-variants as missing
 use Rattle.tries.specs.Tries.{missingAnswer}
-use Rattle.missing.specs.Missing.{withRun}
+use Rattle.rules.specs.Plan.{withRun}
 use Rattle.missed.specs.declared.Missed.{Missed}
 use Rattle.missed.specs.Said.{missedSays}
 use Rattle.missed.proofs.OfText.{missed-nine}

@@ -81,7 +81,7 @@ module _ (p : Plan) (ok : planCheck p ≡ Lawful) where
             let fails = sym same ∙ says-fail (verdictAnswer p) l b d k h in
             let named = fail-names p (days l) (days b) (days d) k fails in
             (fail-not-overloaded p (days l) (days b) (days d) k fails, named .0, ap (λ n. n .0) (named .1), named .2),
-        λ h. ap verdictSays (same ∙ break-fails p l b (h .0) (h .1)) ∙ rw (h .2, h .3),
+        λ h. ap verdictSays (same ∙ break-fails p (planCheck-lawful p ok) l b (h .0) (h .1)) ∙ rw (h .2, h .3),
       )
 
 module _ (κs : Lfts 0) (p : Plan) (e : _) (v : Verdict) (answered : verdict.Learnt κs (p, tt) v e) (ok : planCheck p ≡ Lawful) where

@@ -7,6 +7,7 @@ use faults::Fault;
 ghost use mathlib.Core.Path.{_≡_};
 ghost use Rattle.days.specs.Days.{days};
 ghost use Rattle.rules.specs.Demand.{movingCost};
+ghost use Rattle.rules.specs.Plan.{withRun};
 
 // A battery string: least days between two releases, most working days of a job, days from release to deadline,
 // whether its jobs may take the bank (1) or not (0), and the moving days that a job pays which takes it.
@@ -32,6 +33,15 @@ impl Plan {
         ensures exact { λ r. ⌜ r ≡ days (movingCost self s) ⌝ }
     {
         s.a
+    }
+
+    // The plan with a run of another length.
+    pub fn with_run(self, run: Length) -> Plan
+        ensures exact { λ r. ⌜ r ≡ withRun self (run .0) ⌝ }
+    {
+        let n = self.n;
+        let strings = self.strings;
+        Plan { n, run, strings }
     }
 }
 

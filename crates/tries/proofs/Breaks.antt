@@ -18,7 +18,7 @@ use Rattle.laws.proofs.Lawful.{LawfulPlan, dMax-le}
 use Rattle.laws.proofs.LawfulChecked.{lawful-checked}
 use Rattle.laws.proofs.Answers.{break-lawful}
 use Rattle.horizon.proofs.Pairs.{pair}
-use Rattle.horizon.proofs.Verdict.{firstBroken-names}
+use Rattle.horizon.proofs.Verdict.{firstBroken-names, firstBroken-in-range}
 use Rattle.verdict.proofs.Blocking.{blockLimit-short}
 use Rattle.tries.specs.Tries.{ownBreak}
 
@@ -54,8 +54,7 @@ module _ (p : Plan) (ok : LawfulPlan p) (v : Broken) (asked : v ≡ breakAnswer 
     -- both are small
     pub broken-interval : l .0 ≤ 101000
     broken-interval =
-        let first = firstBroken-names p (l .0) (b .0) broken-there in
-        omega (arith, first .inRange, dMax-le p ok, ok .hMax)
+        omega (arith, firstBroken-in-range p (l .0) (b .0) broken-there, dMax-le p ok, ok .hMax)
 
     pub broken-blocking : b .0 ≤ 1000
     broken-blocking =

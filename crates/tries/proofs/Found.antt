@@ -26,9 +26,10 @@ use Rattle.laws.proofs.Lawful.{LawfulPlan, dMax-le}
 use Rattle.laws.proofs.LawfulChecked.{lawful-checked}
 use Rattle.laws.proofs.Releases.{LawfulRun, runCheck-lawful, releasesCheck-good}
 use Rattle.laws.proofs.Answers.{run-lawful}
-use Rattle.horizon.proofs.Verdict.{firstBroken-names}
+use Rattle.horizon.proofs.Verdict.{firstBroken-names, firstBroken-in-range}
 use Rattle.horizon.specs.FirstBreak.{FirstBreak}
-use Rattle.missing.specs.Missing.{freely, withRun, missing, MissesBy}
+use Rattle.rules.specs.Plan.{withRun}
+use Rattle.missing.specs.Missing.{freely, missing, MissesBy}
 use Rattle.missing.proofs.Freely.{freely-lawful}
 use Rattle.missing.proofs.Exact.{withRun-lawful, break-misses-by}
 use Rattle.missing.proofs.Longer.{miss-soon, longer-misses}
@@ -128,7 +129,7 @@ module _ (p : Plan) (ok : LawfulPlan p) (q : Pair) (breaks : freeBreak p ≡ som
   end-bounded : end ≤ 1000000
   end-bounded =
       let free = freely-lawful p ok in
-      omega (arith, first .inRange, dMax-le (freely p) free, free .hMax)
+      omega (arith, firstBroken-in-range (freely p) (q .l) (q .b) breaks, dMax-le (freely p) free, free .hMax)
 
   block-misses : MissesBy (withRun p end) (missing p (q .l) (q .b)) end
   block-misses =

@@ -27,8 +27,9 @@ use Rattle.rules.specs.Refusal.{planCheck, runAnswer}
 use Rattle.laws.proofs.Lawful.{LawfulPlan, dMax-le, planCheck-lawful}
 use Rattle.laws.proofs.LawfulChecked.{lawful-checked}
 use Rattle.horizon.proofs.Unbroken.{passes-of-none}
-use Rattle.horizon.proofs.Verdict.{firstBroken-names, passes-of-pass, pass-of-passes}
-use Rattle.missing.specs.Missing.{freely, withRun, missing, NeverMisses, FreeMoving}
+use Rattle.horizon.proofs.Verdict.{firstBroken-names, firstBroken-in-range, passes-of-pass, pass-of-passes}
+use Rattle.rules.specs.Plan.{withRun}
+use Rattle.missing.specs.Missing.{freely, missing, NeverMisses, FreeMoving}
 use Rattle.missing.proofs.Freely.{freely-lawful, free-passes}
 use Rattle.missing.proofs.Exact.{withRun-lawful, break-misses, passes-never}
 use Rattle.tries.specs.declared.Missing.{Missing}
@@ -260,6 +261,6 @@ module _ (p : Plan) where
               ];
           misses =
               break-misses p ok 1000000 (q .l) (q .b) (omega arith)
-              (omega (arith, first .inRange, dMax-le (freely p) (freely-lawful p ok), freely-lawful p ok .hMax))
+              (omega (arith, firstBroken-in-range (freely p) (q .l) (q .b) breaks, dMax-le (freely p) (freely-lawful p ok), freely-lawful p ok .hMax))
               (first .allowed) (first .breaks);
         }

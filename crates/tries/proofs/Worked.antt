@@ -15,7 +15,8 @@ use Rattle.rules.specs.Run.{chosen, lateAt, newSlot, joinFrom, joined, holder, 
 use Rattle.rules.specs.Run.{stateAt, useOn, lateOn, history, daysOf, missDay, runOf}
 use Rattle.rules.specs.Refusal.{countCheck, runLengthCheck, stringsCheck, multipleCheck, planCheck, releasesCheck, runCheck, runAnswer}
 use Rattle.rules.proofs.Worked.{string, paying, planOf, plan, release, two, five}
-use Rattle.missing.specs.Missing.{withRun, blockerPlace, blockerRelease, delayOf, comesIn, releasesIn, othersIn}
+use Rattle.rules.specs.Plan.{withRun}
+use Rattle.missing.specs.Missing.{blockerPlace, blockerRelease, delayOf, comesIn, releasesIn, othersIn}
 use Rattle.tries.specs.declared.Missing.the-variants.{Passes, NoneFound, Found}
 use Rattle.tries.specs.declared.Shown.{Shown}
 use Rattle.tries.specs.Tries.{listOf, stoppedTries, paidTries, tries, packed, isMiss, missesOn, found, missingOf, missingAnswer, unlisted}

@@ -39,7 +39,8 @@ use Rattle.rules.specs.Demand.{holdOf}
 use Rattle.rules.specs.Verdict.{Pair, allPairs, firstBroken, verdictOf, isPass}
 use Rattle.rules.specs.Release.{noRelease}
 use Rattle.rules.specs.Refusal.{planCheck, runAnswer}
-use Rattle.missing.specs.Missing.{freely, withRun, leadOf, blockerRelease, fullRelease, othersIn}
+use Rattle.rules.specs.Plan.{withRun}
+use Rattle.missing.specs.Missing.{freely, leadOf, blockerRelease, fullRelease, othersIn}
 use Rattle.tries.specs.declared.Missing.{Missing}
 use Rattle.tries.specs.declared.Missing.the-variants.{Refused, Passes, NoneFound, TooMany, Found}
 use Rattle.tries.specs.declared.Shown.{Shown}

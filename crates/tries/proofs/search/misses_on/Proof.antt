@@ -3,7 +3,7 @@ use mathlib.Core.Path.{_≡_, sym, ap, _∙_}
 use borrow.Author.Needs.{needs}
 use Rattle.rules.specs.declared.Outcome.{Outcome}
 use Rattle.rules.specs.Refusal.{runAnswer}
-use Rattle.missing.specs.Missing.{withRun}
+use Rattle.rules.specs.Plan.{withRun}
 use Rattle.tries.specs.Tries.{endOf, isMiss, missesOn}
 use Rattle.tries.specs.Openings.{tryOf}
 use Rattle.tries.proofs.search.misses_on.Statement.{statement}

@@ -2,8 +2,7 @@
 use mathlib.Core.Path.{sym}
 use native.Mathlib.Omega.{arith}
 use borrow.Author.Needs.{needs}
-use Rattle.laws.proofs.Demand.{blockLimit-late, blockLimit-between}
-use Rattle.verdict.proofs.Blocking.{blockLimit-early}
+use Rattle.laws.proofs.Demand.{blockLimit-early, blockLimit-late, blockLimit-between}
 use Rattle.verdict.proofs.limits.limit.Statement.{statement}
 use Rattle.verdict.proofs.limits.limit.Tie as tie
 
