@@ -5,15 +5,16 @@ use Prim.Native.Nat.{ℕ}
 use mathlib.Core.Path.{_≡_, sym, ap, _∙_}
 use lib.ListN.{length, take, drop}
 use contract.Lifetimes.{Lfts}
+use Rattle.lists.specs.Count.{putAt}
 use Rattle.faults.specs.declared.Checked.the-variants.{Lawful}
 use Rattle.rules.specs.declared.Plan.{Plan}
 use Rattle.rules.specs.declared.Releases.{Releases}
 use Rattle.rules.specs.declared.Reading.{Reading}
-use Rattle.rules.specs.Layout.{version02, framesFor}
-use Rattle.rules.specs.Text.{linesOf, framesOf, readingIn, readingOf}
+use Rattle.rules.specs.Layout.{version02, heldTo}
+use Rattle.rules.specs.Text.{linesOf, versionOf, readingIn, readingOf}
 use Rattle.writing.specs.declared.Saved.the-variants.{Text}
-use Rattle.writing.specs.Saved.{patched, savedAnswer, savedPage}
-use Rattle.onetext.specs.OneText.{lawfulText}
+use Rattle.writing.specs.Saved.{savedAnswer, savedPage}
+use Rattle.onetext.specs.OneText.{readAgain}
 use Rattle.onetext.proofs.InPage.{reading-the-page, saving-what-was-read}
 use Rattle.reading.proofs.read.Reads as read
 use Rattle.writing.proofs.write.Reads as write
@@ -22,22 +23,22 @@ module _ (κs κt : Lfts 1) (lent : _) (after : _) (r : Reading) (was-read : rea
   -- the text that was read stands in a page where it was written; places after the n-th and releases after the count come back blank
   pub written-reads-back : (a : _) (e : _) (len : ℕ) → write.Learnt κt a (Text len) e → length (a .0 .strings) ≡ 10
       → length (a .1 .0 .list) ≡ 1000
-      → lent .0 .now ≡ take len (drop (a .1 .1 .1 .0) (e .1 .1 .0 .now)) → r ≡ lawfulText (a .0) (a .1 .0)
+      → lent .0 .now ≡ take len (drop (a .1 .1 .1 .0) (e .1 .1 .0 .now)) → r ≡ readAgain (a .0) (a .1 .0)
   written-reads-back a e len wrote ten thousand text =
       was-read .0
       ∙ ap readingOf (text ∙ ap (λ page. take len (drop (a .1 .1 .1 .0) page)) (wrote .1))
       ∙ reading-the-page (a .0) (a .1 .0) (a .1 .1 .0 .now) (a .1 .1 .1 .0) len (sym (wrote .0)) ten thousand
 
   -- what was read from a version 02 text, written into a page, is the text byte for byte; the rest of the page stays
-  pub read-writes-back : framesOf (linesOf (lent .0 .now)) ≡ version02 → r .checked ≡ Lawful → (a : _) (e : _) (len : ℕ)
+  pub read-writes-back : versionOf (linesOf (lent .0 .now)) ≡ version02 → r .checked ≡ Lawful → (a : _) (e : _) (len : ℕ)
       → write.Learnt κt a (Text len) e → a .0 ≡ r .plan → a .1 .0 ≡ r .releases
-      → e .1 .1 .0 .now ≡ patched (a .1 .1 .0 .now) (a .1 .1 .1 .0) (lent .0 .now)
-  unfolding framesFor readingOf
-  read-writes-back new lawful a e len wrote plan list =
+      → e .1 .1 .0 .now ≡ putAt (a .1 .1 .1 .0) (lent .0 .now) (a .1 .1 .0 .now)
+  unfolding heldTo readingOf
+  read-writes-back in-02 lawful a e len wrote plan list =
       let text = lent .0 .now in
       let page = a .1 .1 .0 .now in
       let at = a .1 .1 .1 .0 in
-      let read = was-read .0 ∙ ap (λ v. readingIn v text) new in
+      let read = was-read .0 ∙ ap (λ v. readingIn v text) in-02 in
       let plan-is : a .0 ≡ readingIn version02 text .plan = plan ∙ ap (λ s. s .plan) read in
       let list-is : a .1 .0 ≡ readingIn version02 text .releases = list ∙ ap (λ s. s .releases) read in
       let saves : savedAnswer version02 (readingIn version02 text .plan) (readingIn version02 text .releases) page at ≡ Text len =
