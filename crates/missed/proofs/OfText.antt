@@ -33,16 +33,17 @@ use Rattle.rules.specs.Refusal.{planCheck, releasesCheck, runCheck, verdictAnsw
 use Rattle.rules.specs.declared.Answer.the-variants.{Answered}
 use Rattle.rules.specs.Answer.{answered, answerOf}
 use Rattle.rules.specs.Layout.{version02}
-use Rattle.rules.specs.Text.{linesOf, framesOf, readingOf}
+use Rattle.rules.specs.Text.{linesOf, versionOf, readingOf}
 use Rattle.laws.proofs.Lawful.{planCheck-lawful}
 use Rattle.laws.proofs.Answers.{verdict-lawful, search-lawful}
 use Rattle.laws.proofs.RefusedBy.{Numbered, read-numbers}
 use Rattle.rules.specs.Said.{refused-with}
 use Rattle.writing.specs.declared.Saved.the-variants as saved
-use Rattle.writing.specs.Saved.{savedText, noRoom, saveCheck, savedAnswer, savedPage}
-use Rattle.onetext.specs.OneText.{blankPlan, blankReleases}
+use Rattle.writing.specs.Saved.{savedText, noRoom, writableCheck, saveCheck, savedAnswer, savedPage}
+use Rattle.writing.proofs.Saving.{writable-own}
+use Rattle.onetext.specs.OneText.{trimmedPlan, trimmedReleases}
 use Rattle.onetext.proofs.ReadLawful.{read-lawful}
-use Rattle.onetext.proofs.OldAsNew.{read-blank, ten}
+use Rattle.onetext.proofs.As02.{read-trimmed, ten}
 use Rattle.onetext.proofs.InPage.{reading-the-page}
 use Rattle.rules.specs.Plan.{withRun}
 use Rattle.missing.specs.Missing.{freely}
@@ -100,18 +101,21 @@ module _ (p : Plan) (n : Length) (is : missingAnswer p .missing ≡ answer.Found
   same-search h = search-lawful longer found-plan ∙ search-run p (n .0) ∙ sym (search-lawful p h)
 
   -- so only the room can be wanting
+  found-writable : writableCheck version02 longer rs ≡ checked.Lawful
+  found-writable = writable-own version02 longer rs (omega arith) found-lawful
+
   found-fits : (page : List ℕ) (at : ℕ) → noRoom page at (savedText version02 longer rs) ≡ false
       → savedAnswer version02 longer rs page at ≡ saved.Text (length (savedText version02 longer rs))
   unfolding savedAnswer saveCheck
-  found-fits page at fits = rw (found-lawful, fits)
+  found-fits page at fits = rw (found-writable, fits)
 
   found-full : (page : List ℕ) (at : ℕ) → noRoom page at (savedText version02 longer rs) ≡ true
       → (savedAnswer version02 longer rs page at ≡ saved.Refused NoRoom 0) × (savedPage version02 longer rs page at ≡ page)
   unfolding savedAnswer savedPage saveCheck
-  found-full page at full = (rw (found-lawful, full), rw (found-lawful, full))
+  found-full page at full = (rw (found-writable, full), rw (found-writable, full))
 
   -- the list is as it reads back
-  list-blank : blankReleases rs ≡ rs
+  list-blank : trimmedReleases rs ≡ rs
   list-blank =
       let shows = answer-found p n is .1 in
       let list = shows .list in
@@ -130,11 +134,11 @@ module _ (p : Plan) (n : Length) (is : missingAnswer p .missing ≡ answer.Found
 
 -- a plan that was read has nothing behind its strings
 plan-blank : (text : List ℕ) → readingOf text .checked ≡ checked.Lawful
-    → (blankPlan (readingOf text .plan) ≡ readingOf text .plan) × (length (readingOf text .plan .strings) ≡ 10)
+    → (trimmedPlan (readingOf text .plan) ≡ readingOf text .plan) × (length (readingOf text .plan .strings) ≡ 10)
 unfolding readingOf
 plan-blank text h =
-    let v = framesOf (linesOf text) in
-    (ap (λ (r : Reading). r .plan) (read-blank v text h), ten v text h)
+    let v = versionOf (linesOf text) in
+    (ap (λ (r : Reading). r .plan) (read-trimmed v text h), ten v text h)
 
 -- ---- How an answer comes about
 
@@ -356,7 +360,7 @@ module _ (text page : List ℕ) (at : ℕ) where
           let list = list-blank p n is in
           ap (λ after. readingOf (take len (drop at after))) (says .1)
           ∙ reading-the-page (withRun p (n .0)) (missingAnswer p .releases) page at len wrote (blank .1) (list-long p n is)
-          ∙ ap (λ q. record { checked = checked.Lawful; plan = withRun q (n .0); releases = blankReleases (missingAnswer p .releases) })
+          ∙ ap (λ q. record { checked = checked.Lawful; plan = withRun q (n .0); releases = trimmedReleases (missingAnswer p .releases) })
           (blank .0)
           ∙ ap (λ rs. record { checked = checked.Lawful; plan = withRun p (n .0); releases = rs }) list
 

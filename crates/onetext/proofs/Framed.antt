@@ -16,7 +16,7 @@ use Rattle.faults.specs.Checks.{refuseIf}
 use Rattle.faults.specs.declared.Fault.the-variants.{LineMalformed, FrameWrong}
 use Rattle.faults.specs.declared.Checked.the-variants.{Lawful}
 use Rattle.faults.proofs.Checks.{then-first, then-second, refuseIf-not}
-use Rattle.rules.specs.Layout.{Field, Layout, frameSize, numberFrom, kindIn}
+use Rattle.rules.specs.Layout.{Layout, frameSize, numberFrom, kindIn}
 use Rattle.rules.specs.Text.{Line, digitOf, wellFormed, frameOf, frameCheck, layoutCheck}
 use Rattle.writing.specs.Written.{byteText, frameBytes, lineText}
 use Rattle.writing.proofs.Texts.{flatMap-length, byteText-length, frameBytes-length}
@@ -50,13 +50,13 @@ pub frame-is : (frame : List ℕ) → All Small frame → frameOf (frameLine fra
 unfolding frameOf
 frame-is frame small = frame-said frame small
 
-abbrev pub written : Layout → (Field → ℕ) → Line
+abbrev pub written : {F : Type 0} → Layout F → (F → ℕ) → Line
 written l says = frameLine (frameBytes l says)
 
-module _ (l : Layout) (says : Field → ℕ) (low : l .kind < 256) where
+module _ {F : Type 0} (l : Layout F) (says : F → ℕ) (low : l .kind < 256) where
   pub bytes-small : All Small (frameBytes l says)
   unfolding frameBytes
-  bytes-small = (low, fields-small (l .fields) says)
+  bytes-small = (low, fields-small l says (l .fields))
 
   written-kind : kindIn (frameBytes l says) ≡ l .kind
   unfolding frameBytes numberFrom
@@ -74,20 +74,21 @@ module _ (l : Layout) (says : Field → ℕ) (low : l .kind < 256) where
         eq-eqb (kindIn (frameBytes l says)) (l .kind) written-kind,
       )
 
-  pub written-says : Fits (l .fields) says → Says (l .fields) says (drop 1 (frameOf (written l says)))
+  pub written-says : Fits l says → Says l says (l .fields) (drop 1 (frameOf (written l says)))
   unfolding frameBytes
-  written-says fits = rw (frame-is (frameBytes l says) bytes-small) (fields-said (l .fields) says fits)
+  written-says fits = rw (frame-is (frameBytes l says) bytes-small) (fields-said l says fits (l .fields))
 
 -- ---- A frame that is read
 
-pub record Framed (l : Layout) (line : Line) : Type 0 where
-  pub ended : line .ended ≡ true
-  pub digits : All Digit (line .bytes)
-  pub even : length (line .bytes) % 2 ≡ 0
-  pub size : length (frameOf line) ≡ frameSize l
-  pub kind : kindIn (frameOf line) ≡ l .kind
+module _ {F : Type 0} where
+  pub record Framed (l : Layout F) (line : Line) : Type 0 where
+    pub ended : line .ended ≡ true
+    pub digits : All Digit (line .bytes)
+    pub even : length (line .bytes) % 2 ≡ 0
+    pub size : length (frameOf line) ≡ frameSize l
+    pub kind : kindIn (frameOf line) ≡ l .kind
 
-module _ (l : Layout) (line : Line) where
+module _ {F : Type 0} (l : Layout F) (line : Line) where
   pub layout-framed : (k : ℕ) → layoutCheck k l line ≡ Lawful → Framed l line
   unfolding frameCheck wellFormed
   layout-framed k h =
@@ -112,17 +113,17 @@ module _ (l : Layout) (line : Line) where
         kind = eqb-true (kindIn (frameOf line)) (l .kind) (and-right S K frame);
       }
 
-bytes-written : (l : Layout) (says : Field → ℕ) (frame : List ℕ) → All Small frame → length frame ≡ frameSize l → kindIn frame ≡ l .kind
-    → Says (l .fields) says (drop 1 frame) → frameBytes l says ≡ frame
+bytes-written : {F : Type 0} (l : Layout F) (says : F → ℕ) (frame : List ℕ) → All Small frame → length frame ≡ frameSize l
+    → kindIn frame ≡ l .kind → Says l says (l .fields) (drop 1 frame) → frameBytes l says ≡ frame
 unfolding frameBytes numberFrom
 bytes-written l says [] small size kind s = absurd (omega arith)
 bytes-written l says (b ∷ bytes) small size kind s =
     let first : l .kind ≡ b = omega arith in
-    rw (first, fields-written (l .fields) says bytes (small .1) (omega arith) s)
+    rw (first, fields-written l says (l .fields) bytes (small .1) (omega arith) s)
 
 -- a line whose fields say what is written is the line that is written
-pub framed-written : (l : Layout) (says : Field → ℕ) (line : Line) → Framed l line → Says (l .fields) says (drop 1 (frameOf line))
-    → lineText (frameBytes l says) ≡ lineBytes line
+pub framed-written : {F : Type 0} (l : Layout F) (says : F → ℕ) (line : Line) → Framed l line
+    → Says l says (l .fields) (drop 1 (frameOf line)) → lineText (frameBytes l says) ≡ lineBytes line
 unfolding frameOf
 framed-written l says line f s =
     let bytes = bytes-written l says (frameOf line) (frame-small (line .bytes) (f .digits)) (f .size) (f .kind) s in

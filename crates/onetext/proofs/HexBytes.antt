@@ -9,7 +9,7 @@ use native.Mathlib.Decide.{decLe}
 use borrow.Author.Tests.{lt-ltb, le-ltb}
 use lib.ListN.{length}
 use Rattle.lists.specs.Count.{All}
-use Rattle.rules.specs.Text.{digitOf, pairsOf}
+use Rattle.rules.specs.Text.{digitOf, hexBytes}
 use Rattle.reading.proofs.Hex.{digitOf-number, digitOf-letter, digitOf-other}
 use Rattle.writing.specs.Written.{digitText, byteText}
 
@@ -81,8 +81,8 @@ unfolding flatMap
 frame-digits [] h = tt
 frame-digits (b ∷ frame) h = all-append Digit (byteText b) (flatMap byteText frame) (byte-digits b (h .0)) (frame-digits frame (h .1))
 
-pub frame-said : (frame : List ℕ) → All Small frame → pairsOf (flatMap byteText frame) ≡ frame
-unfolding flatMap byteText pairsOf
+pub frame-said : (frame : List ℕ) → All Small frame → hexBytes (flatMap byteText frame) ≡ frame
+unfolding flatMap byteText hexBytes
 frame-said [] h = refl
 frame-said (b ∷ frame) h =
     let small = h .0 in
@@ -91,8 +91,8 @@ frame-said (b ∷ frame) h =
     let byte : digitOf (digitText (b / 16)) * 16 + digitOf (digitText (b % 16)) ≡ b = omega arith in
     rw (byte, frame-said frame (h .1))
 
-pub frame-written : (digits : List ℕ) → All Digit digits → length digits % 2 ≡ 0 → flatMap byteText (pairsOf digits) ≡ digits
-unfolding flatMap byteText pairsOf
+pub frame-written : (digits : List ℕ) → All Digit digits → length digits % 2 ≡ 0 → flatMap byteText (hexBytes digits) ≡ digits
+unfolding flatMap byteText hexBytes
 frame-written [] h even = refl
 frame-written (high ∷ []) h even = absurd (omega arith)
 frame-written (high ∷ low ∷ digits) h even =
@@ -102,8 +102,8 @@ frame-written (high ∷ low ∷ digits) h even =
     let lower : (digitOf high * 16 + digitOf low) % 16 ≡ digitOf low = omega arith in
     rw (upper, lower, digit-written high first, digit-written low second, frame-written digits (h .1 .1) (omega arith))
 
-pub frame-small : (digits : List ℕ) → All Digit digits → All Small (pairsOf digits)
-unfolding pairsOf
+pub frame-small : (digits : List ℕ) → All Digit digits → All Small (hexBytes digits)
+unfolding hexBytes
 frame-small [] h = tt
 frame-small (high ∷ []) h = tt
 frame-small (high ∷ low ∷ digits) h =

@@ -1,5 +1,5 @@
 -- A plan has one text. Modules stand in the order in which they build on each other; the theorems are in ReadBack,
--- WriteBack, InPage, ReadLawful and OldAsNew.
+-- WriteBack, InPage, ReadLawful and As02.
 pub mod HexBytes
 pub mod Numbers
 pub mod Ended
@@ -10,4 +10,4 @@ pub mod ReadBack
 pub mod WriteBack
 pub mod InPage
 pub mod ReadLawful
-pub mod OldAsNew
+pub mod As02

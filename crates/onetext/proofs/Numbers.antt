@@ -1,15 +1,17 @@
 -- Numbers and the bytes that write them, fields and the frames that hold them: each says the other.
---     Says fs says bytes    the fields fs of the bytes say what says gives them
---     Fits fs says          what says gives each of the fields fs can be written in its bytes
-use Prim.Native.Nat.{ℕ, zero, suc, _+_, _*_, _/_, _%_, _^_, _<_}
+--     Says l says fs bytes  the fields fs of the bytes, as the layout l has them, say what says gives them
+--     Fits l says           what says gives each field can be written in its bytes
+-- A field of no byte is one that the frame does not have; it says nothing.
+use Prim.Native.Nat.{ℕ, zero, suc, _+_, _*_, _/_, _%_, _^_, _≤_, _<_}
 use mathlib.Core.Path.{_≡_, refl, sym, ap, _∙_}
 use mathlib.Core.List.{List, [], _∷_, _++_, flatMap, append-assoc, append-nil}
 use native.Mathlib.Omega.{arith}
+use native.Mathlib.Decide.{decLe}
 use native.Mathlib.Nat.{pow-suc}
 use lib.ListN.{length, take, drop, length-drop, take-append-drop}
 use lib.Seq.{take-at, drop-at, length-take-le, take-nil, drop-nil}
 use Rattle.lists.specs.Count.{All}
-use Rattle.rules.specs.Layout.{Field, Sized, sizeOf, numberFrom, numberOf}
+use Rattle.rules.specs.Layout.{Layout, sizeOf, numberFrom, numberOf}
 use Rattle.writing.specs.Written.{numberBytes}
 use Rattle.writing.proofs.Texts.{numberBytes-length}
 use Rattle.onetext.proofs.HexBytes.{Small, all-append}
@@ -63,16 +65,6 @@ numberBytes-small (suc k) v = snoc (numberBytes k (v / 256)) (numberBytes-small 
 
 -- ---- Fields
 
-abbrev pub fieldBytes : (Field → ℕ) → Sized → List ℕ
-fieldBytes says s = numberBytes (s .size) (says (s .field))
-
-abbrev pub Says : List Sized → (Field → ℕ) → List ℕ → Type 0
-Says [] says bytes = Unit {0}
-Says (s ∷ fs) says bytes = (numberOf (take (s .size) bytes) ≡ says (s .field)) × Says fs says (drop (s .size) bytes)
-
-abbrev pub Fits : List Sized → (Field → ℕ) → Type 0
-Fits fs says = All (λ s. says (s .field) < 256 ^ s .size) fs
-
 all-take : (k : ℕ) (xs : List ℕ) → All Small xs → All Small (take k xs)
 all-take k [] h = rw (take-nil k) tt
 all-take zero (x ∷ xs) h = tt
@@ -83,33 +75,51 @@ all-drop k [] h = rw (drop-nil k) tt
 all-drop zero (x ∷ xs) h = h
 all-drop (suc k) (x ∷ xs) h = all-drop k xs (h .1)
 
--- fields that are written say what was written
-pub fields-said : (fs : List Sized) (says : Field → ℕ) → Fits fs says → Says fs says (flatMap (fieldBytes says) fs)
-unfolding flatMap
-fields-said [] says h = tt
-fields-said (s ∷ fs) says h =
-    let bytes = numberBytes (s .size) (says (s .field)) in
-    let front = take-at bytes (flatMap (fieldBytes says) fs) (s .size) (numberBytes-length (s .size) (says (s .field))) in
-    let back = drop-at bytes (flatMap (fieldBytes says) fs) (s .size) (numberBytes-length (s .size) (says (s .field))) in
-    (ap numberOf front ∙ number-said (s .size) (says (s .field)) (h .0), rw back (fields-said fs says (h .1)))
+module _ {F : Type 0} (l : Layout F) (says : F → ℕ) where
+  abbrev pub fieldBytes : F → List ℕ
+  fieldBytes f = numberBytes (l .size f) (says f)
 
--- bytes whose fields say what is written are what is written
-pub fields-written : (fs : List Sized) (says : Field → ℕ) (bytes : List ℕ) → All Small bytes → length bytes ≡ sizeOf fs → Says fs says bytes
-    → flatMap (fieldBytes says) fs ≡ bytes
-unfolding flatMap
-fields-written [] says [] h e s = refl
-fields-written [] says (b ∷ bytes) h e s = absurd (omega arith)
-fields-written (f ∷ fs) says bytes h e s =
-    let front : length (take (f .size) bytes) ≡ f .size = length-take-le (f .size) bytes (omega arith) in
-    let number = number-written (f .size) (take (f .size) bytes) (all-take (f .size) bytes h) front in
-    let first = ap (numberBytes (f .size)) (sym (s .0)) ∙ number in
-    let size = length-drop (f .size) bytes in
-    let rest = fields-written fs says (drop (f .size) bytes) (all-drop (f .size) bytes h) (omega arith) (s .1) in
-    rw (first, rest) (take-append-drop (f .size) bytes)
+  abbrev pub Says : List F → List ℕ → Type 0
+  Says [] bytes = Unit {0}
+  Says (f ∷ fs) bytes = (1 ≤ l .size f → numberOf (take (l .size f) bytes) ≡ says f) × Says fs (drop (l .size f) bytes)
 
-pub fields-small : (fs : List Sized) (says : Field → ℕ) → All Small (flatMap (fieldBytes says) fs)
-unfolding flatMap
-fields-small [] says = tt
-fields-small (s ∷ fs) says =
-    all-append Small (fieldBytes says s) (flatMap (fieldBytes says) fs) (numberBytes-small (s .size) (says (s .field)))
-    (fields-small fs says)
+  abbrev pub Fits : Type 0
+  Fits = (f : F) → 1 ≤ l .size f → says f < 256 ^ l .size f
+
+  -- fields that are written say what was written
+  pub fields-said : Fits → (fs : List F) → Says fs (flatMap fieldBytes fs)
+  unfolding flatMap
+  fields-said h [] = tt
+  fields-said h (f ∷ fs) =
+      let front = take-at (fieldBytes f) (flatMap fieldBytes fs) (l .size f) (numberBytes-length (l .size f) (says f)) in
+      let back = drop-at (fieldBytes f) (flatMap fieldBytes fs) (l .size f) (numberBytes-length (l .size f) (says f)) in
+      (λ some. ap numberOf front ∙ number-said (l .size f) (says f) (h f some), rw back (fields-said h fs))
+
+  -- bytes whose fields say what is written are what is written
+  pub fields-written : (fs : List F) (bytes : List ℕ) → All Small bytes → length bytes ≡ sizeOf (l .size) fs → Says fs bytes
+      → flatMap fieldBytes fs ≡ bytes
+  unfolding flatMap numberBytes
+  fields-written [] [] h e s = refl
+  fields-written [] (b ∷ bytes) h e s = absurd (omega arith)
+  fields-written (f ∷ fs) bytes h e s =
+      let size = length-drop (l .size f) bytes in
+      let rest = fields-written fs (drop (l .size f) bytes) (all-drop (l .size f) bytes h) (omega arith) (s .1) in
+      rw (first, rest) (take-append-drop (l .size f) bytes)
+    where
+      first : fieldBytes f ≡ take (l .size f) bytes
+      first =
+          elim (decLe 1 (l .size f)) [
+            | yes some ↦
+                ap (numberBytes (l .size f)) (sym (s .0 some))
+                ∙ number-written (l .size f) (take (l .size f) bytes) (all-take (l .size f) bytes h)
+                (length-take-le (l .size f) bytes (omega arith))
+            | no none ↦
+                let nothing : l .size f ≡ 0 = omega arith in
+                rw nothing
+          ]
+
+  pub fields-small : (fs : List F) → All Small (flatMap fieldBytes fs)
+  unfolding flatMap
+  fields-small [] = tt
+  fields-small (f ∷ fs) =
+      all-append Small (fieldBytes f) (flatMap fieldBytes fs) (numberBytes-small (l .size f) (says f)) (fields-small fs)

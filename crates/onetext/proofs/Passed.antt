@@ -1,5 +1,5 @@
--- The lines of a lawful plan and its releases pass every check of the reader, in either version.
-use Prim.Native.Nat.{ℕ, suc, _+_, _≤_, _<_}
+-- The lines of a lawful plan and its releases pass every check of the reader, in every version.
+use Prim.Native.Nat.{ℕ, suc, _+_, _≤_}
 use mathlib.Core.Path.{_≡_, refl, ap}
 use mathlib.Core.Bool.{true}
 use mathlib.Core.List.{List, [], _∷_, _++_, map}
@@ -15,38 +15,25 @@ use Rattle.rules.specs.declared.Plan.{Plan}
 use Rattle.rules.specs.declared.Release.{Release}
 use Rattle.rules.specs.Plan.{stringsOf, commonMultiple, multipleOf}
 use Rattle.rules.specs.Release.{releaseLawful, unlawfulFrom}
-use Rattle.rules.specs.Layout.{framesFor}
+use Rattle.rules.specs.Layout.{heldTo, headerFrame, stringFrame, releaseFrame}
 use Rattle.rules.specs.Text.{Line, headerCheck, versionCheck, stringLineCheck, stringLinesCheck, releaseLineCheck, releaseLinesCheck}
 use Rattle.laws.specs.Lawful.{LawfulPlan}
 use Rattle.laws.proofs.Lawful.{headCheck-good, costCheck-good, stringLawful-yes}
-use Rattle.layouts.proofs.Versions.{by-version}
 use Rattle.writing.specs.Written.{headerSays, stringSays, releaseSays}
-use Rattle.onetext.specs.OneText.{blankPlan}
+use Rattle.onetext.specs.OneText.{trimmedPlan}
 use Rattle.onetext.proofs.Framed.{written-lawful}
 use Rattle.onetext.proofs.PlanLines.{headerLine, stringLine, releaseLine, Told, Brief}
 use Rattle.onetext.proofs.PlanLines.{version-said, n-said, a-small, run-said, string-said, release-said}
 
--- ---- Kinds are bytes
-
-module _ (k : ℕ) where
-  pub header-low : framesFor k .header .kind < 256
-  header-low = by-version (λ v. v .header .kind < 256) (omega arith) (omega arith) k
-
-  pub string-low : framesFor k .string .kind < 256
-  string-low = by-version (λ v. v .string .kind < 256) (omega arith) (omega arith) k
-
-  pub release-low : framesFor k .release .kind < 256
-  release-low = by-version (λ v. v .release .kind < 256) (omega arith) (omega arith) k
-
 -- ---- The header and the strings
 
-pub header-passes : (k : ℕ) (p : Plan) → LawfulPlan p → headerCheck (framesFor k) (headerLine (framesFor k) p) ≡ Lawful
+pub header-passes : (k : ℕ) (p : Plan) → LawfulPlan p → headerCheck (heldTo k) (headerLine (heldTo k) p) ≡ Lawful
 unfolding headerCheck versionCheck
 header-passes k p ok =
-    let v = framesFor k in
+    let v = heldTo k in
     rw (
-      written-lawful (v .header) (headerSays (v .version) p) (header-low k) 1,
-      eq-eqb _ (v .version) (version-said p ok k),
+      written-lawful (headerFrame v) (headerSays (v .number) p) (omega arith) 1,
+      eq-eqb _ (v .number) (version-said p ok k),
       n-said p ok k,
       run-said p ok k,
       headCheck-good 1 (p .n) (p .run .0) (record { nPos = ok .nPos; nMax = ok .nMax; runPos = ok .runPos; runMax = ok .runMax }),
@@ -54,18 +41,18 @@ header-passes k p ok =
     (costCheck-good 1 _ (a-small p ok k))
 
 module _ (k : ℕ) (header : Line) where
-  string-passes : (at : ℕ) (s : BatteryString) → Told (framesFor k) header s
-      → stringLineCheck (framesFor k) header at (stringLine (framesFor k) s) ≡ Lawful
+  string-passes : (at : ℕ) (s : BatteryString) → Told (heldTo k) header s
+      → stringLineCheck (heldTo k) header at (stringLine (heldTo k) s) ≡ Lawful
   unfolding stringLineCheck
   string-passes at s ok =
       rw (
-        written-lawful (framesFor k .string) (stringSays s) (string-low k) at,
+        written-lawful (stringFrame (heldTo k)) (stringSays s) (omega arith) at,
         string-said s (ok .0) k header (ok .1),
         stringLawful-yes s (ok .0),
       )
 
-  pub strings-pass : (at : ℕ) (ss : List BatteryString) → All (Told (framesFor k) header) ss → (more : List Line)
-      → stringLinesCheck (framesFor k) header at (length ss) (map (stringLine (framesFor k)) ss ++ more) ≡ Lawful
+  pub strings-pass : (at : ℕ) (ss : List BatteryString) → All (Told (heldTo k) header) ss → (more : List Line)
+      → stringLinesCheck (heldTo k) header at (length ss) (map (stringLine (heldTo k)) ss ++ more) ≡ Lawful
   unfolding stringLinesCheck
   strings-pass at [] ok more = refl
   strings-pass at (s ∷ ss) ok more = rw (string-passes at s (ok .0)) (strings-pass (suc at) ss (ok .1) more)
@@ -73,29 +60,29 @@ module _ (k : ℕ) (header : Line) where
 -- ---- A plan with no string after its n-th is the same plan
 
 module _ (p : Plan) (many : length (stringsOf p) ≡ p .n) where
-  pub blank-strings : stringsOf (blankPlan p) ≡ stringsOf p
-  blank-strings = take-at (stringsOf p) _ (p .n) many
+  pub trimmed-strings : stringsOf (trimmedPlan p) ≡ stringsOf p
+  trimmed-strings = take-at (stringsOf p) _ (p .n) many
 
-  pub blank-multiple : multipleOf (blankPlan p) ≡ multipleOf p
+  pub trimmed-multiple : multipleOf (trimmedPlan p) ≡ multipleOf p
   unfolding multipleOf
-  blank-multiple = ap (λ ss. leastFrom (commonMultiple ss) 1 100000) blank-strings
+  trimmed-multiple = ap (λ ss. leastFrom (commonMultiple ss) 1 100000) trimmed-strings
 
-  pub blank-lawful : (seen : List Release) (r : Release) → releaseLawful (blankPlan p) seen r ≡ releaseLawful p seen r
+  pub trimmed-lawful : (seen : List Release) (r : Release) → releaseLawful (trimmedPlan p) seen r ≡ releaseLawful p seen r
   unfolding releaseLawful
-  blank-lawful seen r = rw blank-strings
+  trimmed-lawful seen r = rw trimmed-strings
 
 -- ---- The releases
 
 module _ (v : ℕ) (p q : Plan) (same : (seen : List Release) (r : Release) → releaseLawful q seen r ≡ releaseLawful p seen r) where
   abbrev lineOf : Release → Line
-  lineOf r = releaseLine (framesFor v) r
+  lineOf r = releaseLine (heldTo v) r
 
   release-passes : (k j : ℕ) (seen : List Release) (r : Release) → Brief r → j ≤ 1000 → releaseLawful p seen r ≡ true
-      → releaseLineCheck (framesFor v) q k j seen (lineOf r) ≡ Lawful
+      → releaseLineCheck (heldTo v) q k j seen (lineOf r) ≡ Lawful
   unfolding releaseLineCheck
   release-passes k j seen r ok few lawful =
       rw (
-        written-lawful (framesFor v .release) (releaseSays r) (release-low v) k,
+        written-lawful (releaseFrame (heldTo v)) (releaseSays r) (omega arith) k,
         le-ltb 1000 j few,
         release-said r ok v,
         same seen r,
@@ -103,7 +90,7 @@ module _ (v : ℕ) (p q : Plan) (same : (seen : List Release) (r : Release) → 
       )
 
   pub releases-pass : (k j i : ℕ) (seen rs : List Release) → All Brief rs → j + length rs ≤ 1001 → 1 ≤ i → unlawfulFrom p seen i rs ≡ 0
-      → releaseLinesCheck (framesFor v) q k j seen (map lineOf rs) ≡ Lawful
+      → releaseLinesCheck (heldTo v) q k j seen (map lineOf rs) ≡ Lawful
   unfolding releaseLinesCheck unlawfulFrom
   releases-pass k j i seen [] ok few pos none = refl
   releases-pass k j i seen (r ∷ rs) ok few pos none =

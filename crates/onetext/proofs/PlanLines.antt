@@ -1,33 +1,38 @@
--- The lines of a lawful plan, and what they say to the reader, in either version: the header, a string, a release.
+-- The lines of a lawful plan, and what they say to the reader, in every version: the header, a string, a release.
 use Prim.Native.Nat.{ℕ, _≤_}
-use mathlib.Core.Path.{_≡_, refl, _∙_}
+use mathlib.Core.Path.{_≡_, sym, ap, _∙_}
+use mathlib.Core.Bool.{true}
 use native.Mathlib.Omega.{arith}
-use lib.ListN.{drop}
-use Rattle.lists.specs.Count.{All, any}
+use native.Mathlib.Decide.{decLe}
+use borrow.Author.Tests.{lt-ltb}
+use lib.ListN.{take, drop}
+use Rattle.days.specs.declared.Length.{Length}
+use Rattle.lists.specs.Count.{All}
 use Rattle.lists.proofs.Lists.{all-map, all-getD}
 use Rattle.lists.proofs.Order.{all-both}
 use Rattle.rules.specs.declared.BatteryString.{BatteryString}
 use Rattle.rules.specs.declared.Plan.{Plan}
 use Rattle.rules.specs.declared.Release.{Release}
 use Rattle.rules.specs.Plan.{stringsOf, stringAt, noString}
-use Rattle.rules.specs.Layout.{Frames, versionIn, fieldAmong, fieldIn, hasField, version01, version02, framesFor}
+use Rattle.rules.specs.Layout.{Version, numberFrom, numberOf, versionIn, fieldAmong, fieldIn, hasField, heldTo, headerFrame, stringFrame, releaseFrame}
 use Rattle.rules.specs.Layout as layout
 use Rattle.rules.specs.Text.{Line, frameOf, fieldOf, nIn, aIn, runIn, costOf, stringOf, releaseOf}
 use Rattle.laws.specs.Lawful.{LawfulString, LawfulPlan}
-use Rattle.layouts.proofs.Versions.{by-version}
+use Rattle.layouts.proofs.Versions.{number-small, number-size, count-size, run-size, x-size, t-size, c-size, d-size}
+use Rattle.layouts.proofs.Versions.{place-size, day-size, need-size, cost-sizes, cost-common, cost-own}
 use Rattle.writing.specs.Written.{headerSays, stringSays, releaseSays}
 use Rattle.onetext.specs.OneText.{Alike}
-use Rattle.onetext.proofs.Numbers.{Says}
+use Rattle.onetext.proofs.Numbers.{Says, Fits}
 use Rattle.onetext.proofs.Framed.{written, written-says}
 
-abbrev pub headerLine : Frames → Plan → Line
-headerLine v p = written (v .header) (headerSays (v .version) p)
+abbrev pub headerLine : Version → Plan → Line
+headerLine v p = written (headerFrame v) (headerSays (v .number) p)
 
-abbrev pub stringLine : Frames → BatteryString → Line
-stringLine v s = written (v .string) (stringSays s)
+abbrev pub stringLine : Version → BatteryString → Line
+stringLine v s = written (stringFrame v) (stringSays s)
 
-abbrev pub releaseLine : Frames → Release → Line
-releaseLine v r = written (v .release) (releaseSays r)
+abbrev pub releaseLine : Version → Release → Line
+releaseLine v r = written (releaseFrame v) (releaseSays r)
 
 -- ---- The header
 
@@ -39,106 +44,111 @@ module _ (p : Plan) (ok : LawfulPlan p) where
       (all-map LawfulString (λ s. s .a .0 ≤ 1000) (λ s good. good .aMax) (stringsOf p) (ok .each))
       (omega arith)
 
-  header-01 : Says (version01 .header .fields) (headerSays 1 p) (drop 1 (frameOf (headerLine version01 p)))
-  header-01 =
-      let count = ok .nMax in
-      let moving = first-small in
-      let run = ok .runMax in
-      written-says (version01 .header) (headerSays 1 p) (omega arith) (omega arith, (omega arith, (omega arith, (omega arith, tt))))
-
-  header-02 : Says (version02 .header .fields) (headerSays 2 p) (drop 1 (frameOf (headerLine version02 p)))
-  header-02 =
-      let count = ok .nMax in
-      let run = ok .runMax in
-      written-says (version02 .header) (headerSays 2 p) (omega arith) (omega arith, (omega arith, (omega arith, tt)))
-
-  pub a-said : aIn version01 (headerLine version01 p) ≡ stringAt p 1 .a .0
-  unfolding aIn fieldOf fieldIn fieldAmong
-  a-said = header-01 .1 .1 .0
-
   module _ (k : ℕ) where
-    pub version-said : fieldOf (framesFor k .header) layout.Version (headerLine (framesFor k) p) ≡ framesFor k .version
+    abbrev header : Line
+    header = headerLine (heldTo k) p
+
+    header-fits : Fits (headerFrame (heldTo k)) (headerSays (heldTo k .number) p)
+    header-fits layout.Number some = rw (number-size k) (omega (arith, number-small k))
+    header-fits layout.Count some = rw (count-size k) (omega (arith, ok .nMax))
+    header-fits layout.Common some =
+        let two : heldTo k .header layout.Common ≡ 2 = omega (arith, cost-sizes k) in
+        rw two (omega (arith, first-small))
+    header-fits layout.Run some = rw (run-size k) (omega (arith, ok .runMax))
+
+    header-says : Says (headerFrame (heldTo k)) (headerSays (heldTo k .number) p) (headerFrame (heldTo k) .fields) (drop 1 (frameOf header))
+    header-says = written-says (headerFrame (heldTo k)) (headerSays (heldTo k .number) p) (omega arith) header-fits
+
+    pub version-said : fieldOf (headerFrame (heldTo k)) layout.Number header ≡ heldTo k .number
     unfolding fieldOf fieldIn fieldAmong
-    version-said =
-        by-version (λ v. fieldOf (v .header) layout.Version (headerLine v p) ≡ v .version) (header-01 .0) (header-02 .0) k
+    version-said = header-says .0 (omega (arith, number-size k))
 
-    pub named : versionIn (frameOf (headerLine (framesFor k) p)) ≡ framesFor k .version
-    named = by-version (λ v. versionIn (frameOf (headerLine v p)) ≡ v .version) (header-01 .0) (header-02 .0) k
+    pub named : versionIn (frameOf header) ≡ heldTo k .number
+    named =
+        ap (λ n. numberOf (take n (drop 1 (frameOf header)))) (sym (number-size k)) ∙ header-says .0 (omega (arith, number-size k))
 
-    pub n-said : nIn (framesFor k) (headerLine (framesFor k) p) ≡ p .n
+    pub n-said : nIn (heldTo k) header ≡ p .n
     unfolding nIn fieldOf fieldIn fieldAmong
-    n-said = by-version (λ v. nIn v (headerLine v p) ≡ p .n) (header-01 .1 .0) (header-02 .1 .0) k
+    n-said = header-says .1 .0 (omega (arith, count-size k))
 
-    pub run-said : runIn (framesFor k) (headerLine (framesFor k) p) ≡ p .run .0
+    pub a-said : 1 ≤ heldTo k .header layout.Common → aIn (heldTo k) header ≡ stringAt p 1 .a .0
+    unfolding aIn fieldOf fieldIn fieldAmong
+    a-said some = header-says .1 .1 .0 some
+
+    pub run-said : runIn (heldTo k) header ≡ p .run .0
     unfolding runIn fieldOf fieldIn fieldAmong
-    run-said = by-version (λ v. runIn v (headerLine v p) ≡ p .run .0) (header-01 .1 .1 .1 .0) (header-02 .1 .1 .0) k
+    run-said = header-says .1 .1 .1 .0 (omega (arith, run-size k))
 
     -- a header that says no moving cost says 0
-    pub a-small : aIn (framesFor k) (headerLine (framesFor k) p) ≤ 1000
-    unfolding aIn fieldOf fieldIn fieldAmong
-    a-small = by-version (λ v. aIn v (headerLine v p) ≤ 1000) (omega (arith, header-01 .1 .1 .0, first-small)) (omega arith) k
+    a-none : heldTo k .header layout.Common ≡ 0 → aIn (heldTo k) header ≤ 1000
+    unfolding aIn fieldOf fieldIn fieldAmong numberFrom
+    a-none none = rw none (omega arith)
+
+    pub a-small : aIn (heldTo k) header ≤ 1000
+    a-small =
+        elim (decLe 1 (heldTo k .header layout.Common)) [
+          | yes some ↦ omega (arith, a-said some, first-small)
+          | no none ↦ a-none (omega arith)
+        ]
 
 -- ---- A string
 
-module _ (s : BatteryString) (ok : LawfulString s) where
-  string-01 : Says (version01 .string .fields) (stringSays s) (drop 1 (frameOf (stringLine version01 s)))
-  string-01 =
-      let t = ok .tMax in
-      let d = ok .dMax in
-      let c = ok .cMax in
-      let x = ok .xMax in
-      written-says (version01 .string) (stringSays s) (omega arith) (omega arith, (omega arith, (omega arith, (omega arith, tt))))
+module _ (s : BatteryString) (ok : LawfulString s) (k : ℕ) where
+  abbrev line : Line
+  line = stringLine (heldTo k) s
 
-  string-02 : Says (version02 .string .fields) (stringSays s) (drop 1 (frameOf (stringLine version02 s)))
-  string-02 =
-      let t = ok .tMax in
-      let d = ok .dMax in
-      let c = ok .cMax in
-      let x = ok .xMax in
-      let a = ok .aMax in
-      written-says (version02 .string) (stringSays s) (omega arith)
-      (omega arith, (omega arith, (omega arith, (omega arith, (omega arith, tt)))))
+  string-fits : Fits (stringFrame (heldTo k)) (stringSays s)
+  string-fits layout.X some = rw (x-size k) (omega (arith, ok .xMax))
+  string-fits layout.T some = rw (t-size k) (omega (arith, ok .tMax))
+  string-fits layout.C some = rw (c-size k) (omega (arith, ok .tMax, ok .dMax, ok .cMax))
+  string-fits layout.D some = rw (d-size k) (omega (arith, ok .tMax, ok .dMax))
+  string-fits layout.Own some =
+      let two : heldTo k .string layout.Own ≡ 2 = omega (arith, cost-sizes k) in
+      rw two (omega (arith, ok .aMax))
 
-  own-said : fieldOf (version02 .string) layout.Moving (stringLine version02 s) ≡ s .a .0
+  string-says : Says (stringFrame (heldTo k)) (stringSays s) (stringFrame (heldTo k) .fields) (drop 1 (frameOf line))
+  string-says = written-says (stringFrame (heldTo k)) (stringSays s) (omega arith) string-fits
+
+  own-said : 1 ≤ heldTo k .string layout.Own → fieldOf (stringFrame (heldTo k)) layout.Own line ≡ s .a .0
   unfolding fieldOf fieldIn fieldAmong
-  own-said = string-02 .1 .1 .1 .1 .0
+  own-said some = string-says .1 .1 .1 .1 .0 some
 
-  module _ (k : ℕ) where
-    x-said : fieldOf (framesFor k .string) layout.X (stringLine (framesFor k) s) ≡ s .x
-    unfolding fieldOf fieldIn fieldAmong
-    x-said = by-version (λ v. fieldOf (v .string) layout.X (stringLine v s) ≡ s .x) (string-01 .0) (string-02 .0) k
-
-    t-said : fieldOf (framesFor k .string) layout.T (stringLine (framesFor k) s) ≡ s .t .0
-    unfolding fieldOf fieldIn fieldAmong
-    t-said = by-version (λ v. fieldOf (v .string) layout.T (stringLine v s) ≡ s .t .0) (string-01 .1 .0) (string-02 .1 .0) k
-
-    c-said : fieldOf (framesFor k .string) layout.C (stringLine (framesFor k) s) ≡ s .c .0
-    unfolding fieldOf fieldIn fieldAmong
-    c-said = by-version (λ v. fieldOf (v .string) layout.C (stringLine v s) ≡ s .c .0) (string-01 .1 .1 .0) (string-02 .1 .1 .0) k
-
-    d-said : fieldOf (framesFor k .string) layout.D (stringLine (framesFor k) s) ≡ s .d .0
-    unfolding fieldOf fieldIn fieldAmong
-    d-said = by-version (λ v. fieldOf (v .string) layout.D (stringLine v s) ≡ s .d .0) (string-01 .1 .1 .1 .0) (string-02 .1 .1 .1 .0) k
-
-    pub string-said : (header : Line) → costOf (framesFor k) header (stringLine (framesFor k) s) ≡ s .a .0
-        → stringOf (framesFor k) header (stringLine (framesFor k) s) ≡ s
-    unfolding stringOf
-    string-said header cost = rw (x-said, t-said, c-said, d-said, cost)
+  pub string-said : (header : Line) → costOf (heldTo k) header line ≡ s .a .0 → stringOf (heldTo k) header line ≡ s
+  unfolding stringOf fieldOf fieldIn fieldAmong
+  string-said header cost =
+      rw (
+        string-says .0 (omega (arith, x-size k)),
+        string-says .1 .0 (omega (arith, t-size k)),
+        string-says .1 .1 .0 (omega (arith, c-size k)),
+        string-says .1 .1 .1 .0 (omega (arith, d-size k)),
+        cost,
+      )
 
 -- lawful, and under the header of its plan its line says its own moving cost
-abbrev pub Told : Frames → Line → BatteryString → Type 0
+abbrev pub Told : Version → Line → BatteryString → Type 0
 Told v header s = LawfulString s × (costOf v header (stringLine v s) ≡ s .a .0)
 
-pub strings-told : (p : Plan) (ok : LawfulPlan p) (k : ℕ) → Alike (framesFor k) p
-    → All (Told (framesFor k) (headerLine (framesFor k) p)) (stringsOf p)
-unfolding costOf hasField any
-strings-told p ok k =
-    by-version (λ v. Alike v p → All (Told v (headerLine v p)) (stringsOf p))
-    (λ alike.
-    all-both LawfulString (λ s. s .a ≡ stringAt p 1 .a) (Told version01 (headerLine version01 p))
-    (λ s good same. (good, a-said p ok ∙ rw same)) (stringsOf p) (ok .each) (alike refl))
-    (λ alike. all-map LawfulString (Told version02 (headerLine version02 p)) (λ s good. (good, own-said s good)) (stringsOf p) (ok .each))
-    k
+module _ (p : Plan) (ok : LawfulPlan p) (k : ℕ) (alike : Alike (heldTo k) p) where
+  has-common : 1 ≤ heldTo k .header layout.Common → hasField (headerFrame (heldTo k)) layout.Common ≡ true
+  unfolding hasField
+  has-common some = lt-ltb 0 (heldTo k .header layout.Common) some
+
+  pub strings-told : All (Told (heldTo k) (headerLine (heldTo k) p)) (stringsOf p)
+  strings-told =
+      let v = heldTo k in
+      let head = headerLine v p in
+      elim (decLe 1 (v .header layout.Common)) [
+        | yes some ↦
+            all-both LawfulString (λ s. s .a ≡ stringAt p 1 .a) (Told v head)
+            (λ s good same.
+            (good, cost-common v head (stringLine v s) some ∙ a-said p ok k some ∙ sym (ap (λ (a : Length). a .0) same)))
+            (stringsOf p) (ok .each) (alike (has-common some))
+        | no none ↦
+            all-map LawfulString (Told v head)
+            (λ s good.
+            (good, cost-own v head (stringLine v s) (omega arith) ∙ own-said s good k (omega (arith, cost-sizes k))))
+            (stringsOf p) (ok .each)
+      ]
 
 -- ---- A release
 
@@ -148,31 +158,23 @@ pub record Brief (r : Release) : Type 0 where
   pub day : r .day .0 ≤ 1000000
   pub need : r .need .0 ≤ 1000
 
-module _ (r : Release) (ok : Brief r) where
-  release-says : Says (version01 .release .fields) (releaseSays r) (drop 1 (frameOf (releaseLine version01 r)))
-  release-says =
-      let place = ok .place in
-      let day = ok .day in
-      let need = ok .need in
-      written-says (version01 .release) (releaseSays r) (omega arith) (omega arith, (omega arith, (omega arith, tt)))
+module _ (r : Release) (ok : Brief r) (k : ℕ) where
+  abbrev said : Line
+  said = releaseLine (heldTo k) r
 
-  place-said : fieldOf (version01 .release) layout.Place (releaseLine version01 r) ≡ r .place
-  unfolding fieldOf fieldIn fieldAmong
-  place-said = release-says .0
+  release-fits : Fits (releaseFrame (heldTo k)) (releaseSays r)
+  release-fits layout.Place some = rw (place-size k) (omega (arith, ok .place))
+  release-fits layout.Day some = rw (day-size k) (omega (arith, ok .day))
+  release-fits layout.Need some = rw (need-size k) (omega (arith, ok .need))
 
-  day-said : fieldOf (version01 .release) layout.Day (releaseLine version01 r) ≡ r .day .0
-  unfolding fieldOf fieldIn fieldAmong
-  day-said = release-says .1 .0
+  release-says : Says (releaseFrame (heldTo k)) (releaseSays r) (releaseFrame (heldTo k) .fields) (drop 1 (frameOf said))
+  release-says = written-says (releaseFrame (heldTo k)) (releaseSays r) (omega arith) release-fits
 
-  need-said : fieldOf (version01 .release) layout.Need (releaseLine version01 r) ≡ r .need .0
-  unfolding fieldOf fieldIn fieldAmong
-  need-said = release-says .1 .1 .0
-
-  in-01 : releaseOf version01 (releaseLine version01 r) ≡ r
-  unfolding releaseOf
-  in-01 = rw (place-said, day-said, need-said)
-
-  -- both versions have the same release frame
-  pub release-said : (k : ℕ) → releaseOf (framesFor k) (releaseLine (framesFor k) r) ≡ r
-  unfolding releaseOf
-  release-said k = by-version (λ v. releaseOf v (releaseLine v r) ≡ r) in-01 in-01 k
+  pub release-said : releaseOf (heldTo k) said ≡ r
+  unfolding releaseOf fieldOf fieldIn fieldAmong
+  release-said =
+      rw (
+        release-says .0 (omega (arith, place-size k)),
+        release-says .1 .0 (omega (arith, day-size k)),
+        release-says .1 .1 .0 (omega (arith, need-size k)),
+      )

@@ -1,4 +1,4 @@
--- Reading what was written, in either version: the text of a lawful plan reads back to the plan and its releases. Version 01 has one moving
+-- Reading what was written, in every version: the text of a lawful plan reads back to the plan and its releases. Version 01 has one moving
 -- cost for all strings, so there they must be alike.
 use Prim.Native.Nat.{ℕ, _+_, _-_, _*_, _≤_, _<_}
 use mathlib.Core.Path.{_≡_, refl, sym, ap, _∙_}
@@ -7,7 +7,7 @@ use native.Mathlib.Omega.{arith}
 use borrow.Author.Tests.{le-ltb}
 use lib.ListN.{length, take, drop, getD, length-map}
 use lib.Seq.{take-at, drop-at, length-take-le}
-use Rattle.lists.specs.Count.{All, any}
+use Rattle.lists.specs.Count.{All}
 use Rattle.lists.proofs.Lists.{all-by, all-map, all-getD, true-not-false}
 use Rattle.faults.specs.declared.Checked.the-variants.{Lawful}
 use Rattle.rules.specs.declared.BatteryString.{BatteryString}
@@ -17,26 +17,25 @@ use Rattle.rules.specs.declared.Releases.{Releases}
 use Rattle.rules.specs.Plan.{stringsOf, stringAt, noString}
 use Rattle.rules.specs.Release.{releasesOf, noRelease, unlawfulFrom, firstUnlawful}
 use Rattle.rules.specs.Refusal.{runCheck}
-use Rattle.rules.specs.Layout.{Field, Layout, Frames, lineSize, hasField, version02, framesFor}
-use Rattle.rules.specs.Text.{Line, linesOf, stringOf, releaseOf, planIn, releasesIn, lawfulReading, readingIn, framesOf, readingOf}
+use Rattle.rules.specs.Layout.{HeaderField, StringField, ReleaseField, Layout, Version, lineSize, hasField, version02, heldTo, headerFrame, stringFrame, releaseFrame}
+use Rattle.rules.specs.Text.{Line, linesOf, stringOf, releaseOf, planIn, listIn, lawfulReading, readingIn, versionOf, readingOf}
 use Rattle.rules.specs.Text.{stringLinesCheck, releaseLinesCheck, bodyCheck, linesCheck, textCheck}
 use Rattle.laws.specs.Lawful.{LawfulString, LawfulRun}
 use Rattle.laws.proofs.Lawful.{multipleCheck-good}
 use Rattle.laws.proofs.Releases.{runCheck-lawful}
 use Rattle.laws.proofs.ReleaseList.{release-lawful}
-use Rattle.layouts.proofs.Versions.{number-again, same-release, header-short, string-short, ten-short}
+use Rattle.layouts.proofs.Versions.{number-again, header-short, string-short, release-short, ten-short, thousand-short}
 use Rattle.writing.specs.Written.{headerSays, stringSays, releaseSays, frameBytes, headerText, stringText, releaseText, planText}
 use Rattle.writing.specs.Saved.{savedText}
 use Rattle.writing.proofs.Texts.{flatMap-append}
 use Rattle.writing.proofs.Saving.{saved-long}
-use Rattle.onetext.specs.OneText.{blankPlan, blankReleases, lawfulText, Alike}
+use Rattle.onetext.specs.OneText.{trimmedPlan, trimmedReleases, readAgain, Alike}
 use Rattle.onetext.proofs.HexBytes.{frame-digits, all-append}
 use Rattle.onetext.proofs.Ended.{lineBytes, textOf, Ended, Digits, lines-said}
 use Rattle.onetext.proofs.Framed.{lineText-is, written, bytes-small}
 use Rattle.onetext.proofs.PlanLines.{headerLine, stringLine, releaseLine, Told, Brief, strings-told}
 use Rattle.onetext.proofs.PlanLines.{named, n-said, run-said, string-said, release-said}
-use Rattle.onetext.proofs.Passed.{header-low, string-low, release-low}
-use Rattle.onetext.proofs.Passed.{header-passes, strings-pass, releases-pass, blank-multiple, blank-lawful}
+use Rattle.onetext.proofs.Passed.{header-passes, strings-pass, releases-pass, trimmed-multiple, trimmed-lawful}
 
 -- ---- Lines made of what they say
 
@@ -55,34 +54,36 @@ module _ {ℓ} {A : Type ℓ} (line : A → Line) where
   said-back P said each [] h = refl
   said-back P said each (x ∷ xs) h = rw (each x (h .0), said-back P said each xs (h .1))
 
-written-digits : (l : Layout) (says : Field → ℕ) → l .kind < 256 → Digits (written l says)
-written-digits l says low = frame-digits (frameBytes l says) (bytes-small l says low)
+written-digits : (F : Type 0) (l : Layout F) (says : F → ℕ) → l .kind < 256 → Digits (written l says)
+written-digits F l says low = frame-digits (frameBytes l says) (bytes-small l says low)
 
 -- ---- The lines of the text
 
 module _ (k : ℕ) where
   -- the version that is written
-  abbrev v : Frames
-  v = framesFor k
+  abbrev v : Version
+  v = heldTo k
 
   abbrev savedLines : Plan → Releases → List Line
   savedLines p rs = headerLine v p ∷ (map (stringLine v) (stringsOf p) ++ map (releaseLine v) (releasesOf rs))
 
   string-text : (s : BatteryString) → stringText v s ≡ lineBytes (stringLine v s)
   unfolding stringText
-  string-text s = lineText-is (frameBytes (v .string) (stringSays s))
+  string-text s = lineText-is (frameBytes (stringFrame v) (stringSays s))
 
   release-text : (r : Release) → releaseText v r ≡ lineBytes (releaseLine v r)
   unfolding releaseText
-  release-text r = lineText-is (frameBytes (v .release) (releaseSays r))
+  release-text r = lineText-is (frameBytes (releaseFrame v) (releaseSays r))
 
   module _ (p : Plan) (rs : Releases) where
-    all-saved : (P : Line → Type 0) → ((l : Layout) (says : Field → ℕ) → l .kind < 256 → P (written l says)) → All P (savedLines p rs)
+    all-saved : (P : Line → Type 0) → ((F : Type 0) (l : Layout F) (says : F → ℕ) → l .kind < 256 → P (written l says))
+        → All P (savedLines p rs)
     all-saved P each =
-        let header = each (v .header) (headerSays (v .version) p) (header-low k) in
-        let strings = all-lines (stringLine v) P (λ s. each (v .string) (stringSays s) (string-low k)) (stringsOf p) in
-        let releases = all-lines (releaseLine v) P (λ r. each (v .release) (releaseSays r) (release-low k)) (releasesOf rs) in
-        (header, all-append P (map (stringLine v) (stringsOf p)) (map (releaseLine v) (releasesOf rs)) strings releases)
+        let header = each HeaderField (headerFrame v) (headerSays (v .number) p) (omega arith) in
+        let strings = all-lines (stringLine v) P (λ s. each StringField (stringFrame v) (stringSays s) (omega arith)) in
+        let releases = all-lines (releaseLine v) P (λ r. each ReleaseField (releaseFrame v) (releaseSays r) (omega arith)) in
+        let lines = all-append P (map (stringLine v) (stringsOf p)) (map (releaseLine v) (releasesOf rs)) in
+        (header, lines (strings (stringsOf p)) (releases (releasesOf rs)))
 
     saved-is : savedText v p rs ≡ textOf (savedLines p rs)
     unfolding savedText planText headerText flatMap
@@ -90,14 +91,14 @@ module _ (k : ℕ) where
         let strings = texts-are (stringLine v) (stringText v) string-text (stringsOf p) in
         let releases = texts-are (releaseLine v) (releaseText v) release-text (releasesOf rs) in
         append-assoc (headerText v p) _ _
-        ∙ rw (lineText-is (frameBytes (v .header) (headerSays (v .version) p)), strings, releases)
+        ∙ rw (lineText-is (frameBytes (headerFrame v) (headerSays (v .number) p)), strings, releases)
         (ap (λ rest. lineBytes (headerLine v p) ++ rest)
         (sym (flatMap-append lineBytes (map (stringLine v) (stringsOf p)) (map (releaseLine v) (releasesOf rs)))))
 
     lines-saved : linesOf (savedText v p rs) ≡ savedLines p rs
     lines-saved =
         ap linesOf saved-is
-        ∙ lines-said (savedLines p rs) (all-saved Ended (λ l says low. refl)) (all-saved Digits written-digits)
+        ∙ lines-said (savedLines p rs) (all-saved Ended (λ F l says low. refl)) (all-saved Digits written-digits)
 
 -- ---- What they say
 
@@ -149,8 +150,8 @@ module _ (k : ℕ) (p : Plan) (rs : Releases) (h : Savable p rs) where
   releases-then : drop (p .n) (strings ++ releases) ≡ releases
   releases-then = drop-at strings releases (p .n) (length-map (stringsOf p) (stringLine (v k)) ∙ strings-many)
 
-  releases-said : releasesIn (v k) (savedLines k p rs) ≡ blankReleases rs
-  unfolding releasesIn
+  releases-said : listIn (v k) (savedLines k p rs) ≡ trimmedReleases rs
+  unfolding listIn
   releases-said =
       rw (
         n-said p (run-is .plan) k,
@@ -160,15 +161,15 @@ module _ (k : ℕ) (p : Plan) (rs : Releases) (h : Savable p rs) where
       )
 
   -- the text names its version
-  pub written-names : framesOf (linesOf (savedText (v k) p rs)) ≡ v k
-  unfolding framesOf
-  written-names = ap framesOf (lines-saved k p rs) ∙ ap framesFor (named p (run-is .plan) k) ∙ number-again k
+  pub written-names : versionOf (linesOf (savedText (v k) p rs)) ≡ v k
+  unfolding versionOf
+  written-names = ap versionOf (lines-saved k p rs) ∙ ap heldTo (named p (run-is .plan) k) ∙ number-again k
 
   module _ (alike : Alike (v k) p) where
     told : All (Told (v k) header) (stringsOf p)
     told = strings-told p (run-is .plan) k alike
 
-    plan-said : planIn (v k) (savedLines k p rs) ≡ blankPlan p
+    plan-said : planIn (v k) (savedLines k p rs) ≡ trimmedPlan p
     unfolding planIn
     plan-said =
         rw (
@@ -190,16 +191,16 @@ module _ (k : ℕ) (p : Plan) (rs : Releases) (h : Savable p rs) where
         ap (λ n. stringLinesCheck (v k) header 2 n (strings ++ releases)) (sym strings-many)
         ∙ strings-pass k header 2 (stringsOf p) told releases
 
-    releases-all : releaseLinesCheck (v k) (blankPlan p) (p .n + 2) 1 [] releases ≡ Lawful
+    releases-all : releaseLinesCheck (v k) (trimmedPlan p) (p .n + 2) 1 [] releases ≡ Lawful
     releases-all =
         let few = run-is .few in
-        releases-pass k p (blankPlan p) (blank-lawful p strings-many) (p .n + 2) 1 1 [] (releasesOf rs) brief
+        releases-pass k p (trimmedPlan p) (trimmed-lawful p strings-many) (p .n + 2) 1 1 [] (releasesOf rs) brief
         (omega (arith, releases-many)) (omega arith) none-unlawful
 
-    body-lawful : bodyCheck (v k) header (blankPlan p) (strings ++ releases) ≡ Lawful
+    body-lawful : bodyCheck (v k) header (trimmedPlan p) (strings ++ releases) ≡ Lawful
     unfolding bodyCheck
     body-lawful =
-        let multiple = multipleCheck-good (p .n + 1) (blankPlan p) (rw (blank-multiple p strings-many) (run-is .plan .hMax)) in
+        let multiple = multipleCheck-good (p .n + 1) (trimmedPlan p) (rw (trimmed-multiple p strings-many) (run-is .plan .hMax)) in
         rw (strings-all, multiple, releases-then) releases-all
 
     lines-lawful : linesCheck (v k) (savedLines k p rs) ≡ Lawful
@@ -208,26 +209,26 @@ module _ (k : ℕ) (p : Plan) (rs : Releases) (h : Savable p rs) where
 
     short : length (savedText (v k) p rs) ≤ 65536
     short =
-        let long = saved-long (v k) p rs [] 0 (h .2) (h .0) (h .1) in
-        let strings = ten-short (p .n) (lineSize (v k .string)) (run-is .plan .nMax) (string-short k) in
-        let releases = ap (λ (l : Layout). rs .count * lineSize l) (same-release k) in
-        omega (arith, run-is .few, header-short k)
+        let long = saved-long (v k) p rs (h .2) (h .0) (h .1) in
+        let strings = ten-short (p .n) (lineSize (stringFrame (v k))) (run-is .plan .nMax) (string-short k) in
+        let releases = thousand-short (rs .count) (lineSize (releaseFrame (v k))) (run-is .few) (release-short k) in
+        omega (arith, header-short k)
 
     -- places after the n-th and releases after the count come back blank
-    pub reading-what-was-written : readingIn (v k) (savedText (v k) p rs) ≡ lawfulText p rs
+    pub reading-what-was-written : readingIn (v k) (savedText (v k) p rs) ≡ readAgain p rs
     unfolding readingIn textCheck lawfulReading
     reading-what-was-written =
         rw (le-ltb 65536 (length (savedText (v k) p rs)) short, lines-saved k p rs, lines-lawful, plan-said, releases-said)
 
 -- each string of a version 02 plan has its own moving cost
-pub alike-new : (p : Plan) → Alike version02 p
-unfolding hasField any
-alike-new p h = absurd (true-not-false (sym h))
+pub alike-02 : (p : Plan) → Alike version02 p
+unfolding hasField
+alike-02 p h = absurd (true-not-false (sym h))
 
 -- what is written in version 02 reads back, and its header says so
-pub reading-the-new : (p : Plan) (rs : Releases) → length (p .strings) ≡ 10 → length (rs .list) ≡ 1000 → runCheck p rs ≡ Lawful
-    → readingOf (savedText version02 p rs) ≡ lawfulText p rs
-unfolding readingOf framesFor
-reading-the-new p rs ten thousand lawful =
+pub reading-02 : (p : Plan) (rs : Releases) → length (p .strings) ≡ 10 → length (rs .list) ≡ 1000 → runCheck p rs ≡ Lawful
+    → readingOf (savedText version02 p rs) ≡ readAgain p rs
+unfolding readingOf heldTo
+reading-02 p rs ten thousand lawful =
     let h : Savable p rs = (ten, thousand, lawful) in
-    ap (λ w. readingIn w (savedText version02 p rs)) (written-names 2 p rs h) ∙ reading-what-was-written 2 p rs h (alike-new p)
+    ap (λ w. readingIn w (savedText version02 p rs)) (written-names 2 p rs h) ∙ reading-what-was-written 2 p rs h (alike-02 p)

@@ -19,15 +19,15 @@ use Rattle.faults.proofs.Checks.{refused-not-lawful, then-first, then-second, t
 use Rattle.rules.specs.Plan.{stringLawful}
 use Rattle.rules.specs.Release.{releaseLawful, unlawfulFrom, firstUnlawful}
 use Rattle.rules.specs.Refusal.{headCheck, costCheck, stringCheck, stringsCheck, multipleCheck, manyCheck, planCheck, runCheck}
-use Rattle.rules.specs.Layout.{Frames}
-use Rattle.rules.specs.Text.{Line, linesOf, nIn, runIn, aIn, stringOf, releaseOf, planIn, releasesIn, versionCheck, headerCheck, layoutCheck}
+use Rattle.rules.specs.Layout.{Version, headerFrame, stringFrame, releaseFrame}
+use Rattle.rules.specs.Text.{Line, linesOf, nIn, runIn, aIn, stringOf, releaseOf, planIn, listIn, versionCheck, headerCheck, layoutCheck}
 use Rattle.rules.specs.Text.{stringLineCheck, stringLinesCheck, releaseLineCheck, releaseLinesCheck, bodyCheck, linesCheck, textCheck}
-use Rattle.rules.specs.Text.{lawfulReading, readingIn, framesOf, readingOf}
+use Rattle.rules.specs.Text.{lawfulReading, readingIn, versionOf, readingOf}
 use Rattle.laws.proofs.Lawful.{headCheck-lawful, headCheck-good, multipleCheck-small, multipleCheck-good}
 use Rattle.laws.proofs.Versions.{strings-lawful, strings-are, reading-checked, lines-checked}
 use Rattle.laws.proofs.Releases.{releasesCheck-good}
 
-module _ (v : Frames) where
+module _ (v : Version) where
   -- ---- The string lines
 
   module _ (header : Line) where
@@ -35,7 +35,7 @@ module _ (v : Frames) where
     unfolding stringLineCheck
     string-good k j line h =
         refuseIf-anywhere (not (stringLawful (stringOf v header line))) OutOfBounds k j
-        (then-second (layoutCheck k (v .string) line) (stringCheck k (stringOf v header line)) h)
+        (then-second (layoutCheck k (stringFrame v) line) (stringCheck k (stringOf v header line)) h)
 
     strings-good : (k j m : ℕ) (lines : List Line) → stringLinesCheck v header k m lines ≡ Lawful
         → stringsCheck j (map (stringOf v header) (take m lines)) ≡ Lawful
@@ -57,7 +57,7 @@ module _ (v : Frames) where
     release-good k j seen line h =
         let lawful = releaseLawful p seen (releaseOf v line) in
         let bad = refuseIf (not lawful) ReleaseUnlawful k in
-        let rest = then-second (layoutCheck k (v .release) line) (then (manyCheck k j) bad) h in (
+        let rest = then-second (layoutCheck k (releaseFrame v) line) (then (manyCheck k j) bad) h in (
           ltb-false 1000 j (refuseIf-not (ltb 1000 j) ReleaseTooMany k (then-first (manyCheck k j) bad rest)),
           not-false lawful (refuseIf-not (not lawful) ReleaseUnlawful k (then-second (manyCheck k j) bad rest)),
         )
@@ -100,7 +100,7 @@ module _ (v : Frames) where
     head =
         let numbers = headCheck 1 (nIn v header) (runIn v header) in
         let cost = costCheck 1 (aIn v header) in
-        let frame = layoutCheck 1 (v .header) header in
+        let frame = layoutCheck 1 (headerFrame v) header in
         let version = versionCheck v header in
         let rest = then version (then numbers cost) in
         let lawful = then-first (then frame rest) (bodyCheck v header plan lines) h in
@@ -115,17 +115,17 @@ module _ (v : Frames) where
         (ap (stringsCheck 1) (strings-are v header lines h) ∙ strings-good header 2 1 (plan .n) lines (strings-lawful v header lines h))
         ∙ multipleCheck-good 0 plan (multipleCheck-small (plan .n + 1) plan (then-first multiple releases rest))
 
-    pub lines-lawful : runCheck plan (releasesIn v (header ∷ lines)) ≡ Lawful
-    unfolding runCheck releasesIn firstUnlawful planIn
+    pub lines-lawful : runCheck plan (listIn v (header ∷ lines)) ≡ Lawful
+    unfolding runCheck listIn firstUnlawful planIn
     lines-lawful =
         let after = drop (nIn v header) lines in
         let said = map (releaseOf v) after in
         let good = releases-good plan (plan .n + 2) 0 1 [] after (then-second multiple releases rest) (omega arith) in
         then-lawful _ _ plan-lawful
-        ∙ releasesCheck-good plan (releasesIn v (header ∷ lines)) (omega (arith, good .0, length-map after (releaseOf v)))
+        ∙ releasesCheck-good plan (listIn v (header ∷ lines)) (omega (arith, good .0, length-map after (releaseOf v)))
         (ap (unlawfulFrom plan [] 1) (take-at said _ (length said) refl) ∙ good .1)
 
-  lines-read : (lines : List Line) → linesCheck v lines ≡ Lawful → runCheck (planIn v lines) (releasesIn v lines) ≡ Lawful
+  lines-read : (lines : List Line) → linesCheck v lines ≡ Lawful → runCheck (planIn v lines) (listIn v lines) ≡ Lawful
   unfolding linesCheck
   lines-read [] h = absurd (refused-not-lawful FrameWrong 1 h)
   lines-read (header ∷ lines) h = lines-lawful header lines h
@@ -138,4 +138,4 @@ module _ (v : Frames) where
 -- a text that is read: its plan and its releases are lawful by numbers too
 pub read-lawful : (text : List ℕ) → readingOf text .checked ≡ Lawful → runCheck (readingOf text .plan) (readingOf text .releases) ≡ Lawful
 unfolding readingOf
-read-lawful text h = text-read (framesOf (linesOf text)) text h
+read-lawful text h = text-read (versionOf (linesOf text)) text h

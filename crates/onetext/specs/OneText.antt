@@ -1,7 +1,7 @@
 -- A plan has one text within a version (document 02, W-201, W-207): what a text keeps of a plan and of its releases.
---     blankPlan p           p with no string after its n-th
---     blankReleases rs      rs with no release after those that count
---     lawfulText p rs       what reading the text of p and rs gives
+--     trimmedPlan p         p with no string after its n-th
+--     trimmedReleases rs    rs with no release after those that count
+--     readAgain p rs        what reading the text of p and rs gives
 --     OneCost p             every string of the plan p has the moving cost of place 1
 --     Alike v p             where the header of the version v says one moving cost for all strings, they have one
 use mathlib.Core.Path.{_≡_}
@@ -13,19 +13,19 @@ use Rattle.rules.specs.declared.Releases.{Releases}
 use Rattle.rules.specs.declared.Reading.{Reading}
 use Rattle.rules.specs.Plan.{stringsOf, stringAt, noString}
 use Rattle.rules.specs.Release.{releasesOf, noRelease}
-use Rattle.rules.specs.Layout.{Frames, hasField, Moving}
+use Rattle.rules.specs.Layout.{Version, hasField, headerFrame, Common}
 
-abbrev pub blankPlan : Plan → Plan
-blankPlan p = record { n = p .n; run = p .run; strings = filled 10 noString (stringsOf p) }
+abbrev pub trimmedPlan : Plan → Plan
+trimmedPlan p = record { n = p .n; run = p .run; strings = filled 10 noString (stringsOf p) }
 
-abbrev pub blankReleases : Releases → Releases
-blankReleases rs = record { count = rs .count; list = filled 1000 noRelease (releasesOf rs) }
+abbrev pub trimmedReleases : Releases → Releases
+trimmedReleases rs = record { count = rs .count; list = filled 1000 noRelease (releasesOf rs) }
 
-abbrev pub lawfulText : Plan → Releases → Reading
-lawfulText p rs = record { checked = Lawful; plan = blankPlan p; releases = blankReleases rs }
+abbrev pub readAgain : Plan → Releases → Reading
+readAgain p rs = record { checked = Lawful; plan = trimmedPlan p; releases = trimmedReleases rs }
 
 abbrev pub OneCost : Plan → Type 0
 OneCost p = All (λ s. s .a ≡ stringAt p 1 .a) (stringsOf p)
 
-abbrev pub Alike : Frames → Plan → Type 0
-Alike v p = hasField (v .header) Moving ≡ true → OneCost p
+abbrev pub Alike : Version → Plan → Type 0
+Alike v p = hasField (headerFrame v) Common ≡ true → OneCost p

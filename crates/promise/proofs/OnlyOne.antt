@@ -67,14 +67,16 @@ use Rattle.bounds.proofs.multiple_check.Reads as multiple-check
 use Rattle.bounds.proofs.plan_check.Reads as plan-check
 use Rattle.bounds.proofs.set_check.Reads as set-check
 use Rattle.bounds.proofs.run_check.Reads as run-check
+use Rattle.layouts.specs.declared.Version.{Version}
+use Rattle.layouts.proofs.held_to.Reads as held-to
 use Rattle.reading.proofs.read.Reads as read
-use Rattle.reading.proofs.read_old.Reads as read-old
-use Rattle.reading.proofs.read_new.Reads as read-new
+use Rattle.reading.proofs.read_01.Reads as read-01
+use Rattle.reading.proofs.read_02.Reads as read-02
 use Rattle.writing.specs.declared.Saved.{Saved}
 use Rattle.writing.proofs.write.Reads as write
-use Rattle.writing.proofs.write_old.Reads as write-old
-use Rattle.turning.proofs.to_new.Reads as to-new
-use Rattle.turning.proofs.to_old.Reads as to-old
+use Rattle.writing.proofs.write_01.Reads as write-01
+use Rattle.turning.proofs.to_02.Reads as to-02
+use Rattle.turning.proofs.to_01.Reads as to-01
 use Rattle.missed.proofs.miss.Reads as miss
 use Rattle.verdict.proofs.verdict.Reads as verdict
 use Rattle.verdict.proofs.verdict_with.Reads as verdict-with
@@ -232,31 +234,35 @@ pub one-read : (κs : Lfts 1) (a : _) (e f : _) (r s : Reading) → read.Learnt 
     → (r ≡ s) × (e .0 .now ≡ f .0 .now)
 one-read κs a e f r s h k = (h .0 ∙ sym (k .0), h .1 ∙ sym (k .1))
 
-pub one-read-old : (κs : Lfts 1) (a : _) (e f : _) (r s : Reading) → read-old.Learnt κs a r e → read-old.Learnt κs a s f
+pub one-read-01 : (κs : Lfts 1) (a : _) (e f : _) (r s : Reading) → read-01.Learnt κs a r e → read-01.Learnt κs a s f
     → (r ≡ s) × (e .0 .now ≡ f .0 .now)
-one-read-old κs a e f r s h k = (h .0 ∙ sym (k .0), h .1 ∙ sym (k .1))
+one-read-01 κs a e f r s h k = (h .0 ∙ sym (k .0), h .1 ∙ sym (k .1))
 
-pub one-read-new : (κs : Lfts 1) (a : _) (e f : _) (r s : Reading) → read-new.Learnt κs a r e → read-new.Learnt κs a s f
+pub one-read-02 : (κs : Lfts 1) (a : _) (e f : _) (r s : Reading) → read-02.Learnt κs a r e → read-02.Learnt κs a s f
     → (r ≡ s) × (e .0 .now ≡ f .0 .now)
-one-read-new κs a e f r s h k = (h .0 ∙ sym (k .0), h .1 ∙ sym (k .1))
+one-read-02 κs a e f r s h k = (h .0 ∙ sym (k .0), h .1 ∙ sym (k .1))
+
+-- layouts
+pub one-held-to : (κs : Lfts 0) (a : _) (e f : _) (r s : Version) → held-to.Learnt κs a r e → held-to.Learnt κs a s f → r ≡ s
+one-held-to κs a e f r s h k = h ∙ sym k
 
 -- writing: the page is lent
 pub one-write : (κs : Lfts 1) (a : _) (e f : _) (r s : Saved) → write.Learnt κs a r e → write.Learnt κs a s f
     → (r ≡ s) × (e .1 .1 .0 .now ≡ f .1 .1 .0 .now)
 one-write κs a e f r s h k = (h .0 ∙ sym (k .0), h .1 ∙ sym (k .1))
 
-pub one-write-old : (κs : Lfts 1) (a : _) (e f : _) (r s : Saved) → write-old.Learnt κs a r e → write-old.Learnt κs a s f
+pub one-write-01 : (κs : Lfts 1) (a : _) (e f : _) (r s : Saved) → write-01.Learnt κs a r e → write-01.Learnt κs a s f
     → (r ≡ s) × (e .1 .1 .0 .now ≡ f .1 .1 .0 .now)
-one-write-old κs a e f r s h k = (h .0 ∙ sym (k .0), h .1 ∙ sym (k .1))
+one-write-01 κs a e f r s h k = (h .0 ∙ sym (k .0), h .1 ∙ sym (k .1))
 
 -- turning: the text and the page are lent
-pub one-to-new : (κs : Lfts 2) (a : _) (e f : _) (r s : Saved) → to-new.Learnt κs a r e → to-new.Learnt κs a s f
+pub one-to-02 : (κs : Lfts 2) (a : _) (e f : _) (r s : Saved) → to-02.Learnt κs a r e → to-02.Learnt κs a s f
     → (r ≡ s) × (e .1 .0 .now ≡ f .1 .0 .now) × (e .0 .now ≡ f .0 .now)
-one-to-new κs a e f r s h k = (h .0 ∙ sym (k .0), h .1 .0 ∙ sym (k .1 .0), h .1 .1 ∙ sym (k .1 .1))
+one-to-02 κs a e f r s h k = (h .0 ∙ sym (k .0), h .1 .0 ∙ sym (k .1 .0), h .1 .1 ∙ sym (k .1 .1))
 
-pub one-to-old : (κs : Lfts 2) (a : _) (e f : _) (r s : Saved) → to-old.Learnt κs a r e → to-old.Learnt κs a s f
+pub one-to-01 : (κs : Lfts 2) (a : _) (e f : _) (r s : Saved) → to-01.Learnt κs a r e → to-01.Learnt κs a s f
     → (r ≡ s) × (e .1 .0 .now ≡ f .1 .0 .now) × (e .0 .now ≡ f .0 .now)
-one-to-old κs a e f r s h k = (h .0 ∙ sym (k .0), h .1 .0 ∙ sym (k .1 .0), h .1 .1 ∙ sym (k .1 .1))
+one-to-01 κs a e f r s h k = (h .0 ∙ sym (k .0), h .1 .0 ∙ sym (k .1 .0), h .1 .1 ∙ sym (k .1 .1))
 
 -- missed: the same are lent
 pub one-miss : (κs : Lfts 2) (a : _) (e f : _) (r s : Missed) → miss.Learnt κs a r e → miss.Learnt κs a s f

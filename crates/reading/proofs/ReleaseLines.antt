@@ -19,7 +19,7 @@ use Rattle.lists.proofs.Lists.{by-bool}
 use Rattle.rules.specs.declared.Plan.{Plan}
 use Rattle.rules.specs.declared.Release.{Release}
 use Rattle.rules.specs.Release.{releaseLawful, unlawfulFrom}
-use Rattle.rules.specs.Layout.{Layout, Frames, frameSize, lineSize}
+use Rattle.rules.specs.Layout.{Layout, Version, frameSize, lineSize, releaseFrame}
 use Rattle.rules.specs.Text.{Line, releaseOf, releaseLineCheck, releaseLinesCheck, layoutCheck}
 use Rattle.reading.specs.Positions.{headLine, linesFrom, lineAt, Stand, oneMore, framesIn}
 use Rattle.reading.proofs.Lines.{line-here, lines-none}
@@ -28,7 +28,7 @@ use Rattle.reading.proofs.Standing.{stand-none, stand-more}
 
 -- ---- The frames, line after line
 
-module _ (l : Layout) where
+module _ {F : Type 0} (l : Layout F) where
   frames-end : (k room : ℕ) → framesIn l k room [] ≡ record { count = 0; checked = Lawful }
   unfolding framesIn
   frames-end k room = refl
@@ -137,23 +137,23 @@ decided-here k j end h =
     let here : k + j - j ≡ k = omega arith in
     rw (lt-ltb 0 j h, here)
 
-module _ (v : Frames) (p : Plan) where
+module _ (v : Version) (p : Plan) where
   -- the first line writes the release j, and room is left for as many as make 1,000
   pub releaseLines-decided : (lines : List Line) (k j room : ℕ) (seen : List Release) → 1 ≤ j → j + room ≡ 1001
       → releaseLinesCheck v p k j seen lines
-      ≡ decided k j (unlawfulFrom p seen j (map (releaseOf v) (take (framesIn (v .release) k room lines .count) lines)))
-      (framesIn (v .release) k room lines .checked)
+      ≡ decided k j (unlawfulFrom p seen j (map (releaseOf v) (take (framesIn (releaseFrame v) k room lines .count) lines)))
+      (framesIn (releaseFrame v) k room lines .checked)
   unfolding releaseLinesCheck releaseLineCheck unlawfulFrom framesIn
   releaseLines-decided [] k j room seen low all = sym (decided-none k j Lawful)
   releaseLines-decided (line ∷ lines) k j zero seen low all =
       let many : 1000 < j = omega arith in
-      by-checked (layoutCheck k (v .release) line)
+      by-checked (layoutCheck k (releaseFrame v) line)
       (λ e. rw (e, lt-ltb 1000 j many) (sym (decided-none k j _)))
       (λ f a e. rw e (sym (decided-none k j _)))
   releaseLines-decided (line ∷ lines) k j (suc room) seen low all =
       let few : j ≤ 1000 = omega arith in
       let later = releaseLines-decided lines (suc k) (suc j) room (releaseOf v line ∷ seen) (omega arith) (omega arith) in
-      by-checked (layoutCheck k (v .release) line)
+      by-checked (layoutCheck k (releaseFrame v) line)
       (λ e.
       by-bool (releaseLawful p seen (releaseOf v line))
       (λ t. rw (e, le-ltb 1000 j few, t) (later ∙ decided-later k j _ _))

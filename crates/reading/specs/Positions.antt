@@ -17,19 +17,18 @@ use mathlib.Core.Bool.{false, cond}
 use mathlib.Core.List.{List, [], _∷_, map}
 use lib.Dec.{ltb}
 use lib.ListN.{length, getD, take, drop}
-use Rattle.faults.specs.declared.Fault.{Fault}
 use Rattle.faults.specs.declared.Fault.the-variants.{ReleaseTooMany}
 use Rattle.faults.specs.declared.Checked.{Checked}
 use Rattle.faults.specs.declared.Checked.the-variants.{Lawful, Refused}
-use Rattle.faults.specs.Checks.{then}
+use Rattle.faults.specs.Checks.{then, orRefused}
 use Rattle.lists.specs.Count.{filled}
 use Rattle.rules.specs.declared.Plan.{Plan}
 use Rattle.rules.specs.declared.Releases.{Releases}
 use Rattle.rules.specs.declared.Reading.{Reading}
 use Rattle.rules.specs.Release.{noRelease}
 use Rattle.rules.specs.Refusal.{headCheck, costCheck, multipleCheck}
-use Rattle.rules.specs.Layout.{Layout, Frames, frameSize, lineLength, numberOf, lineSize}
-use Rattle.rules.specs.Text.{Line, linesOf, digitOf, pairsOf, nIn, aIn, runIn, releaseOf, noPlan, noReleases, planIn, versionCheck, layoutCheck}
+use Rattle.rules.specs.Layout.{Layout, Version, frameSize, lineLength, numberOf, lineSize, headerFrame, stringFrame, releaseFrame}
+use Rattle.rules.specs.Text.{Line, linesOf, digitOf, hexBytes, nIn, aIn, runIn, releaseOf, planIn, versionCheck, layoutCheck}
 use Rattle.rules.specs.Text.{stringLinesCheck, releaseLinesCheck, bodyCheck, lawfulReading}
 use Rattle.reading.specs.declared.Framed.{Framed}
 
@@ -71,19 +70,18 @@ abbrev pub byteIn : List ℕ → ℕ → ℕ
 byteIn text at = digitOf (getD text at 0) * 16 + digitOf (getD text (at + 1) 0)
 
 unfoldable pub numberIn : List ℕ → ℕ → ℕ → ℕ → ℕ
-numberIn text at k size = numberOf (take size (drop k (pairsOf (drop at text))))
+numberIn text at k size = numberOf (take size (drop k (hexBytes (drop at text))))
 
 -- ---- Release frames
 
 -- a refused line ends the frames
 abbrev pub framedOr : Checked → Framed → Framed
-framedOr Lawful on = on
-framedOr (Refused f at) on = record { count = 0; checked = Refused f at }
+framedOr = orRefused (λ f at. record { count = 0; checked = Refused f at })
 
 abbrev pub oneMore : Framed → Framed
 oneMore later = record { count = suc (later .count); checked = later .checked }
 
-unfoldable pub framesIn : Layout → ℕ → ℕ → List Line → Framed
+unfoldable pub framesIn : {F : Type 0} → Layout F → ℕ → ℕ → List Line → Framed
 framesIn l k room [] = record { count = 0; checked = Lawful }
 framesIn l k zero (line ∷ lines) =
     framedOr (layoutCheck k l line) (record { count = 0; checked = Refused ReleaseTooMany k })
@@ -92,15 +90,12 @@ framesIn l k (suc room) (line ∷ lines) =
 
 -- ---- What is known after each part of the text
 
-abbrev pub refusedReading : Fault → ℕ → Reading
-refusedReading f at = record { checked = Refused f at; plan = noPlan; releases = noReleases }
-
-module _ (v : Frames) where
+module _ (v : Version) where
   abbrev pub stringsAt : ℕ
-  stringsAt = lineSize (v .header)
+  stringsAt = lineSize (headerFrame v)
 
   abbrev pub releasesAt : ℕ → ℕ
-  releasesAt n = stringsAt + n * lineSize (v .string)
+  releasesAt n = stringsAt + n * lineSize (stringFrame v)
 
   -- the faults of a header that is a frame
   abbrev pub headerNumbers : Line → Checked
@@ -108,7 +103,7 @@ module _ (v : Frames) where
 
   -- the first line is a lawful header
   pub record HeaderRead (text : List ℕ) : Type 0 where
-    pub frame : Frame text 0 (frameSize (v .header))
+    pub frame : Frame text 0 (frameSize (headerFrame v))
     pub head : headCheck 1 (nIn v (lineAt text 0)) (runIn v (lineAt text 0)) ≡ Lawful
 
   -- the string lines are lawful too, and p is the plan
@@ -133,4 +128,4 @@ module _ (v : Frames) where
   -- the releases that n lines from `at` on write, as the code stores them
   unfoldable pub releaseList : List ℕ → ℕ → ℕ → Releases
   releaseList text at n =
-      record { count = n; list = filled 1000 noRelease (map (releaseOf v) (linesAt text at (lineSize (v .release)) n)) }
+      record { count = n; list = filled 1000 noRelease (map (releaseOf v) (linesAt text at (lineSize (releaseFrame v)) n)) }

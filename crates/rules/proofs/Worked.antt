@@ -27,10 +27,10 @@ use Rattle.rules.specs.Answer as answers
 use Rattle.rules.specs.Lines.{bytesOf, decimal, wordedIn, refusedLine, verdictLine, assignLine, outcomeLine, linesFor}
 use Rattle.lists.specs.Count.{filled}
 use Rattle.lists.specs.Digits.{digitsIn, digitsOf}
-use Rattle.rules.specs.Layout.{numberFrom, hasField, fieldAmong, fieldIn, framesFor}
-use Rattle.rules.specs.Text.{before, linesOf, digitOf, wellFormed, pairsOf, frameOf, fieldOf, frameCheck, nIn, runIn, aIn, costOf, stringOf, releaseOf}
-use Rattle.rules.specs.Text.{planIn, releasesIn, versionCheck, headerCheck, stringLineCheck, stringLinesCheck, releaseLineCheck}
-use Rattle.rules.specs.Text.{releaseLinesCheck, bodyCheck, linesCheck, textCheck, lawfulReading, readingIn, framesOf, readingOf}
+use Rattle.rules.specs.Layout.{numberFrom, hasField, fieldAmong, fieldIn, heldTo}
+use Rattle.rules.specs.Text.{before, linesOf, digitOf, wellFormed, hexBytes, frameOf, fieldOf, frameCheck, nIn, runIn, aIn, costOf, stringOf, releaseOf}
+use Rattle.rules.specs.Text.{planIn, listIn, versionCheck, headerCheck, stringLineCheck, stringLinesCheck, releaseLineCheck}
+use Rattle.rules.specs.Text.{releaseLinesCheck, bodyCheck, linesCheck, textCheck, lawfulReading, readingIn, versionOf, readingOf}
 
 -- ---- Writing plans and texts down
 
@@ -213,9 +213,9 @@ unfolding
     runOf
     countCheck runLengthCheck costCheck stringsCheck multipleCheck planCheck setCheck releasesCheck runCheck
     verdictAnswer setAnswer searchAnswer runAnswer
-    before linesOf digitOf wellFormed pairsOf frameOf numberFrom hasField fieldAmong fieldIn framesFor fieldOf
-    nIn runIn aIn costOf stringOf releaseOf planIn releasesIn frameCheck versionCheck headerCheck
-    stringLineCheck stringLinesCheck releaseLineCheck releaseLinesCheck bodyCheck linesCheck textCheck lawfulReading readingIn framesOf
+    before linesOf digitOf wellFormed hexBytes frameOf numberFrom hasField fieldAmong fieldIn heldTo fieldOf
+    nIn runIn aIn costOf stringOf releaseOf planIn listIn frameCheck versionCheck headerCheck
+    stringLineCheck stringLinesCheck releaseLineCheck releaseLinesCheck bodyCheck linesCheck textCheck lawfulReading readingIn versionOf
     readingOf
     answers.answered answerOf bytesOf digitsIn digitsOf decimal wordedIn refusedLine verdictLine assignLine outcomeLine linesFor
 worked = refl

@@ -19,6 +19,15 @@ pub struct BatteryString {
     pub a: Length,
 }
 
+// Stands where there is no string; it is lawful nowhere.
+pub const NO_STRING: BatteryString = BatteryString {
+    t: Length(0),
+    c: Length(0),
+    d: Length(0),
+    x: 0,
+    a: Length(0),
+};
+
 // A plan: n strings by place, and the days of its run. Of the ten strings the first n count.
 pub struct Plan {
     pub n: usize,
@@ -51,6 +60,13 @@ pub struct Release {
     pub place: usize,
     pub need: Length,
 }
+
+// Stands where there is no release.
+pub const NO_RELEASE: Release = Release {
+    day: Day(0),
+    place: 0,
+    need: Length(0),
+};
 
 // A list of releases. Of the thousand the first `count` count; a larger count is refused.
 pub struct Releases {

@@ -15,7 +15,7 @@ use Rattle.rules.specs.declared.Release.{Release}
 use Rattle.rules.specs.declared.Releases.{Releases}
 use Rattle.rules.specs.Plan.{stringsOf}
 use Rattle.rules.specs.Release.{releasesOf}
-use Rattle.rules.specs.Layout.{Field, Layout, Frames, lineSize}
+use Rattle.rules.specs.Layout.{Layout, Version, lineSize, headerFrame, stringFrame, releaseFrame}
 use Rattle.writing.specs.declared.cells.Cell.{Cell}
 use Rattle.writing.specs.Written.{frameBytes, lineText, headerSays, stringSays, releaseSays, headerText, stringText, releaseText, planText}
 use Rattle.writing.specs.Cells.{cellsSize, cellsText, Room, SaysFrame}
@@ -61,44 +61,43 @@ module _ {ℓ} {A : Type ℓ} (f : A → List ℕ) (k : ℕ) (each : (x : A) →
 
 -- ---- The lines of a plan
 
-module _ (v : Frames) where
-  pub stringText-length : (s : BatteryString) → length (stringText v s) ≡ lineSize (v .string)
+frame-long : {F : Type 0} (l : Layout F) (says : F → ℕ) → length (lineText (frameBytes l says)) ≡ lineSize l
+frame-long l says = lineText-length (frameBytes l says) ∙ ap (λ k. k * 2 + 1) (frameBytes-length l says)
+
+module _ (v : Version) where
+  pub stringText-length : (s : BatteryString) → length (stringText v s) ≡ lineSize (stringFrame v)
   unfolding stringText
-  stringText-length s =
-      lineText-length (frameBytes (v .string) (stringSays s)) ∙ ap (λ k. k * 2 + 1) (frameBytes-length (v .string) (stringSays s))
+  stringText-length s = frame-long (stringFrame v) (stringSays s)
 
-  pub releaseText-length : (r : Release) → length (releaseText v r) ≡ lineSize (v .release)
+  pub releaseText-length : (r : Release) → length (releaseText v r) ≡ lineSize (releaseFrame v)
   unfolding releaseText
-  releaseText-length r =
-      lineText-length (frameBytes (v .release) (releaseSays r)) ∙ ap (λ k. k * 2 + 1) (frameBytes-length (v .release) (releaseSays r))
+  releaseText-length r = frame-long (releaseFrame v) (releaseSays r)
 
-  pub headerText-length : (p : Plan) → length (headerText v p) ≡ lineSize (v .header)
+  pub headerText-length : (p : Plan) → length (headerText v p) ≡ lineSize (headerFrame v)
   unfolding headerText
-  headerText-length p =
-      lineText-length (frameBytes (v .header) (headerSays (v .version) p))
-      ∙ ap (λ k. k * 2 + 1) (frameBytes-length (v .header) (headerSays (v .version) p))
+  headerText-length p = frame-long (headerFrame v) (headerSays (v .number) p)
 
--- what put_frame leaves, for cells that say a frame
-pub line-put : (cells : List Cell) (count : ℕ) (l : Layout) (says : Field → ℕ) (part next : List ℕ) → SaysFrame cells count l says
-    → next ≡ (cellsText (take count cells) ++ (0x0a ∷ [])) ++ drop (cellsSize (take count cells) * 2 + 1) part
-    → next ≡ lineText (frameBytes l says) ++ drop (lineSize l) part
-line-put cells count l says part next s got =
-    got ∙ ap (λ t. t ++ drop (cellsSize (take count cells) * 2 + 1) part) (says-line cells count l says s)
-    ∙ ap (λ k. lineText (frameBytes l says) ++ drop (k * 2 + 1) part) (s .size)
+module _ {F : Type 0} (cells : List Cell) (count : ℕ) (l : Layout F) (says : F → ℕ) where
+  -- what put_frame leaves, for cells that say a frame
+  pub line-put : (part next : List ℕ) → SaysFrame cells count l says
+      → next ≡ (cellsText (take count cells) ++ (0x0a ∷ [])) ++ drop (cellsSize (take count cells) * 2 + 1) part
+      → next ≡ lineText (frameBytes l says) ++ drop (lineSize l) part
+  line-put part next s got =
+      got ∙ ap (λ t. t ++ drop (cellsSize (take count cells) * 2 + 1) part) (says-line l says cells count s)
+      ∙ ap (λ k. lineText (frameBytes l says) ++ drop (k * 2 + 1) part) (s .size)
 
--- and what it asks
-pub line-room : (cells : List Cell) (count : ℕ) (l : Layout) (says : Field → ℕ) (k : ℕ) → SaysFrame cells count l says → count ≤ 7
-    → lineSize l ≤ k → Room cells count k
-line-room cells count l says k s few room =
-    record { few = few; there = omega (arith, s .seven); bytes = omega (arith, ap (λ n. n * 2 + 1) (s .size)) }
+  -- and what it asks
+  pub line-room : (k : ℕ) → SaysFrame cells count l says → count ≤ 7 → lineSize l ≤ k → Room cells count k
+  line-room k s few room =
+      record { few = few; there = omega (arith, s .seven); bytes = omega (arith, ap (λ n. n * 2 + 1) (s .size)) }
 
 -- ---- The whole text
 
 -- how long the text of so many strings and releases is
-abbrev pub longAs : Frames → ℕ → ℕ → ℕ
-longAs v n count = lineSize (v .header) + n * lineSize (v .string) + count * lineSize (v .release)
+abbrev pub longAs : Version → ℕ → ℕ → ℕ
+longAs v n count = lineSize (headerFrame v) + n * lineSize (stringFrame v) + count * lineSize (releaseFrame v)
 
-module _ (v : Frames) (p : Plan) (rs : Releases) (strings-many : length (stringsOf p) ≡ p .n)
+module _ (v : Version) (p : Plan) (rs : Releases) (strings-many : length (stringsOf p) ≡ p .n)
     (releases-many : length (releasesOf rs) ≡ rs .count)
   where
     abbrev strings : List ℕ
@@ -107,15 +106,15 @@ module _ (v : Frames) (p : Plan) (rs : Releases) (strings-many : length (strings
     abbrev releases : List ℕ
     releases = flatMap (releaseText v) (releasesOf rs)
 
-    pub strings-long : length strings ≡ p .n * lineSize (v .string)
+    pub strings-long : length strings ≡ p .n * lineSize (stringFrame v)
     strings-long =
-        flatMap-length (stringText v) (lineSize (v .string)) (stringText-length v) (stringsOf p)
-        ∙ ap (λ n. n * lineSize (v .string)) strings-many
+        flatMap-length (stringText v) (lineSize (stringFrame v)) (stringText-length v) (stringsOf p)
+        ∙ ap (λ n. n * lineSize (stringFrame v)) strings-many
 
-    pub releases-long : length releases ≡ rs .count * lineSize (v .release)
+    pub releases-long : length releases ≡ rs .count * lineSize (releaseFrame v)
     releases-long =
-        flatMap-length (releaseText v) (lineSize (v .release)) (releaseText-length v) (releasesOf rs)
-        ∙ ap (λ n. n * lineSize (v .release)) releases-many
+        flatMap-length (releaseText v) (lineSize (releaseFrame v)) (releaseText-length v) (releasesOf rs)
+        ∙ ap (λ n. n * lineSize (releaseFrame v)) releases-many
 
     pub text-long : length (planText v p (releasesOf rs)) ≡ longAs v (p .n) (rs .count)
     unfolding planText

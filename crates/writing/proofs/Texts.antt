@@ -10,7 +10,7 @@ use lib.ListN.{length, take, drop, getD, set, length-append, length-drop}
 use lib.Seq.{take-append-seam, drop-append-seam, drop-drop, drop-at, length-take-le, take-all, take-suc, drop-length}
 use borrow.Rule.Slice.PartMut.{putMid, postOf, post-is, same-len-mid}
 use Rattle.lists.specs.Count.{sumOf}
-use Rattle.rules.specs.Layout.{Field, Sized, Layout, sizeOf, frameSize}
+use Rattle.rules.specs.Layout.{Layout, sizeOf, frameSize}
 use Rattle.writing.specs.declared.cells.Cell.{Cell}
 use Rattle.writing.specs.Written.{numberBytes, byteText, frameBytes, lineText}
 use Rattle.writing.specs.Cells.{numberText, cellText, cellsSize, cellsText, SaysFrame}
@@ -231,24 +231,24 @@ unfolding lineText
 lineText-length frame = length-append (flatMap byteText frame) (0x0a ∷ []) ∙ ap (λ k. k + 1)
     (flatMap-length byteText 2 byteText-length frame)
 
-fields-length : (fields : List Sized) (says : Field → ℕ)
-    → length (flatMap (λ s. numberBytes (s .size) (says (s .field))) fields) ≡ sizeOf fields
-unfolding flatMap
-fields-length [] says = refl
-fields-length (s ∷ fields) says =
-    let rest = fields-length fields says in
-    omega (
-      arith,
-      length-append (numberBytes (s .size) (says (s .field))) (flatMap (λ f. numberBytes (f .size) (says (f .field))) fields),
-      numberBytes-length (s .size) (says (s .field)),
-    )
+module _ {F : Type 0} (l : Layout F) (says : F → ℕ) where
+  fields-length : (fields : List F) → length (flatMap (λ f. numberBytes (l .size f) (says f)) fields) ≡ sizeOf (l .size) fields
+  unfolding flatMap
+  fields-length [] = refl
+  fields-length (g ∷ fields) =
+      let rest = fields-length fields in
+      omega (
+        arith,
+        length-append (numberBytes (l .size g) (says g)) (flatMap (λ f. numberBytes (l .size f) (says f)) fields),
+        numberBytes-length (l .size g) (says g),
+      )
 
-pub frameBytes-length : (l : Layout) (says : Field → ℕ) → length (frameBytes l says) ≡ frameSize l
-unfolding frameBytes
-frameBytes-length l says = omega (arith, fields-length (l .fields) says)
+  pub frameBytes-length : length (frameBytes l says) ≡ frameSize l
+  unfolding frameBytes
+  frameBytes-length = omega (arith, fields-length (l .fields))
 
--- what put_frame writes for cells that say a frame
-pub says-line : (cells : List Cell) (count : ℕ) (l : Layout) (says : Field → ℕ) → SaysFrame cells count l says
-    → cellsText (take count cells) ++ (0x0a ∷ []) ≡ lineText (frameBytes l says)
-unfolding lineText
-says-line cells count l says s = ap (λ digits. digits ++ (0x0a ∷ [])) (s .text)
+  -- what put_frame writes for cells that say a frame
+  pub says-line : (cells : List Cell) (count : ℕ) → SaysFrame cells count l says
+      → cellsText (take count cells) ++ (0x0a ∷ []) ≡ lineText (frameBytes l says)
+  unfolding lineText
+  says-line cells count s = ap (λ digits. digits ++ (0x0a ∷ [])) (s .text)

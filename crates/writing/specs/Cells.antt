@@ -15,7 +15,7 @@ use Rattle.lists.specs.Count.{All, sumOf}
 use Rattle.rules.specs.declared.Plan.{Plan}
 use Rattle.rules.specs.declared.Releases.{Releases}
 use Rattle.rules.specs.Release.{releasesOf}
-use Rattle.rules.specs.Layout.{Field, Layout, Frames, lineSize, frameSize}
+use Rattle.rules.specs.Layout.{Layout, Version, lineSize, frameSize, stringFrame, releaseFrame}
 use Rattle.writing.specs.declared.cells.Cell.{Cell}
 use Rattle.writing.specs.Written.{numberBytes, byteText, frameBytes, planText}
 
@@ -36,24 +36,25 @@ pub record Room (cells : List Cell) (count k : ℕ) : Type 0 where
   pub there : count ≤ length cells
   pub bytes : cellsSize (take count cells) * 2 + 1 ≤ k
 
-pub record SaysFrame (cells : List Cell) (count : ℕ) (l : Layout) (says : Field → ℕ) : Type 0 where
-  pub seven : length cells ≡ 7
-  pub size : cellsSize (take count cells) ≡ frameSize l
-  pub text : cellsText (take count cells) ≡ flatMap byteText (frameBytes l says)
+module _ {F : Type 0} where
+  pub record SaysFrame (cells : List Cell) (count : ℕ) (l : Layout F) (says : F → ℕ) : Type 0 where
+    pub seven : length cells ≡ 7
+    pub size : cellsSize (take count cells) ≡ frameSize l
+    pub text : cellsText (take count cells) ≡ flatMap byteText (frameBytes l says)
 
-pub record StringsFit (v : Frames) (p : Plan) (k : ℕ) : Type 0 where
+pub record StringsFit (v : Version) (p : Plan) (k : ℕ) : Type 0 where
   pub some : 1 ≤ p .n
   pub few : p .n ≤ 10
   pub ten : length (p .strings) ≡ 10
-  pub bytes : p .n * lineSize (v .string) ≤ k
+  pub bytes : p .n * lineSize (stringFrame v) ≤ k
 
-pub record ReleasesFit (v : Frames) (rs : Releases) (k : ℕ) : Type 0 where
+pub record ReleasesFit (v : Version) (rs : Releases) (k : ℕ) : Type 0 where
   pub few : rs .count ≤ 1000
   pub thousand : length (rs .list) ≡ 1000
   pub places : All (λ r. r .place ≤ 10) (releasesOf rs)
-  pub bytes : rs .count * lineSize (v .release) ≤ k
+  pub bytes : rs .count * lineSize (releaseFrame v) ≤ k
 
-pub record PlanFits (v : Frames) (p : Plan) (rs : Releases) (k : ℕ) : Type 0 where
+pub record PlanFits (v : Version) (p : Plan) (rs : Releases) (k : ℕ) : Type 0 where
   pub strings : StringsFit v p k
   pub releases : ReleasesFit v rs k
   pub bytes : length (planText v p (releasesOf rs)) ≤ k

@@ -10,12 +10,9 @@ returns : tie.Need-returns
 unfolding lineOf
 returns c = rw (eq-eqb _ _ (c .if1 .taken))
 
-add-result : tie.Need-add-result
-add-result c = search needs
-
 returns-2 : tie.Need-returns-2
 unfolding lineOf
 returns-2 c = rw (ne-eqb _ _ (c .if1 .left))
 
 pub line-of-spec : {M : Type 1} → statement M
-line-of-spec = tie.close (tie.spec returns add-result returns-2)
+line-of-spec = tie.close (tie.spec returns (λ c. search needs) returns-2)

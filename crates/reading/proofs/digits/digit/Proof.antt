@@ -15,9 +15,6 @@ returns-2 c = sym (digitOf-number _ (omega arith) (omega arith))
 returns-3 : tie.Need-returns-3
 returns-3 c = sym (digitOf-other _ (λ h k. omega arith) (λ h k. omega arith))
 
-sub-result : tie.Need-sub-result
-sub-result c = search needs
-
 returns-4 : tie.Need-returns-4
 returns-4 c = sym (digitOf-letter _ (omega arith) (omega arith))
 
@@ -25,4 +22,4 @@ returns-5 : tie.Need-returns-5
 returns-5 c = sym (digitOf-other _ (λ h k. omega arith) (λ h k. omega arith))
 
 pub digit-spec : {M : Type 1} → statement M
-digit-spec = tie.close (tie.spec returns returns-2 returns-3 sub-result returns-4 returns-5)
+digit-spec = tie.close (tie.spec returns returns-2 returns-3 (λ c. search needs) returns-4 returns-5)

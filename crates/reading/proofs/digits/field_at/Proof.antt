@@ -68,9 +68,6 @@ add-v c = omega (arith, below (c .before .before), c .byte-at .ensures, small (c
 add-i : tie.Need-add-i Inv-loop μ-loop
 add-i c = omega (arith, c .before .before .if1 .taken)
 
-loop-less : tie.Need-loop-less Inv-loop μ-loop
-loop-less c = omega arith
-
 loop-again : tie.Need-loop-again Inv-loop μ-loop
 loop-again c =
     let into = c .before .before in
@@ -92,18 +89,6 @@ returns c =
 
 pub field-at-spec : {M : Type 1} → statement M
 field-at-spec =
-    tie.close
-    (tie.spec
-    Inv-loop
-    μ-loop
-    loop-holds
-    mul-v
-    add-byte-at
-    mul-byte-at
-    add-byte-at-2
-    byte-at-requires
-    add-v
-    add-i
-    loop-less
-    loop-again
-    returns)
+    tie.close (tie.spec
+    Inv-loop μ-loop loop-holds mul-v add-byte-at mul-byte-at add-byte-at-2 byte-at-requires add-v add-i
+    (λ c. omega arith) loop-again returns)

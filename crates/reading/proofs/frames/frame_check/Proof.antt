@@ -21,12 +21,6 @@ half d = ap (λ n. n / 2) (sym (d .digits-ahead .ensures))
 formed : (c : tie.Else1) → Formed (start (c .before .before) .args .text .now) (start (c .before .before) .args .at)
 formed c = formed-is _ _ (sym (c .before .well-formed .ensures) ∙ not-false _ (c .if1 .left))
 
-digits-ahead-requires : tie.Need-digits-ahead-requires
-digits-ahead-requires c κs = search needs
-
-well-formed-requires : tie.Need-well-formed-requires
-well-formed-requires c κs = search needs
-
 returns : tie.Need-returns
 returns c =
     let formed = c .before in
@@ -65,12 +59,5 @@ returns-4 c =
 
 pub frame-check-spec : {M : Type 1} → statement M
 frame-check-spec =
-    tie.close
-    (tie.spec
-    digits-ahead-requires
-    well-formed-requires
-    returns
-    returns-2
-    field-at-requires
-    returns-3
-    returns-4)
+    tie.close (tie.spec
+    (λ c κs. search needs) (λ c κs. search needs) returns returns-2 field-at-requires returns-3 returns-4)

@@ -19,9 +19,6 @@ returns c =
     let g = c .before .args in
     sym (formed-not (g .text .now) (g .at) (λ f. omega (arith, c .before .pre .1, f .inside)))
 
-shared-slice-read-b : tie.Need-shared-slice-read-b
-shared-slice-read-b c = search needs
-
 returns-2 : tie.Need-returns-2
 returns-2 c =
     let start = c .before .before .before in
@@ -42,5 +39,4 @@ returns-4 c =
     rw (start .pre .1) (formed-even (g .text .now) (g .at) (omega (arith, start .pre .1)) newline (omega (arith, start .pre .1)))
 
 pub well-formed-spec : {M : Type 1} → statement M
-well-formed-spec =
-    tie.close (tie.spec add-end returns shared-slice-read-b returns-2 returns-3 returns-4)
+well-formed-spec = tie.close (tie.spec add-end returns (λ c. search needs) returns-2 returns-3 returns-4)

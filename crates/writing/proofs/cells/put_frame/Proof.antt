@@ -75,12 +75,6 @@ loop-holds : tie.Need-loop-holds Inv-loop μ-loop
 unfolding cellsSize cellsText sumOf flatMap
 loop-holds c = (omega arith, record { place = refl; text = stands-none _ })
 
-mul-cell : tie.Need-mul-cell Inv-loop μ-loop
-mul-cell c = omega arith
-
-array-copy-out-cell : tie.Need-array-copy-out-cell Inv-loop μ-loop
-array-copy-out-cell c = omega arith
-
 mul-put-number : tie.Need-mul-put-number Inv-loop μ-loop
 mul-put-number c =
     let o = c .before .before in
@@ -129,12 +123,6 @@ add-at c =
     let fits = next-room (s .args .part .now) (o .loop .part) (s .args .t2) (o .loop .at) (o .loop .i) (s .args .count) (o .loop .inv .1)
     (omega arith) (s .pre) in
     omega arith
-
-add-i : tie.Need-add-i Inv-loop μ-loop
-add-i c = omega arith
-
-loop-less : tie.Need-loop-less Inv-loop μ-loop
-loop-less c = omega arith
 
 loop-again : tie.Need-loop-again Inv-loop μ-loop
 loop-again c =
@@ -211,26 +199,7 @@ returns c =
 
 pub put-frame-spec : {M : Type 1} → statement M
 put-frame-spec =
-    tie.close
-    (tie.spec
-    Inv-loop
-    μ-loop
-    loop-holds
-    mul-cell
-    array-copy-out-cell
-    mul-put-number
-    sub-put-number
-    part-put-number-start
-    part-put-number-end
-    put-number-requires
-    add-at
-    add-i
-    loop-less
-    loop-again
-    mul-put-end
-    sub-put-end
-    part-put-end-start
-    part-put-end-end
-    put-end-requires
-    same-length
-    returns)
+    tie.close (tie.spec
+    Inv-loop μ-loop loop-holds (λ c. omega arith) (λ c. omega arith) mul-put-number sub-put-number part-put-number-start
+    part-put-number-end put-number-requires add-at (λ c. omega arith) (λ c. omega arith) loop-again mul-put-end
+    sub-put-end part-put-end-start part-put-end-end put-end-requires same-length returns)

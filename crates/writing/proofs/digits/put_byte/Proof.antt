@@ -8,21 +8,6 @@ use Rattle.writing.proofs.Texts.{set-two}
 use Rattle.writing.proofs.digits.put_byte.Statement.{statement}
 use Rattle.writing.proofs.digits.put_byte.Tie as tie
 
-digit-requires : tie.Need-digit-requires
-digit-requires c κs = search needs
-
-slice-write-part : tie.Need-slice-write-part
-slice-write-part c = search needs
-
-digit-requires-2 : tie.Need-digit-requires-2
-digit-requires-2 c κs = search needs
-
-slice-write-part-2 : tie.Need-slice-write-part-2
-slice-write-part-2 c = search needs
-
-same-length : tie.Need-same-length
-same-length c = search needs
-
 returns : tie.Need-returns
 unfolding byteText
 returns c =
@@ -33,11 +18,5 @@ returns c =
 
 pub put-byte-spec : {M : Type 1} → statement M
 put-byte-spec =
-    tie.close
-    (tie.spec
-    digit-requires
-    slice-write-part
-    digit-requires-2
-    slice-write-part-2
-    same-length
-    returns)
+    tie.close (tie.spec
+    (λ c κs. search needs) (λ c. search needs) (λ c κs. search needs) (λ c. search needs) (λ c. search needs) returns)

@@ -22,21 +22,6 @@ abbrev μ-loop : tie.MeasureT-loop
 loop-holds : tie.Need-loop-holds Inv-loop μ-loop
 loop-holds c = (omega arith, refl, refl)
 
-sub-i : tie.Need-sub-i Inv-loop μ-loop
-sub-i c = omega arith
-
-mul-put-byte : tie.Need-mul-put-byte Inv-loop μ-loop
-mul-put-byte c = omega arith
-
-sub-put-byte : tie.Need-sub-put-byte Inv-loop μ-loop
-sub-put-byte c = omega arith
-
-part-put-byte-start : tie.Need-part-put-byte-start Inv-loop μ-loop
-part-put-byte-start c = omega arith
-
-part-put-byte-end : tie.Need-part-put-byte-end Inv-loop μ-loop
-part-put-byte-end c = omega arith
-
 put-byte-requires : tie.Need-put-byte-requires Inv-loop μ-loop
 put-byte-requires c κs =
     let part = c .before .before .loop .part in
@@ -45,9 +30,6 @@ put-byte-requires c κs =
       omega
           (arith, mod-lt (c .before .before .loop .rest) {m = 256} (omega arith)),
     )
-
-loop-less : tie.Need-loop-less Inv-loop μ-loop
-loop-less c = omega arith
 
 loop-again : tie.Need-loop-again Inv-loop μ-loop
 unfolding byteText
@@ -68,26 +50,11 @@ loop-again c =
       same ∙ before ∙ at-loop .loop .inv .2,
     )
 
-same-length : tie.Need-same-length Inv-loop μ-loop
-same-length c = omega arith
-
 returns : tie.Need-returns Inv-loop μ-loop
 returns c = number-done (c .before .loop .i) (c .before .loop .rest) (c .before .loop .part) _ (omega arith) (c .before .loop .inv .2)
 
 pub put-number-spec : {M : Type 1} → statement M
 put-number-spec =
-    tie.close
-    (tie.spec
-    Inv-loop
-    μ-loop
-    loop-holds
-    sub-i
-    mul-put-byte
-    sub-put-byte
-    part-put-byte-start
-    part-put-byte-end
-    put-byte-requires
-    loop-less
-    loop-again
-    same-length
-    returns)
+    tie.close (tie.spec
+    Inv-loop μ-loop loop-holds (λ c. omega arith) (λ c. omega arith) (λ c. omega arith) (λ c. omega arith)
+    (λ c. omega arith) put-byte-requires (λ c. omega arith) loop-again (λ c. omega arith) returns)

@@ -1,4 +1,4 @@
--- `string_cells` meets its contract: cell by cell it is the string's layout in either version.
+-- `string_cells` meets its contract: cell by cell it is the string's layout in every version.
 use Rattle.writing.proofs.CellsSaid.{string-says}
 use Rattle.writing.proofs.says.string_cells.Statement.{statement}
 use Rattle.writing.proofs.says.string_cells.Tie as tie

@@ -1,4 +1,4 @@
--- Old files and new (document 02, W-207): a version 01 text reads as the version 02 plan in which every string has the moving cost that its
+-- Version 01 as 02 (document 02, W-207): a version 01 text reads as the version 02 plan in which every string has the moving cost that its
 -- header says. The version 02 text of what was read has that cost in every string frame, and reads to the same plan and releases.
 use Prim.Native.Nat.{ℕ, _-_, _≤_}
 use mathlib.Core.Path.{_≡_, refl, sym, ap, _∙_}
@@ -15,39 +15,39 @@ use Rattle.rules.specs.declared.Releases.{Releases}
 use Rattle.rules.specs.declared.Reading.{Reading}
 use Rattle.rules.specs.Plan.{stringsOf, noString}
 use Rattle.rules.specs.Release.{releasesOf, noRelease}
-use Rattle.rules.specs.Layout.{Frames, version01, version02}
-use Rattle.rules.specs.Text.{Line, linesOf, nIn, releaseOf, planIn, releasesIn, linesCheck, textCheck, lawfulReading}
+use Rattle.rules.specs.Layout.{Version, version01, version02}
+use Rattle.rules.specs.Text.{Line, linesOf, nIn, releaseOf, planIn, listIn, linesCheck, textCheck, lawfulReading}
 use Rattle.rules.specs.Text.{readingIn, readingOf}
 use Rattle.laws.proofs.Versions.{strings-are, reading-checked, lines-checked}
 use Rattle.laws.specs.Lawful.{LawfulRun}
 use Rattle.laws.proofs.Releases.{runCheck-lawful}
 use Rattle.writing.specs.Saved.{savedText}
-use Rattle.onetext.specs.OneText.{blankPlan, blankReleases, lawfulText}
-use Rattle.onetext.proofs.ReadBack.{reading-the-new}
+use Rattle.onetext.specs.OneText.{trimmedPlan, trimmedReleases, readAgain}
+use Rattle.onetext.proofs.ReadBack.{reading-02}
 use Rattle.onetext.proofs.ReadLawful.{text-read}
 
 filled-length {ℓ} : {A : Type ℓ} (k : ℕ) (z : A) (xs : List A) → length xs ≤ k → length (filled k z xs) ≡ k
 filled-length k z xs h = length-append xs _ ∙ omega (arith, length-replicate (k - length xs) z)
 
--- ---- What is read is blank behind what counts
+-- ---- What is read has nothing behind what counts
 
-module _ (v : Frames) where
-  plan-blank : (lines : List Line) → linesCheck v lines ≡ Lawful → blankPlan (planIn v lines) ≡ planIn v lines
+module _ (v : Version) where
+  plan-trimmed : (lines : List Line) → linesCheck v lines ≡ Lawful → trimmedPlan (planIn v lines) ≡ planIn v lines
   unfolding linesCheck planIn
-  plan-blank [] h = absurd (refused-not-lawful FrameWrong 1 h)
-  plan-blank (header ∷ lines) h = rw (strings-are v header lines h)
+  plan-trimmed [] h = absurd (refused-not-lawful FrameWrong 1 h)
+  plan-trimmed (header ∷ lines) h = rw (strings-are v header lines h)
 
-  releases-blank : (lines : List Line) → linesCheck v lines ≡ Lawful → blankReleases (releasesIn v lines) ≡ releasesIn v lines
-  unfolding linesCheck releasesIn
-  releases-blank [] h = absurd (refused-not-lawful FrameWrong 1 h)
-  releases-blank (header ∷ lines) h = rw (take-at (map (releaseOf v) (drop (nIn v header) lines)) _ _ refl)
+  releases-trimmed : (lines : List Line) → linesCheck v lines ≡ Lawful → trimmedReleases (listIn v lines) ≡ listIn v lines
+  unfolding linesCheck listIn
+  releases-trimmed [] h = absurd (refused-not-lawful FrameWrong 1 h)
+  releases-trimmed (header ∷ lines) h = rw (take-at (map (releaseOf v) (drop (nIn v header) lines)) _ _ refl)
 
   module _ (text : List ℕ) (h : readingIn v text .checked ≡ Lawful) where
-    pub read-blank : lawfulText (readingIn v text .plan) (readingIn v text .releases) ≡ readingIn v text
+    pub read-trimmed : readAgain (readingIn v text .plan) (readingIn v text .releases) ≡ readingIn v text
     unfolding readingIn lawfulReading
-    read-blank =
+    read-trimmed =
         let lines = lines-checked v text h in
-        rw (reading-checked v (textCheck v text) (linesOf text) h, plan-blank (linesOf text) lines, releases-blank (linesOf text) lines)
+        rw (reading-checked v (textCheck v text) (linesOf text) h, plan-trimmed (linesOf text) lines, releases-trimmed (linesOf text) lines)
 
     abbrev plan : Plan
     plan = readingIn v text .plan
@@ -60,20 +60,20 @@ module _ (v : Frames) where
 
     pub ten : length (plan .strings) ≡ 10
     ten =
-        let blank = ap (λ (r : Reading). length (r .plan .strings)) read-blank in
-        sym blank ∙ filled-length 10 noString (stringsOf plan) (omega (arith, length-take (plan .n) (plan .strings), run-is .plan .nMax))
+        let trimmed = ap (λ (r : Reading). length (r .plan .strings)) read-trimmed in
+        sym trimmed ∙ filled-length 10 noString (stringsOf plan) (omega (arith, length-take (plan .n) (plan .strings), run-is .plan .nMax))
 
     pub thousand : length (releases .list) ≡ 1000
     thousand =
-        let blank = ap (λ (r : Reading). length (r .releases .list)) read-blank in
-        sym blank
+        let trimmed = ap (λ (r : Reading). length (r .releases .list)) read-trimmed in
+        sym trimmed
         ∙ filled-length 1000 noRelease (releasesOf releases) (omega (arith, length-take (releases .count) (releases .list), run-is .few))
 
     -- what a text of any version says, its version 02 text says too
-    pub reads-as-new : readingOf (savedText version02 plan releases) ≡ readingIn v text
-    reads-as-new = reading-the-new plan releases ten thousand (text-read v text h) ∙ read-blank
+    pub reads-as-02 : readingOf (savedText version02 plan releases) ≡ readingIn v text
+    reads-as-02 = reading-02 plan releases ten thousand (text-read v text h) ∙ read-trimmed
 
--- an old file: the version 02 text reads to the same plan and releases
-pub old-reads-as-new : (text : List ℕ) → readingIn version01 text .checked ≡ Lawful
+-- of a version 01 text the version 02 text reads to the same plan and releases
+pub reads-01-as-02 : (text : List ℕ) → readingIn version01 text .checked ≡ Lawful
     → readingOf (savedText version02 (readingIn version01 text .plan) (readingIn version01 text .releases)) ≡ readingIn version01 text
-old-reads-as-new text h = reads-as-new version01 text h
+reads-01-as-02 text h = reads-as-02 version01 text h
