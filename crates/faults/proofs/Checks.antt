@@ -1,15 +1,7 @@
 -- Laws of checks: what a check that finds nothing says, and which check decides.
-use Prim.Native.Nat.{ℕ, _≤_}
-use mathlib.Core.Path.{_≡_, refl, ap}
-use mathlib.Core.Bool.{Bool, true, false}
-use native.Mathlib.Omega.{arith}
-use borrow.Author.Tests.{leb-true, le-leb}
-use lib.Dec.{leb}
-use Rattle.lists.proofs.Lists.{by-bool, and-left, and-right, and-both}
-use Rattle.faults.specs.declared.Fault.{Fault}
-use Rattle.faults.specs.declared.Checked.{Checked}
-use Rattle.faults.specs.declared.Checked.the-variants.{Lawful, Refused}
-use Rattle.faults.specs.Checks.{then, refuseIf, orRefused, inBounds}
+use Rattle.base.proofs.Prelude.{ℕ, _≤_, _≡_, refl, ap, Bool, true, false, arith, leb-true, le-leb, leb}
+use Rattle.base.proofs.Lists.{by-bool, and-left, and-right, and-both}
+use Rattle.faults.specs.{declared.Fault.Fault, declared.Checked.Checked, declared.Checked.the-variants.{Lawful, Refused}, Checks.{then, refuseIf, orRefused, inBounds}}
 
 -- a refusal is no Lawful
 pub refused-not-lawful : (f : Fault) (at : ℕ) → Refused f at ≡ Lawful → ⊥

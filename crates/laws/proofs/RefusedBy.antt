@@ -3,36 +3,11 @@
 --     Numbered k f at       the fault f has a number up to k
 --     Never n f at          it has another number than n
 --     Behind f at           it has a number up to 8, and if that is 3 it stands behind line 1
-use Prim.Native.Nat.{ℕ, zero, suc, _+_, _≤_, _<_}
-use mathlib.Core.Path.{_≡_, refl, ap, _∙_}
-use mathlib.Core.Logic.{_↔_}
-use mathlib.Core.Bool.{Bool, true, false, not, _&&_}
-use mathlib.Core.List.{List, [], _∷_}
-use native.Mathlib.Omega.{arith}
-use lib.Dec.{ltb, eqb}
-use lib.ListN.{length, drop}
-use Rattle.lists.proofs.Lists.{true-not-false}
-use Rattle.faults.specs.declared.Fault.{Fault}
-use Rattle.faults.specs.declared.Fault.the-variants.{TextTooLong, LineMalformed, FrameWrong, StringCount}
-use Rattle.faults.specs.declared.Fault.the-variants.{OutOfBounds, MultipleOver, ReleaseTooMany, ReleaseUnlawful}
-use Rattle.faults.specs.declared.Checked.{Checked}
-use Rattle.faults.specs.declared.Checked.the-variants.{Lawful, Refused}
-use Rattle.faults.specs.Checks.{faultNumber, then, refuseIf, inBounds}
-use Rattle.faults.proofs.Checks.{refused-not-lawful}
-use Rattle.faults.proofs.Refusing.{Refusals, refusals-then, refusals-if, refusals-map}
-use Rattle.rules.specs.declared.BatteryString.{BatteryString}
-use Rattle.rules.specs.declared.Plan.{Plan}
-use Rattle.rules.specs.declared.Release.{Release}
-use Rattle.rules.specs.declared.Releases.{Releases}
-use Rattle.rules.specs.Plan.{stringsOf, costLawful, stringLawful, multipleOf}
-use Rattle.rules.specs.Release.{releasesOf, releaseLawful, firstUnlawful}
-use Rattle.rules.specs.Refusal.{countCheck, runLengthCheck, headCheck, costCheck, stringCheck, multipleCheck, manyCheck}
-use Rattle.rules.specs.Refusal.{stringsCheck, planCheck, releasesCheck, runCheck}
-use Rattle.rules.specs.Layout.{Layout, Version, frameSize, kindIn, headerFrame, stringFrame, releaseFrame, Number}
-use Rattle.rules.specs.Text.{Line, linesOf, wellFormed, frameOf, fieldOf, nIn, runIn, aIn, stringOf, releaseOf, planIn, frameCheck, layoutCheck, versionCheck, headerCheck}
-use Rattle.rules.specs.Text.{stringLineCheck, stringLinesCheck, releaseLineCheck, releaseLinesCheck, bodyCheck, linesCheck, textCheck}
-use Rattle.rules.specs.Text.{lawfulReading, readingIn, versionOf, readingOf}
-use Rattle.rules.specs.Said.{Said, lawful, refused, checkedSays}
+use Rattle.base.proofs.Prelude.{ℕ, zero, suc, _+_, _≤_, _<_, _≡_, refl, ap, _∙_, _↔_, Bool, true, false, not, _&&_, List, [], _∷_, arith, ltb, eqb, length, drop}
+use Rattle.base.proofs.Lists.{true-not-false}
+use Rattle.faults.specs.{declared.Fault.Fault, declared.Fault.the-variants.{TextTooLong, LineMalformed, FrameWrong, StringCount, OutOfBounds, MultipleOver, ReleaseTooMany, ReleaseUnlawful}, declared.Checked.Checked, declared.Checked.the-variants.{Lawful, Refused}, Checks.{faultNumber, then, refuseIf, inBounds}}
+use Rattle.faults.proofs.{Checks.refused-not-lawful, Refusing.{Refusals, refusals-then, refusals-if, refusals-map}}
+use Rattle.rules.specs.{declared.BatteryString.BatteryString, declared.Plan.Plan, declared.Release.Release, declared.Releases.Releases, Plan.{stringsOf, costLawful, stringLawful, multipleOf}, Release.{releasesOf, releaseLawful, firstUnlawful}, Refusal.{countCheck, runLengthCheck, headCheck, costCheck, stringCheck, multipleCheck, manyCheck, stringsCheck, planCheck, releasesCheck, runCheck}, Layout.{Layout, Version, frameSize, kindIn, headerFrame, stringFrame, releaseFrame, Number}, Text.{Line, linesOf, wellFormed, frameOf, fieldOf, nIn, runIn, aIn, stringOf, releaseOf, planIn, frameCheck, layoutCheck, versionCheck, headerCheck, stringLineCheck, stringLinesCheck, releaseLineCheck, releaseLinesCheck, bodyCheck, linesCheck, textCheck, lawfulReading, readingIn, versionOf, readingOf}, Said.{Said, lawful, refused, checkedSays}}
 
 -- ---- What a chain says
 
@@ -48,7 +23,7 @@ lawful-no-refusal n k h =
     omega arith
 
 module _ (n k : ℕ) where
-  pub never-says : (c : Checked) → Refusals (Never n) c → checkedSays c ≡ refused n k → ⊥
+  never-says : (c : Checked) → Refusals (Never n) c → checkedSays c ≡ refused n k → ⊥
   never-says Lawful other h = lawful-no-refusal n k h
   never-says (Refused f at) other h =
       let number : faultNumber f ≡ n = cc in
@@ -206,7 +181,7 @@ module _ (v : Version) where
       refusals-then (Numbered 8) (headerCheck v header) body (header-numbers header)
       (refusals-map Behind (Numbered 8) (λ f at h. h .0) body (body-behind header (planIn v (header ∷ lines)) lines))
 
-  pub textCheck-numbers : (text : List ℕ) → Refusals (Numbered 8) (textCheck v text)
+  textCheck-numbers : (text : List ℕ) → Refusals (Numbered 8) (textCheck v text)
   unfolding textCheck
   textCheck-numbers text =
       refusals-then (Numbered 8) (refuseIf (ltb 65536 (length text)) TextTooLong 0) (linesCheck v (linesOf text))

@@ -1,29 +1,12 @@
 -- The versions of the plan file (document 02, W-207): which are read, and which moving costs they give. The strings of a lawful text are
 -- those that its string lines write, in every version.
-use Prim.Native.Nat.{ℕ, zero, suc, _≤_}
-use mathlib.Core.Path.{_≡_, refl, ap, _∙_}
-use mathlib.Core.Bool.{true, _&&_}
-use mathlib.Core.List.{List, [], _∷_, map}
-use native.Mathlib.Omega.{arith}
-use borrow.Author.Tests.{eq-eqb, ne-eqb, lt-ltb, le-ltb}
-use lib.Dec.{ltb, eqb}
-use lib.ListN.{length, take, length-map}
-use lib.Seq.{take-at}
+use Rattle.base.proofs.Prelude.{ℕ, zero, suc, _≤_, _≡_, refl, ap, _∙_, true, _&&_, List, [], _∷_, map, arith, eq-eqb, ne-eqb, lt-ltb, le-ltb, ltb, eqb, length, take, length-map, take-at}
 use Rattle.days.specs.Days.{days}
-use Rattle.faults.specs.declared.Fault.the-variants.{TextTooLong, FrameWrong}
-use Rattle.faults.specs.declared.Checked.{Checked}
-use Rattle.faults.specs.declared.Checked.the-variants.{Lawful, Refused}
-use Rattle.faults.specs.Checks.{refuseIf}
+use Rattle.faults.specs.{declared.Fault.the-variants.{TextTooLong, FrameWrong}, declared.Checked.Checked, declared.Checked.the-variants.{Lawful, Refused}, Checks.refuseIf}
 use Rattle.faults.proofs.Checks.{refused-not-lawful, then-first, then-second}
-use Rattle.lists.specs.Count.{All}
-use Rattle.lists.proofs.Lists.{by-bool}
-use Rattle.lists.proofs.Order.{all-of, all-mapped}
-use Rattle.rules.specs.declared.BatteryString.{BatteryString}
-use Rattle.rules.specs.Plan.{stringsOf}
-use Rattle.rules.specs.Layout.{Version, kindIn, versionIn, hasField, fieldAmong, fieldIn, version01, version02, heldTo, stringFrame, Common, Own}
-use Rattle.rules.specs.Text.{Line, linesOf, wellFormed, frameOf, fieldOf, nIn, aIn, costOf, stringOf, planIn, frameCheck, versionCheck}
-use Rattle.rules.specs.Text.{headerCheck, stringLineCheck, stringLinesCheck, bodyCheck, linesCheck, textCheck}
-use Rattle.rules.specs.Text.{lawfulReading, readingIn, versionOf, readingOf}
+use Rattle.base.specs.Count.{All}
+use Rattle.base.proofs.{Lists.by-bool, Order.{all-of, all-mapped}}
+use Rattle.rules.specs.{declared.BatteryString.BatteryString, Plan.stringsOf, Layout.{Version, kindIn, versionIn, hasField, fieldAmong, fieldIn, version01, version02, heldTo, stringFrame, Common, Own}, Text.{Line, linesOf, wellFormed, frameOf, fieldOf, nIn, aIn, costOf, stringOf, planIn, frameCheck, versionCheck, headerCheck, stringLineCheck, stringLinesCheck, bodyCheck, linesCheck, textCheck, lawfulReading, readingIn, versionOf, readingOf}}
 
 -- ---- The strings of a lawful text
 
@@ -52,12 +35,12 @@ module _ (v : Version) (header : Line) where
 
 module _ (v : Version) (header : Line) where
   -- where the header says a cost, it goes to every string, as in version 01
-  pub cost-for-all : (line : Line) → 1 ≤ v .header Common → stringOf v header line .a ≡ days (aIn v header)
+  cost-for-all : (line : Line) → 1 ≤ v .header Common → stringOf v header line .a ≡ days (aIn v header)
   unfolding stringOf costOf hasField
   cost-for-all line some = rw (lt-ltb 0 (v .header Common) some)
 
   -- else the string line says it, as in version 02
-  pub cost-of-its-own : (line : Line) → v .header Common ≤ 0 → stringOf v header line .a ≡ days (fieldOf (stringFrame v) Own line)
+  cost-of-its-own : (line : Line) → v .header Common ≤ 0 → stringOf v header line .a ≡ days (fieldOf (stringFrame v) Own line)
   unfolding stringOf costOf hasField
   cost-of-its-own line none = rw (le-ltb 0 (v .header Common) none)
 
@@ -74,11 +57,11 @@ module _ (v : Version) (header : Line) where
 -- ---- Which version a text is held to
 
 module _ (header : Line) (lines : List Line) where
-  pub held-to-02 : versionIn (frameOf header) ≡ 2 → versionOf (header ∷ lines) ≡ version02
+  held-to-02 : versionIn (frameOf header) ≡ 2 → versionOf (header ∷ lines) ≡ version02
   unfolding versionOf heldTo
   held-to-02 h = rw (eq-eqb (versionIn (frameOf header)) 2 h)
 
-  pub held-to-01 : (versionIn (frameOf header) ≡ 2 → ⊥) → versionOf (header ∷ lines) ≡ version01
+  held-to-01 : (versionIn (frameOf header) ≡ 2 → ⊥) → versionOf (header ∷ lines) ≡ version01
   unfolding versionOf heldTo
   held-to-01 h = rw (ne-eqb (versionIn (frameOf header)) 2 h)
 

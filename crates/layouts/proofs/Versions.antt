@@ -1,21 +1,11 @@
 -- The versions that the code knows: where their fields stand, and how long their lines are. A further version has its row among the
 -- definitions' `versions`, and one more `omega` in `all-sound`.
-use Prim.Native.Nat.{ℕ, _+_, _*_, _%_, _≤_, _<_}
-use mathlib.Core.Path.{_≡_, refl, ap, _∙_}
-use mathlib.Core.List.{List, [], _∷_}
-use native.Mathlib.Omega.{arith}
-use native.Mathlib.Nat.{mul-le-mul}
-use borrow.Author.Tests.{lt-ltb, le-ltb}
-use lib.Dec.{eqb}
-use Rattle.lists.specs.Count.{All}
-use Rattle.lists.proofs.Lists.{by-bool}
-use Rattle.rules.specs.Layout.{Version, lineSize, hasField, versions, laterVersions, version01, versionAmong, heldTo}
-use Rattle.rules.specs.Layout.{headerFrame, stringFrame, releaseFrame, Number, Count, Common, Run, X, T, C, D, Own, Place, Day, Need}
-use Rattle.rules.specs.Text.{Line, aIn, fieldOf, costOf}
-use Rattle.layouts.specs.declared.Field.{Field}
-use Rattle.layouts.specs.declared.Layout.{Layout}
+use Rattle.base.proofs.Prelude.{ℕ, _+_, _*_, _%_, _≤_, _<_, _≡_, refl, ap, _∙_, List, [], _∷_, arith, mul-le-mul, lt-ltb, le-ltb, eqb}
+use Rattle.base.specs.Count.{All}
+use Rattle.base.proofs.Lists.{by-bool}
+use Rattle.rules.specs.{Layout.{Version, lineSize, hasField, versions, laterVersions, version01, versionAmong, heldTo, headerFrame, stringFrame, releaseFrame, Number, Count, Common, Run, X, T, C, D, Own, Place, Day, Need}, Text.{Line, aIn, fieldOf, costOf}}
+use Rattle.layouts.specs.{declared.Field.Field, declared.Layout.Layout, inner.Versions.{fieldFor, layoutFor, codeOf, meantBy, Known, Sound}}
 use Rattle.layouts.specs.declared.Version as code
-use Rattle.layouts.specs.Versions.{fieldFor, layoutFor, codeOf, meantBy, Known, Sound}
 
 -- what holds of every version holds of the one that a number is held to
 pub by-version : (P : Version → Type 0) → All P versions → (k : ℕ) → P (heldTo k)

@@ -2,7 +2,7 @@
 // and a field starts where the one before it ends. In the text two digits write a byte, and a line ends by its 0a.
 ghost use mathlib.Core.Path.{_≡_};
 ghost use Rattle.rules.specs.Layout.{heldTo};
-ghost use Rattle.layouts.specs.Versions.{codeOf};
+ghost use Rattle.layouts.specs.inner.Versions.{codeOf};
 
 // A field: the bytes that stand ahead of it in its frame, and its own.
 pub struct Field {

@@ -1,23 +1,19 @@
 -- The decimal digits of a number, one at a time: the last is the remainder by 10, and those before it are the quotient's.
-use Prim.Native.Nat.{ℕ, suc, _+_, _-_, _/_, _%_, _^_, _≤_, _<_}
-use mathlib.Core.Path.{_≡_, sym, ap, _∙_}
-use mathlib.Core.List.{List, [], _∷_, _++_, map, map-append, append-assoc}
-use native.Mathlib.Omega.{arith}
-use lib.ListN.{length, take, drop, set, length-map}
-use lib.Seq.{set-split, drop-at, length-take-le}
-use Rattle.lists.specs.Digits.{digitsOf}
-use Rattle.lists.proofs.Digits.{digits-one, digits-last, digits-short}
+use Rattle.base.proofs.Prelude.{ℕ, suc, _+_, _-_, _/_, _%_, _^_, _≤_, _<_, _≡_, sym, ap, _∙_, List, [], _∷_, _++_, map, map-append, append-assoc, arith, length, take, drop, set, length-map, drop-at, length-take-le}
+use lib.Seq.{set-split}
+use Rattle.base.specs.Digits.{digitsOf}
+use Rattle.base.proofs.Digits.{digits-one, digits-last, digits-short}
 use Rattle.rules.specs.Lines.{decimal}
 
 -- the character of a digit
 abbrev char : ℕ → ℕ
 char d = 0x30 + d
 
-pub decimal-digit : (n : ℕ) → n < 10 → decimal n ≡ (0x30 + n) ∷ []
+decimal-digit : (n : ℕ) → n < 10 → decimal n ≡ (0x30 + n) ∷ []
 unfolding decimal
 decimal-digit n h = ap (map char) (digits-one 10 (omega arith) n h)
 
-pub decimal-last : (n : ℕ) → 10 ≤ n → decimal n ≡ decimal (n / 10) ++ ((0x30 + n % 10) ∷ [])
+decimal-last : (n : ℕ) → 10 ≤ n → decimal n ≡ decimal (n / 10) ++ ((0x30 + n % 10) ∷ [])
 unfolding decimal
 decimal-last n h = ap (map char) (digits-last 10 (omega arith) n h) ∙ map-append char (digitsOf 10 (n / 10)) (n % 10 ∷ [])
 
@@ -35,7 +31,7 @@ decimal-64 n h = decimal-short 19 n (omega arith)
 -- ---- Digits stored from the end
 
 module _ (digits : List ℕ) (at : ℕ) (first : 1 ≤ at) (within : at ≤ length digits) where
-  pub stored-digit : (d : ℕ) → drop (at - 1) (set digits (at - 1) d) ≡ d ∷ drop at digits
+  stored-digit : (d : ℕ) → drop (at - 1) (set digits (at - 1) d) ≡ d ∷ drop at digits
   stored-digit d =
       let next : suc (at - 1) ≡ at = omega arith in
       rw (set-split digits (at - 1) d (omega arith), next)

@@ -1,27 +1,13 @@
 -- Templates, a byte at a time: what one byte stands for and how long that is, and what is left of the template and of the numbers.
-use Prim.Native.Nat.{ℕ, zero, suc, _+_, _-_, _*_, _^_, _≤_, _<_}
-use mathlib.Core.Path.{_≡_, refl, sym, ap, _∙_}
-use mathlib.Core.List.{List, [], _∷_, _++_, append-assoc, append-nil}
-use native.Mathlib.Omega.{arith}
-use native.Mathlib.Numerals.{add-one}
-use lib.Dec.{eqb}
-use lib.ListN.{length, getD, take, drop, length-append, length-drop}
-use lib.Seq.{take-all, drop-length, drop-cons, drop-drop}
-use Rattle.lists.proofs.Lists.{All, by-bool}
+use Rattle.base.proofs.Prelude.{ℕ, zero, suc, _+_, _-_, _*_, _^_, _≤_, _<_, _≡_, refl, sym, ap, _∙_, List, [], _∷_, _++_, append-assoc, append-nil, arith, add-one, eqb, length, getD, take, drop, length-append, length-drop, take-all, drop-cons, drop-drop}
+use lib.Seq.{drop-length}
+use Rattle.base.proofs.Lists.{All, by-bool}
 use Rattle.rules.specs.Lines.{bytesOf, decimal, mark}
-use Rattle.calendar.specs.declared.Weekday.{Weekday}
-use Rattle.calendar.specs.declared.Weekday.the-variants.{Saturday, Sunday, Monday, Tuesday, Wednesday, Thursday, Friday}
-use Rattle.calendar.specs.declared.WhichDate.{WhichDate}
-use Rattle.calendar.specs.declared.WhichDate.the-variants as which-date
-use Rattle.calendar.specs.Weekdays.{week, weekdayOf}
-use Rattle.calendar.specs.Refusals.{dateAnswer}
+use Rattle.calendar.specs.{declared.Weekday.Weekday, declared.Weekday.the-variants.{Saturday, Sunday, Monday, Tuesday, Wednesday, Thursday, Friday}, declared.WhichDate.WhichDate, Weekdays.{week, weekdayOf}, Refusals.dateAnswer}
 use Rattle.calendar.proofs.RoundTrip.{dateText-ten}
-use Rattle.lines.specs.declared.Page.{Page}
-use Rattle.lines.specs.Pages.{pageOf, textOf, Written}
-use Rattle.lines.specs.Dates.{weekdayName}
-use Rattle.lines.specs.Templates.{dateMark, weekdayMark, dateFor, marked, takes, filledIn}
-use Rattle.lines.proofs.Digits.{decimal-32}
-use Rattle.lines.proofs.Growing.{text-is, own, len-more}
+use Rattle.lines.specs.{declared.Page.Page, Pages.{pageOf, textOf, Written}, Dates.weekdayName, Templates.{dateMark, weekdayMark, dateFor, marked, takes, filledIn}}
+use Rattle.lines.proofs.{Digits.decimal-32, Growing.{text-is, own, len-more}}
+use Rattle.calendar.specs.declared.WhichDate.the-variants as which-date
 
 -- the names of the weekdays stand in their order, three letters each
 pub name-at : (k : ℕ) → k < 7 → take 3 (drop (3 * k) (bytesOf "SatSunMonTueWedThuFri")) ≡ weekdayName (getD week k Saturday)
@@ -67,12 +53,12 @@ takes-most b =
 
 -- ---- What is left
 
-pub filledIn-used : (bs : List ℕ) → filledIn bs [] ≡ bs
+filledIn-used : (bs : List ℕ) → filledIn bs [] ≡ bs
 unfolding filledIn
 filledIn-used [] = refl
 filledIn-used (b ∷ bs) = refl
 
-pub filledIn-next : (bs ns : List ℕ) (at next : ℕ) → at < length bs → next < length ns
+filledIn-next : (bs ns : List ℕ) (at next : ℕ) → at < length bs → next < length ns
     → filledIn (drop at bs) (drop next ns)
     ≡ marked (getD bs at 0) (getD ns next 0) ++ filledIn (drop (at + 1) bs) (drop (next + takes (getD bs at 0)) ns)
 unfolding filledIn
@@ -89,7 +75,7 @@ longer text bs ns n (suc zero) most short one both = omega (arith, length-append
 longer text bs ns n (suc (suc k)) most short one both = absurd (omega arith)
 
 -- a line of u32s is shorter than what `fill_in` asks room for
-pub filledIn-32 : (bs ns : List ℕ) → All (λ n. n < 2 ^ 32) ns → length (filledIn bs ns) ≤ length bs + 10 * length ns
+filledIn-32 : (bs ns : List ℕ) → All (λ n. n < 2 ^ 32) ns → length (filledIn bs ns) ≤ length bs + 10 * length ns
 unfolding filledIn
 filledIn-32 [] ns h = omega arith
 filledIn-32 (b ∷ bs) [] h = omega arith

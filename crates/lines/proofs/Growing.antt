@@ -1,15 +1,8 @@
 -- Pages that grow: a page holds exactly one text, and what is appended stands behind it.
-use Prim.Native.Nat.{ℕ, _+_, _-_, _≤_, _<_}
-use mathlib.Core.Path.{_≡_, sym, ap, _∙_}
-use mathlib.Core.List.{List, [], _∷_, _++_, append-assoc}
-use native.Mathlib.Omega.{arith}
-use native.Mathlib.Numerals.{add-one}
-use lib.ListN.{length, getD, take, set, replicate, length-append}
-use lib.Seq.{take-suc, take-append-seam, length-take-le}
-use Rattle.lists.specs.Count.{filled}
-use Rattle.lines.specs.declared.Page.{Page}
-use Rattle.lines.specs.Pages.{pageOf, textOf, Written}
-use Rattle.lists.proofs.Filling.{filled-set}
+use Rattle.base.proofs.Prelude.{ℕ, _+_, _-_, _≤_, _<_, _≡_, sym, ap, _∙_, List, [], _∷_, _++_, append-assoc, arith, add-one, length, getD, take, set, replicate, length-append, take-suc, take-append-seam, length-take-le}
+use Rattle.base.specs.Count.{filled}
+use Rattle.lines.specs.{declared.Page.Page, Pages.{pageOf, textOf, Written}}
+use Rattle.base.proofs.Filling.{filled-set}
 
 pub textOf-pageOf : (text : List ℕ) → textOf (pageOf text) ≡ text
 unfolding textOf pageOf

@@ -1,24 +1,16 @@
 -- A plan has one text within version 02, of what `read` and `write` answered: reading what was written gives the plan, and writing what
 -- was read gives the same bytes.
 -- The arguments of `write` are the plan, the releases, the page and the place.
-use Prim.Native.Nat.{ℕ}
-use mathlib.Core.Path.{_≡_, sym, ap, _∙_}
-use lib.ListN.{length, take, drop}
-use contract.Lifetimes.{Lfts}
-use Rattle.lists.specs.Count.{putAt}
+use Rattle.base.proofs.Prelude.{ℕ, _≡_, sym, ap, _∙_, length, take, drop}
+use Rattle.base.specs.Count.{putAt}
 use Rattle.faults.specs.declared.Checked.the-variants.{Lawful}
-use Rattle.rules.specs.declared.Plan.{Plan}
-use Rattle.rules.specs.declared.Releases.{Releases}
-use Rattle.rules.specs.declared.Reading.{Reading}
-use Rattle.rules.specs.Layout.{version02, heldTo}
-use Rattle.rules.specs.Text.{linesOf, versionOf, readingIn, readingOf}
-use Rattle.writing.specs.declared.Saved.the-variants.{Text}
-use Rattle.writing.specs.Saved.{savedAnswer, savedPage}
-use Rattle.onetext.specs.OneText.{readAgain}
-use Rattle.onetext.proofs.WriteBack.{one-text}
-use Rattle.onetext.proofs.InPage.{reading-the-page, saving-what-was-read}
+use Rattle.rules.specs.{declared.Plan.Plan, declared.Releases.Releases, declared.Reading.Reading, Layout.{version02, heldTo}, Text.{linesOf, versionOf, readingIn, readingOf}}
+use Rattle.writing.specs.{declared.Saved.the-variants.Text, Saved.{savedAnswer, savedPage}}
+use Rattle.roundtrip.specs.OneText.{readAgain}
+use Rattle.roundtrip.proofs.{WriteBack.one-text, InPage.{reading-the-page, saving-what-was-read}}
 use Rattle.reading.proofs.read.Reads as read
 use Rattle.writing.proofs.write.Reads as write
+use contract.Lifetimes.{Lfts}
 
 module _ (κs κt : Lfts 1) (lent : _) (after : _) (r : Reading) (was-read : read.Learnt κs lent r after) where
   -- the text that was read stands in a page where it was written; places after the n-th and releases after the count come back blank.

@@ -1,28 +1,11 @@
 -- A reader of one version gives 3 at line 1 exactly for a text whose first line is no header of that version, and so exactly for the lawful
 -- files of the other version.
-use Prim.Native.Nat.{ℕ, _≤_}
-use mathlib.Core.Path.{_≡_, refl, sym, ap, _∙_}
-use mathlib.Core.Logic.{_↔_}
-use mathlib.Core.Bool.{Bool, true, false, not, _&&_}
-use mathlib.Core.List.{List, [], _∷_}
-use native.Mathlib.Omega.{arith}
-use borrow.Author.Tests.{ltb-false, le-ltb, eqb-true, ne-eqb}
-use lib.Dec.{ltb, eqb}
-use lib.ListN.{length}
-use Rattle.lists.proofs.Lists.{true-not-false, and-right}
-use Rattle.faults.specs.declared.Fault.the-variants.{TextTooLong, LineMalformed, FrameWrong}
-use Rattle.faults.specs.declared.Checked.{Checked}
-use Rattle.faults.specs.declared.Checked.the-variants.{Lawful, Refused}
-use Rattle.faults.specs.Checks.{faultNumber, then, refuseIf}
-use Rattle.faults.proofs.Checks.{refused-not-lawful, then-first, then-second, refuseIf-not}
-use Rattle.faults.proofs.Refusing.{Refusals, refusals-then, refusals-if}
-use Rattle.rules.specs.Layout.{Version, frameSize, kindIn, fieldAmong, fieldIn, headerFrame, version01, version02, Number}
-use Rattle.rules.specs.Refusal.{headCheck, costCheck}
-use Rattle.rules.specs.Text.{Line, linesOf, wellFormed, frameOf, fieldOf, nIn, runIn, aIn, planIn, frameCheck, layoutCheck, versionCheck}
-use Rattle.rules.specs.Text.{headerCheck, bodyCheck, linesCheck, textCheck, readingIn}
-use Rattle.rules.specs.Said.{refused, checkedSays}
-use Rattle.laws.proofs.Versions.{lines-checked}
-use Rattle.laws.proofs.RefusedBy.{Never, Behind, lawful-no-refusal, second-says, body-behind, numbers-behind, reading-is-checked}
+use Rattle.base.proofs.Prelude.{ℕ, _≤_, _≡_, refl, sym, ap, _∙_, _↔_, Bool, true, false, not, _&&_, List, [], _∷_, arith, ltb-false, le-ltb, eqb-true, ne-eqb, ltb, eqb, length}
+use Rattle.base.proofs.Lists.{true-not-false, and-right}
+use Rattle.faults.specs.{declared.Fault.the-variants.{TextTooLong, LineMalformed, FrameWrong}, declared.Checked.Checked, declared.Checked.the-variants.{Lawful, Refused}, Checks.{faultNumber, then, refuseIf}}
+use Rattle.faults.proofs.{Checks.{refused-not-lawful, then-first, then-second, refuseIf-not}, Refusing.{Refusals, refusals-then, refusals-if}}
+use Rattle.rules.specs.{Layout.{Version, frameSize, kindIn, fieldAmong, fieldIn, headerFrame, version01, version02, Number}, Refusal.{headCheck, costCheck}, Text.{Line, linesOf, wellFormed, frameOf, fieldOf, nIn, runIn, aIn, planIn, frameCheck, layoutCheck, versionCheck, headerCheck, bodyCheck, linesCheck, textCheck, readingIn}, Said.{refused, checkedSays}}
+use Rattle.laws.proofs.{Versions.lines-checked, RefusedBy.{Never, Behind, lawful-no-refusal, second-says, body-behind, numbers-behind, reading-is-checked}}
 use Rattle.promise.specs.OtherVersion.{headed, NoHeader}
 
 not-three : (c : Checked) → Refusals Behind c → checkedSays c ≡ refused 3 1 → ⊥

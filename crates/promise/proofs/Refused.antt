@@ -1,39 +1,21 @@
 -- Which number is given exactly when, of what the code answered: 9 and 12 of what writes a text, 3 at line 1 of what reads one version; and
 -- a page keeps every byte where the text is refused.
 --     κs the lifetimes of what is lent; a the arguments; e what holds at the return; r the answer
-use Prim.Native.Nat.{ℕ, _≤_}
-use mathlib.Core.Path.{_≡_, refl, sym, ap, _∙_}
-use mathlib.Core.Logic.{_↔_}
-use mathlib.Core.Bool.{Bool, true, _&&_}
-use mathlib.Core.List.{List}
-use native.Mathlib.Omega.{arith}
-use lib.Dec.{leb}
-use lib.ListN.{length}
-use contract.Lifetimes.{Lfts}
+use Rattle.base.proofs.Prelude.{ℕ, _≤_, _≡_, refl, sym, ap, _∙_, _↔_, Bool, true, _&&_, List, arith, leb, length}
 use Rattle.days.specs.declared.Length.{Length}
-use Rattle.faults.specs.declared.Fault.the-variants.{NoRoom, CostsDiffer}
-use Rattle.faults.specs.declared.Checked.{Checked}
-use Rattle.faults.specs.declared.Checked.the-variants.{Lawful, Refused}
-use Rattle.faults.specs.Checks.{faultNumber, then, refuseIf, orRefused}
+use Rattle.faults.specs.{declared.Fault.the-variants.{NoRoom, CostsDiffer}, declared.Checked.Checked, declared.Checked.the-variants.{Lawful, Refused}, Checks.{faultNumber, then, refuseIf, orRefused}}
 use Rattle.faults.proofs.Refusing.{Refusals, refusals-then, refusals-if}
-use Rattle.rules.specs.declared.Reading.{Reading}
-use Rattle.rules.specs.Layout.{hasField, headerFrame, version01, version02, Common}
-use Rattle.rules.specs.Refusal.{runCheck}
-use Rattle.rules.specs.Text.{linesOf, readingIn, readingOf}
-use Rattle.rules.specs.Said.{refused, checkedSays, refused-with}
-use Rattle.laws.proofs.RefusedBy.{Numbered, Never, never-above, lawful-no-refusal, if-says, first-says, second-says}
-use Rattle.laws.proofs.RefusedBy.{runCheck-numbers, reading-numbers}
-use Rattle.writing.specs.declared.Saved.{Saved}
-use Rattle.writing.specs.declared.Saved.the-variants as saved
-use Rattle.writing.specs.Saved.{noRoom, onPage, savedText, writableCheck, saveCheck, savedAnswer, savedPage, firstOther, alikeCheck}
-use Rattle.writing.specs.Said.{savedSays}
+use Rattle.rules.specs.{declared.Reading.Reading, Layout.{hasField, headerFrame, version01, version02, Common}, Refusal.runCheck, Text.{linesOf, readingIn, readingOf}, Said.{refused, checkedSays, refused-with}, Plan.withRun}
+use Rattle.laws.proofs.RefusedBy.{Numbered, Never, never-above, lawful-no-refusal, if-says, first-says, second-says, runCheck-numbers, reading-numbers}
+use Rattle.writing.specs.{declared.Saved.Saved, Saved.{noRoom, onPage, savedText, writableCheck, saveCheck, savedAnswer, savedPage, firstOther, alikeCheck}, Said.savedSays}
 use Rattle.turning.specs.Turned.{lineOf, turnedText, turnCheck, turnedAnswer, turnedPage}
-use Rattle.tries.specs.declared.Missing.the-variants as missing
 use Rattle.tries.specs.Tries.{missingAnswer}
-use Rattle.rules.specs.Plan.{withRun}
-use Rattle.missed.specs.declared.Missed.{Missed}
-use Rattle.missed.specs.Said.{missedSays}
+use Rattle.missed.specs.{declared.Missed.Missed, Said.missedSays}
 use Rattle.missed.proofs.OfText.{missed-nine}
+use Rattle.promise.specs.OtherVersion.{NoHeader}
+use Rattle.promise.proofs.OtherVersion.{three-exactly}
+use Rattle.writing.specs.declared.Saved.the-variants as saved
+use Rattle.tries.specs.declared.Missing.the-variants as missing
 use Rattle.reading.proofs.read_01.Reads as read-01
 use Rattle.reading.proofs.read_02.Reads as read-02
 use Rattle.writing.proofs.write.Reads as write
@@ -41,8 +23,7 @@ use Rattle.writing.proofs.write_01.Reads as write-01
 use Rattle.turning.proofs.to_02.Reads as to-02
 use Rattle.turning.proofs.to_01.Reads as to-01
 use Rattle.missed.proofs.miss.Reads as miss
-use Rattle.promise.specs.OtherVersion.{NoHeader}
-use Rattle.promise.proofs.OtherVersion.{three-exactly}
+use contract.Lifetimes.{Lfts}
 
 -- ---- A text put into a page after its checks
 

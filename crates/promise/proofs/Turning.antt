@@ -1,28 +1,16 @@
 -- Version 01 to 02 and back (document 02, W-208), of what `to_02` and `to_01` answered. Their arguments are the text, the page and the
 -- place; the turned text is what stands in the page from the place on.
-use Prim.Native.Nat.{ℕ}
-use mathlib.Core.Path.{_≡_, sym, ap, _∙_}
-use mathlib.Core.Logic.{_↔_}
-use mathlib.Core.Bool.{false}
-use lib.ListN.{length, take, drop}
-use contract.Lifetimes.{Lfts}
-use Rattle.faults.specs.declared.Fault.the-variants.{CostsDiffer}
-use Rattle.faults.specs.declared.Checked.the-variants.{Lawful}
-use Rattle.rules.specs.Layout.{version01, version02}
-use Rattle.rules.specs.Text.{readingIn}
-use Rattle.rules.specs.declared.Answer.{Answer}
-use Rattle.rules.specs.Answer.{answerOf}
-use Rattle.writing.specs.declared.Saved.{Saved}
-use Rattle.writing.specs.declared.Saved.the-variants.{Refused, Text}
-use Rattle.writing.specs.Saved.{noRoom, firstOther}
-use Rattle.onetext.specs.OneText.{OneCost}
+use Rattle.base.proofs.Prelude.{ℕ, _≡_, sym, ap, _∙_, _↔_, false, length, take, drop}
+use Rattle.faults.specs.{declared.Fault.the-variants.CostsDiffer, declared.Checked.the-variants.Lawful}
+use Rattle.rules.specs.{Layout.{version01, version02}, Text.readingIn, declared.Answer.Answer, Answer.answerOf}
+use Rattle.writing.specs.{declared.Saved.Saved, declared.Saved.the-variants.{Refused, Text}, Saved.{noRoom, firstOther}}
+use Rattle.roundtrip.specs.OneText.{OneCost}
 use Rattle.turning.specs.Turned.{lineOf, turnedText, turnedAnswer}
-use Rattle.turning.proofs.InPage.{turned-read, turned-alike, turned-stands}
-use Rattle.turning.proofs.ThereAndBack.{reads-02, one-cost-01, back-to-01, same-turned-02, back-to-02, same-turned-01, alike-one}
-use Rattle.turning.proofs.ThereAndBack.{to-01-exactly, to-01-differs}
+use Rattle.turning.proofs.{InPage.{turned-read, turned-alike, turned-stands}, ThereAndBack.{reads-02, one-cost-01, back-to-01, same-turned-02, back-to-02, same-turned-01, alike-one, to-01-exactly, to-01-differs}}
 use Rattle.answers.proofs.answer.Reads as answer
 use Rattle.turning.proofs.to_02.Reads as to-02
 use Rattle.turning.proofs.to_01.Reads as to-01
+use contract.Lifetimes.{Lfts}
 
 -- ---- What stands in the page
 

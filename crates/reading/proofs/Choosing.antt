@@ -1,23 +1,12 @@
 -- Which version a text is held to: the one that its first line names in its digits 3 and 4. A first line that is malformed is refused
 -- alike in all versions.
-use Prim.Native.Nat.{ℕ, _/_, _≤_, _<_}
-use mathlib.Core.Path.{_≡_, refl, sym, ap, _∙_}
-use mathlib.Core.Bool.{true, false}
-use mathlib.Core.List.{List, [], _∷_}
-use native.Mathlib.Omega.{arith}
-use native.Mathlib.Decide.{decLe}
-use native.Mathlib.Nat.{not-suc-le-zero, le-of-suc-le-suc}
-use lib.ListN.{length}
-use Rattle.faults.specs.declared.Fault.the-variants.{LineMalformed}
-use Rattle.faults.specs.declared.Checked.the-variants.{Refused}
+use Rattle.base.proofs.Prelude.{ℕ, _/_, _≤_, _<_, _≡_, refl, sym, ap, _∙_, true, false, List, [], _∷_, arith, decLe, not-suc-le-zero, le-of-suc-le-suc, length}
+use Rattle.faults.specs.{declared.Fault.the-variants.LineMalformed, declared.Checked.the-variants.Refused}
 use Rattle.faults.proofs.Checks.{then-refused}
-use Rattle.lists.proofs.Lists.{by-bool}
-use Rattle.rules.specs.Layout.{Version, frameSize, numberFrom, versionIn, version01, heldTo, headerFrame}
-use Rattle.rules.specs.Text.{linesOf, wellFormed, frameOf, headerCheck, readingIn, versionOf, readingOf}
-use Rattle.reading.specs.Positions.{digitsAhead, lineAt, Frame, numberIn}
-use Rattle.reading.proofs.Lines.{formed-is}
-use Rattle.reading.proofs.Framing.{check-malformed, formed-frame, frame-next, frame-length, frame-number}
-use Rattle.reading.proofs.Whole.{read-long, read-empty, read-refused}
+use Rattle.base.proofs.Lists.{by-bool}
+use Rattle.rules.specs.{Layout.{Version, frameSize, numberFrom, versionIn, version01, heldTo, headerFrame}, Text.{linesOf, wellFormed, frameOf, headerCheck, readingIn, versionOf, readingOf}}
+use Rattle.reading.specs.inner.Positions.{digitsAhead, lineAt, Frame, numberIn}
+use Rattle.reading.proofs.{Lines.formed-is, Framing.{check-malformed, formed-frame, frame-next, frame-length, frame-number}, Whole.{read-long, read-empty, read-refused}}
 
 -- a frame of one byte names no version
 no-version : (frame : List ℕ) → length frame ≤ 1 → versionIn frame ≡ 0

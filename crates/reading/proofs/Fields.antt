@@ -1,20 +1,11 @@
 -- The fields of a frame, by positions of the text.
-use Prim.Native.Nat.{ℕ, zero, suc, _+_, _*_, _^_, _≤_, _<_}
-use mathlib.Core.Path.{_≡_, refl, ap, _∙_}
-use mathlib.Core.List.{List, [], _∷_, _++_}
-use native.Mathlib.Omega.{arith}
-use native.Mathlib.Numerals.{add-one}
-use native.Mathlib.Nat.{not-suc-le-zero, pow-suc, pow-le-pow-right}
-use lib.Dec.{eqb}
-use lib.ListN.{length, take, drop, getD, length-drop}
-use lib.Seq.{drop-drop, getD-drop, take-suc}
-use Rattle.lists.proofs.Lists.{by-bool}
-use Rattle.rules.specs.Layout.{Layout, sizeOf, frameSize, numberFrom, numberOf, fieldAmong, fieldIn}
-use Rattle.rules.specs.Text.{hexBytes, frameOf, fieldOf}
-use Rattle.layouts.specs.Versions.{offsetAmong, sizeAmong, offsetIn, sizeIn}
-use Rattle.reading.specs.Positions.{digitsAhead, lineAt, Frame, byteIn, numberIn}
-use Rattle.reading.proofs.Hex.{ahead-inside, ahead-digit}
-use Rattle.reading.proofs.Framing.{twice-more, frame-number}
+use Rattle.base.proofs.Prelude.{ℕ, zero, suc, _+_, _*_, _^_, _≤_, _<_, _≡_, refl, ap, _∙_, List, [], _∷_, _++_, arith, add-one, not-suc-le-zero, pow-suc, eqb, length, take, drop, getD, length-drop, drop-drop, getD-drop, take-suc}
+use native.Mathlib.Nat.{pow-le-pow-right}
+use Rattle.base.proofs.Lists.{by-bool}
+use Rattle.rules.specs.{Layout.{Layout, sizeOf, frameSize, numberFrom, numberOf, fieldAmong, fieldIn}, Text.{hexBytes, frameOf, fieldOf}}
+use Rattle.layouts.specs.inner.Versions.{offsetAmong, sizeAmong, offsetIn, sizeIn}
+use Rattle.reading.specs.inner.Positions.{digitsAhead, lineAt, Frame, byteIn, numberIn}
+use Rattle.reading.proofs.{Hex.{ahead-inside, ahead-digit}, Framing.{twice-more, frame-number}}
 
 -- ---- Where a field stands
 

@@ -1,22 +1,10 @@
 -- A line as a frame: what stands from a position on decides `frameCheck`, and a frame that is not refused stands where it should.
-use Prim.Native.Nat.{ℕ, zero, suc, _+_, _*_, _/_, _≤_}
-use mathlib.Core.Path.{_≡_, refl, sym, ap, _∙_}
-use mathlib.Core.Bool.{false, not, _&&_}
-use mathlib.Core.List.{List, [], _∷_}
-use native.Mathlib.Omega.{arith}
-use borrow.Author.Tests.{eq-eqb, ne-eqb, eqb-true, not-false}
-use lib.Dec.{eqb}
-use lib.ListN.{length, take, drop, length-drop}
-use lib.Seq.{length-take-le}
-use Rattle.faults.specs.declared.Fault.the-variants.{LineMalformed, FrameWrong}
-use Rattle.faults.specs.declared.Checked.the-variants.{Lawful, Refused}
-use Rattle.faults.specs.Checks.{refuseIf}
+use Rattle.base.proofs.Prelude.{ℕ, zero, suc, _+_, _*_, _/_, _≤_, _≡_, refl, sym, ap, _∙_, false, not, _&&_, List, [], _∷_, arith, eq-eqb, ne-eqb, eqb-true, not-false, eqb, length, take, drop, length-drop, length-take-le}
+use Rattle.faults.specs.{declared.Fault.the-variants.{LineMalformed, FrameWrong}, declared.Checked.the-variants.{Lawful, Refused}, Checks.refuseIf}
 use Rattle.faults.proofs.Checks.{then-first, then-second, refuseIf-not}
-use Rattle.lists.proofs.Lists.{and-left}
-use Rattle.lists.proofs.Parts.{take-drop-take}
-use Rattle.rules.specs.Layout.{lineLength, numberOf, kindIn}
-use Rattle.rules.specs.Text.{wellFormed, hexBytes, frameOf, frameCheck}
-use Rattle.reading.specs.Positions.{digitsAhead, linesFrom, lineAt, Frame, numberIn}
+use Rattle.base.proofs.{Lists.and-left, Parts.take-drop-take}
+use Rattle.rules.specs.{Layout.{lineLength, numberOf, kindIn}, Text.{wellFormed, hexBytes, frameOf, frameCheck}}
+use Rattle.reading.specs.inner.Positions.{digitsAhead, linesFrom, lineAt, Frame, numberIn}
 use Rattle.reading.proofs.Lines.{Formed, lines-next, formed-yes, formed-is}
 
 -- ---- Bytes of digits

@@ -1,30 +1,14 @@
 -- The release lines: frames first, then the releases that they write. Together these decide as line after line does.
 --     decided k j u end     the answer, where u is the place of the first unlawful release (0: none), the line of the release j has
 --                           number k, and `end` is what ended the frames
-use Prim.Native.Nat.{ℕ, zero, suc, _+_, _-_, _≤_, _<_}
-use mathlib.Core.Path.{_≡_, refl, sym, ap, _∙_}
-use mathlib.Core.Bool.{cond}
-use mathlib.Core.List.{List, [], _∷_, map, tail-eq-of-cons-eq}
-use native.Mathlib.Omega.{arith}
-use native.Mathlib.Nat.{le-refl}
-use borrow.Author.Tests.{lt-ltb, le-ltb}
-use lib.Dec.{ltb}
-use lib.ListN.{length, take}
-use Rattle.faults.specs.declared.Fault.{Fault}
-use Rattle.faults.specs.declared.Fault.the-variants.{ReleaseTooMany, ReleaseUnlawful}
-use Rattle.faults.specs.declared.Checked.{Checked}
-use Rattle.faults.specs.declared.Checked.the-variants.{Lawful, Refused}
+use Rattle.base.proofs.Prelude.{ℕ, zero, suc, _+_, _-_, _≤_, _<_, _≡_, refl, sym, ap, _∙_, cond, List, [], _∷_, map, arith, le-refl, lt-ltb, le-ltb, ltb, length, take}
+use mathlib.Core.List.{tail-eq-of-cons-eq}
+use Rattle.faults.specs.{declared.Fault.Fault, declared.Fault.the-variants.{ReleaseTooMany, ReleaseUnlawful}, declared.Checked.Checked, declared.Checked.the-variants.{Lawful, Refused}}
 use Rattle.faults.proofs.Checks.{by-checked, refused-not-lawful}
-use Rattle.lists.proofs.Lists.{by-bool}
-use Rattle.rules.specs.declared.Plan.{Plan}
-use Rattle.rules.specs.declared.Release.{Release}
-use Rattle.rules.specs.Release.{releaseLawful, unlawfulFrom}
-use Rattle.rules.specs.Layout.{Layout, Version, frameSize, lineSize, releaseFrame}
-use Rattle.rules.specs.Text.{Line, releaseOf, releaseLineCheck, releaseLinesCheck, layoutCheck}
-use Rattle.reading.specs.Positions.{headLine, linesFrom, lineAt, Stand, oneMore, framesIn}
-use Rattle.reading.proofs.Lines.{line-here, lines-none}
-use Rattle.reading.proofs.Framing.{frameCheck-frame, frame-next}
-use Rattle.reading.proofs.Standing.{stand-none, stand-more}
+use Rattle.base.proofs.Lists.{by-bool}
+use Rattle.rules.specs.{declared.Plan.Plan, declared.Release.Release, Release.{releaseLawful, unlawfulFrom}, Layout.{Layout, Version, frameSize, lineSize, releaseFrame}, Text.{Line, releaseOf, releaseLineCheck, releaseLinesCheck, layoutCheck}}
+use Rattle.reading.specs.inner.Positions.{headLine, linesFrom, lineAt, Stand, oneMore, framesIn}
+use Rattle.reading.proofs.{Lines.{line-here, lines-none}, Framing.{frameCheck-frame, frame-next}, Standing.{stand-none, stand-more}}
 
 -- ---- The frames, line after line
 

@@ -1,23 +1,12 @@
 -- What a line says, by positions of the text: the number that stands where the code's field is, is what the definition's field says.
-use Prim.Native.Nat.{ℕ, _+_, _*_, _≤_}
-use mathlib.Core.Path.{_≡_, sym}
-use mathlib.Core.List.{List}
-use native.Mathlib.Omega.{arith}
-use borrow.Author.Tests.{eq-eqb, ne-eqb}
-use lib.ListN.{drop}
-use Rattle.days.specs.declared.Length.{Length}
-use Rattle.days.specs.Days.{days}
-use Rattle.faults.specs.declared.Fault.the-variants.{FrameWrong}
-use Rattle.faults.specs.declared.Checked.the-variants.{Refused}
-use Rattle.faults.specs.Checks.{then}
-use Rattle.rules.specs.Refusal.{headCheck, costCheck}
-use Rattle.rules.specs.Layout as rule
-use Rattle.rules.specs.Layout.{Version, frameSize, Number, X, T, C, D, headerFrame, stringFrame}
-use Rattle.rules.specs.Text.{Line, fieldOf, nIn, aIn, runIn, costOf, stringOf, versionCheck}
-use Rattle.layouts.specs.declared.Field.{Field}
-use Rattle.layouts.specs.Versions.{fieldFor}
-use Rattle.reading.specs.Positions.{digitsAhead, lineAt, Frame, numberIn, headerNumbers}
+use Rattle.base.proofs.Prelude.{ℕ, _+_, _*_, _≤_, _≡_, sym, List, arith, eq-eqb, ne-eqb, drop}
+use Rattle.days.specs.{declared.Length.Length, Days.days}
+use Rattle.faults.specs.{declared.Fault.the-variants.FrameWrong, declared.Checked.the-variants.Refused, Checks.then}
+use Rattle.rules.specs.{Refusal.{headCheck, costCheck}, Layout.{Version, frameSize, Number, X, T, C, D, headerFrame, stringFrame}, Text.{Line, fieldOf, nIn, aIn, runIn, costOf, stringOf, versionCheck}}
+use Rattle.layouts.specs.{declared.Field.Field, inner.Versions.fieldFor}
+use Rattle.reading.specs.inner.Positions.{digitsAhead, lineAt, Frame, numberIn, headerNumbers}
 use Rattle.reading.proofs.Fields.{field-fits, field-is}
+use Rattle.rules.specs.Layout as rule
 
 -- ---- A field of a frame
 
@@ -33,9 +22,9 @@ module _ {F : Type 0} (text : List ℕ) (at : ℕ) (l : rule.Layout F) (f : F) (
 -- ---- The header
 
 module _ (v : Version) (line : Line) where
-  pub other-version : (fieldOf (headerFrame v) Number line ≡ v .number → ⊥) → headerNumbers v line ≡ Refused FrameWrong 1
+  pub number-elsewhere : (fieldOf (headerFrame v) Number line ≡ v .number → ⊥) → headerNumbers v line ≡ Refused FrameWrong 1
   unfolding versionCheck
-  other-version other = rw (ne-eqb _ (v .number) other)
+  number-elsewhere other = rw (ne-eqb _ (v .number) other)
 
   pub this-version : fieldOf (headerFrame v) Number line ≡ v .number
       → headerNumbers v line ≡ then (headCheck 1 (nIn v line) (runIn v line)) (costCheck 1 (aIn v line))

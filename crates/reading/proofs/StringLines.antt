@@ -1,20 +1,10 @@
 -- The string lines by positions of the text, one after the other, and what they give where none is refused.
-use Prim.Native.Nat.{ℕ, zero, suc, _+_, _≤_, _<_}
-use mathlib.Core.Path.{_≡_, refl, sym, _∙_}
-use mathlib.Core.List.{List}
-use native.Mathlib.Omega.{arith}
-use native.Mathlib.Decide.{decLe}
-use lib.ListN.{length}
-use Rattle.faults.specs.declared.Fault.{Fault}
-use Rattle.faults.specs.declared.Fault.the-variants.{FrameWrong}
-use Rattle.faults.specs.declared.Checked.the-variants.{Lawful, Refused}
+use Rattle.base.proofs.Prelude.{ℕ, zero, suc, _+_, _≤_, _<_, _≡_, refl, sym, _∙_, List, arith, decLe, length}
+use Rattle.faults.specs.{declared.Fault.Fault, declared.Fault.the-variants.FrameWrong, declared.Checked.the-variants.{Lawful, Refused}}
 use Rattle.faults.proofs.Checks.{then-first, refused-not-lawful}
-use Rattle.rules.specs.Layout.{Version, frameSize, lineSize, stringFrame}
-use Rattle.rules.specs.Text.{Line, stringLineCheck, stringLinesCheck}
-use Rattle.reading.specs.Positions.{linesFrom, lineAt, Frame, Stand}
-use Rattle.reading.proofs.Lines.{line-here, lines-none}
-use Rattle.reading.proofs.Framing.{frameCheck-frame, frame-next}
-use Rattle.reading.proofs.Standing.{stand-none, stand-more}
+use Rattle.rules.specs.{Layout.{Version, frameSize, lineSize, stringFrame}, Text.{Line, stringLineCheck, stringLinesCheck}}
+use Rattle.reading.specs.inner.Positions.{linesFrom, lineAt, Frame, Stand}
+use Rattle.reading.proofs.{Lines.{line-here, lines-none}, Framing.{frameCheck-frame, frame-next}, Standing.{stand-none, stand-more}}
 
 module _ (v : Version) (header : Line) (text : List ℕ) where
   pub string-frame : (at k : ℕ) → stringLineCheck v header k (lineAt text at) ≡ Lawful → Frame text at (frameSize (stringFrame v))

@@ -1,36 +1,13 @@
 -- The whole text: its parts, read one after the other, decide as the definition does.
-use Prim.Native.Nat.{ℕ, _+_, _-_, _≤_, _<_}
-use mathlib.Core.Path.{_≡_, refl, sym, ap, _∙_}
-use mathlib.Core.List.{List, _∷_, map}
-use native.Mathlib.Omega.{arith}
-use borrow.Author.Tests.{lt-ltb, le-ltb}
-use lib.ListN.{length, length-map}
-use lib.Seq.{take-at, take-all}
+use Rattle.base.proofs.Prelude.{ℕ, _+_, _-_, _≤_, _<_, _≡_, refl, sym, ap, _∙_, List, _∷_, map, arith, lt-ltb, le-ltb, length, length-map, take-at, take-all}
 use Rattle.days.specs.Days.{days}
-use Rattle.faults.specs.declared.Fault.{Fault}
-use Rattle.faults.specs.declared.Fault.the-variants.{TextTooLong, FrameWrong, ReleaseUnlawful}
-use Rattle.faults.specs.declared.Checked.the-variants.{Lawful, Refused}
-use Rattle.faults.specs.Checks.{then}
+use Rattle.faults.specs.{declared.Fault.Fault, declared.Fault.the-variants.{TextTooLong, FrameWrong, ReleaseUnlawful}, declared.Checked.the-variants.{Lawful, Refused}, Checks.then}
 use Rattle.faults.proofs.Checks.{then-first, then-second, then-lawful}
-use Rattle.lists.specs.Count.{filled}
-use Rattle.rules.specs.declared.BatteryString.{BatteryString}
-use Rattle.rules.specs.declared.Plan.{Plan}
-use Rattle.rules.specs.Plan.{noString}
-use Rattle.rules.specs.Refusal.{headCheck, costCheck, multipleCheck}
-use Rattle.rules.specs.Release.{releasesOf, firstUnlawful}
-use Rattle.rules.specs.Layout.{Version, frameSize, lineSize, headerFrame, stringFrame, releaseFrame}
-use Rattle.rules.specs.Text.{Line, linesOf, nIn, aIn, runIn, stringOf, releaseOf, planIn, listIn, versionCheck, headerCheck, layoutCheck}
-use Rattle.rules.specs.Text.{stringLinesCheck, bodyCheck, linesCheck, textCheck, refusedReading, lawfulReading, readingIn}
-use Rattle.laws.proofs.Lawful.{headCheck-lawful}
-use Rattle.laws.proofs.Releases.{firstUnlawful-le}
-use Rattle.reading.specs.declared.Framed.{Framed}
-use Rattle.reading.specs.Positions.{linesFrom, lineAt, linesAt, Frame, Stand, framesIn, headerNumbers}
-use Rattle.reading.specs.Positions.{stringsAt, releasesAt, HeaderRead, StringsRead, bodyReading, listCheck, listReading, restReading, releaseList}
-use Rattle.reading.proofs.Lines.{line-here, lines-none}
-use Rattle.reading.proofs.Framing.{frameCheck-frame, frame-next}
-use Rattle.reading.proofs.Standing.{linesAt-length}
-use Rattle.reading.proofs.StringLines.{strings-stand}
-use Rattle.reading.proofs.ReleaseLines.{frames-few, frames-all, frames-stand, decided, releaseLines-decided}
+use Rattle.base.specs.Count.{filled}
+use Rattle.rules.specs.{declared.BatteryString.BatteryString, declared.Plan.Plan, Plan.noString, Refusal.{headCheck, costCheck, multipleCheck}, Release.{releasesOf, firstUnlawful}, Layout.{Version, frameSize, lineSize, headerFrame, stringFrame, releaseFrame}, Text.{Line, linesOf, nIn, aIn, runIn, stringOf, releaseOf, planIn, listIn, versionCheck, headerCheck, layoutCheck, stringLinesCheck, bodyCheck, linesCheck, textCheck, refusedReading, lawfulReading, readingIn}}
+use Rattle.laws.proofs.{Lawful.headCheck-lawful, Releases.firstUnlawful-le}
+use Rattle.reading.specs.{declared.Framed.Framed, inner.Positions.{linesFrom, lineAt, linesAt, Frame, Stand, framesIn, headerNumbers, stringsAt, releasesAt, HeaderRead, StringsRead, bodyReading, listCheck, listReading, restReading, releaseList}}
+use Rattle.reading.proofs.{Lines.{line-here, lines-none}, Framing.{frameCheck-frame, frame-next}, Standing.linesAt-length, StringLines.strings-stand, ReleaseLines.{frames-few, frames-all, frames-stand, decided, releaseLines-decided}}
 
 module _ (v : Version) (text : List ℕ) where
   -- ---- The header
@@ -85,7 +62,7 @@ module _ (v : Version) (text : List ℕ) where
       record { header = h; plan = e; strings = rw same lawful }
 
   module _ (p : Plan) (s : StringsRead v text p) where
-    pub strings-n : p .n ≡ nIn v (lineAt text 0)
+    strings-n : p .n ≡ nIn v (lineAt text 0)
     strings-n = ap (λ (q : Plan). q .n) (s .plan) ∙ plan-n (s .header)
 
     pub strings-few : p .n ≤ 10
@@ -167,10 +144,10 @@ module _ (v : Version) (text : List ℕ) where
           let said = ap (map (releaseOf v)) (sym whole ∙ framed-stand .first) in
           rw (header-next (s .header .frame), ← strings-n, standing .rest, said, many)
 
-      pub list-lawful : framed .checked ≡ Lawful
+      pub releases-lawful : framed .checked ≡ Lawful
           → listReading v text p ≡ record { checked = Lawful; plan = p; releases = releaseList v text start (framed .count) }
       unfolding decided lawfulReading
-      list-lawful e = list-decided ∙ rw (← none, e, releases-said e, ← (s .plan))
+      releases-lawful e = list-decided ∙ rw (← none, e, releases-said e, ← (s .plan))
 
 -- ---- The whole
 

@@ -10,8 +10,8 @@ use layouts::Version;
 ghost use mathlib.Core.Path.{_≡_};
 ghost use Rattle.rules.specs.Layout.{frameSize, headerFrame};
 ghost use Rattle.rules.specs.Text.{headerCheck};
-ghost use Rattle.layouts.specs.Versions.{meantBy, Known};
-ghost use Rattle.reading.specs.Positions.{lineAt, Frame, headerNumbers};
+ghost use Rattle.layouts.specs.inner.Versions.{meantBy, Known};
+ghost use Rattle.reading.specs.inner.Positions.{lineAt, Frame, headerNumbers};
 
 // The first line: 2, 3, then 4 for n, then 5 for N and for the moving cost of all strings, where the header says one.
 pub(crate) fn header_check(text: &[u8], version: Version) -> Checked

@@ -31,8 +31,8 @@ use strings::string_lines_check;
 ghost use mathlib.Core.Path.{_≡_};
 ghost use Rattle.rules.specs.Layout.{version01, version02};
 ghost use Rattle.rules.specs.Text.{refusedReading, readingIn, readingOf};
-ghost use Rattle.layouts.specs.Versions.{meantBy, Known};
-ghost use Rattle.reading.specs.Positions.{HeaderRead, StringsRead, bodyReading, restReading, listReading};
+ghost use Rattle.layouts.specs.inner.Versions.{meantBy, Known};
+ghost use Rattle.reading.specs.inner.Positions.{HeaderRead, StringsRead, bodyReading, restReading, listReading};
 
 // Release lines that are frames, up to the first that is not or the end: how many, and the fault that ended them.
 pub struct Framed {

@@ -18,8 +18,8 @@ ghost use Prim.Native.Nat.{_≤_};
 ghost use lib.ListN.{length};
 ghost use Rattle.rules.specs.Layout.{frameSize, releaseFrame};
 ghost use Rattle.rules.specs.Text.{releaseOf};
-ghost use Rattle.layouts.specs.Versions.{meantBy, Known};
-ghost use Rattle.reading.specs.Positions.{lineAt, linesFrom, Frame, Stand, framesIn, releaseList};
+ghost use Rattle.layouts.specs.inner.Versions.{meantBy, Known};
+ghost use Rattle.reading.specs.inner.Positions.{lineAt, linesFrom, Frame, Stand, framesIn, releaseList};
 
 // What a release frame says.
 fn release_at(text: &[u8], at: usize, version: Version) -> Release

@@ -18,8 +18,8 @@ ghost use lib.ListN.{length};
 ghost use Rattle.days.specs.Days.{days};
 ghost use Rattle.rules.specs.Layout.{frameSize, headerFrame, stringFrame};
 ghost use Rattle.rules.specs.Text.{linesOf, nIn, costOf, stringOf, planIn, stringLineCheck, stringLinesCheck};
-ghost use Rattle.layouts.specs.Versions.{meantBy, Known};
-ghost use Rattle.reading.specs.Positions.{lineAt, linesFrom, Frame, Stand, stringsAt};
+ghost use Rattle.layouts.specs.inner.Versions.{meantBy, Known};
+ghost use Rattle.reading.specs.inner.Positions.{lineAt, linesFrom, Frame, Stand, stringsAt};
 
 // The moving cost of a string: the header's where it says one for all, else the string frame's own.
 fn cost_at(text: &[u8], at: usize, version: Version) -> Length

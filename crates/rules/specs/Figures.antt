@@ -10,7 +10,7 @@ use Rattle.faults.specs.declared.Fault.{Fault}
 use Rattle.faults.specs.declared.Checked.{Checked}
 use Rattle.faults.specs.declared.Checked.the-variants.{Lawful, Refused}
 use Rattle.faults.specs.Checks.{orRefused}
-use Rattle.lists.specs.Count.{filled}
+use Rattle.base.specs.Count.{filled}
 use Rattle.rules.specs.declared.Plan.{Plan}
 use Rattle.rules.specs.declared.Figures.{Figures}
 use Rattle.rules.specs.Plan.{stringsOf, multipleOf}

@@ -14,7 +14,7 @@ use Prim.Native.String as text
 use mathlib.Core.Bool.{cond}
 use mathlib.Core.List.{List, [], _∷_, _++_, map}
 use lib.Dec.{eqb}
-use Rattle.lists.specs.Digits.{digitsOf}
+use Rattle.base.specs.Digits.{digitsOf}
 use Rattle.faults.specs.declared.Fault.{Fault}
 use Rattle.rules.specs.declared.Verdict.{Verdict}
 use Rattle.rules.specs.declared.Verdict.the-variants as verdict

@@ -17,7 +17,7 @@ use Rattle.days.specs.Days.{days}
 use Rattle.faults.specs.Checks.{inBounds}
 use Rattle.rules.specs.declared.BatteryString.{BatteryString}
 use Rattle.rules.specs.declared.Plan.{Plan}
-use Rattle.lists.specs.Count.{every, largest, smallest, leastFrom}
+use Rattle.base.specs.Count.{every, largest, smallest, leastFrom}
 
 abbrev pub stringsOf : Plan → List BatteryString
 stringsOf p = take (p .n) (p .strings)

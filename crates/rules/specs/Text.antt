@@ -27,7 +27,7 @@ use Rattle.faults.specs.declared.Fault.the-variants.{TextTooLong, LineMalformed
 use Rattle.faults.specs.declared.Checked.{Checked}
 use Rattle.faults.specs.declared.Checked.the-variants.{Lawful, Refused}
 use Rattle.faults.specs.Checks.{inBounds, then, refuseIf, orRefused}
-use Rattle.lists.specs.Count.{every, filled}
+use Rattle.base.specs.Count.{every, filled}
 use Rattle.rules.specs.declared.BatteryString.{BatteryString}
 use Rattle.rules.specs.declared.Plan.{Plan}
 use Rattle.rules.specs.declared.Release.{Release}

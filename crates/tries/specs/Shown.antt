@@ -10,7 +10,7 @@ use Rattle.rules.specs.declared.Plan.{Plan}
 use Rattle.rules.specs.declared.Release.{Release}
 use Rattle.rules.specs.declared.Releases.{Releases}
 use Rattle.rules.specs.Plan.{withRun}
-use Rattle.missing.specs.Missing.{missing, MissesBy}
+use Rattle.exact.specs.Missing.{missing, MissesBy}
 use Rattle.tries.specs.Tries.{packed}
 
 pub record Shows (p : Plan) (n : ℕ) (rs : Releases) : Type 0 where

@@ -13,12 +13,12 @@ ghost use mathlib.Core.Path.{_≡_};
 ghost use mathlib.Core.List.{flatMap};
 ghost use mathlib.Core.Option.{some};
 ghost use Prim.Native.Nat.{_≤_};
-ghost use Rattle.lists.specs.Count.{firstOf};
-ghost use Rattle.horizon.proofs.Pairs.{pair};
-ghost use Rattle.verdict.specs.Asked.{Ready};
+ghost use Rattle.base.specs.Count.{firstOf};
+ghost use Rattle.demand.proofs.Pairs.{pair};
+ghost use Rattle.verdict.specs.inner.Asked.{Ready};
 ghost use Rattle.tries.specs.Tries.{freeBreak, freeTries, ownBreak, heldTries, places, byInterval, stoppedTries};
 ghost use Rattle.tries.specs.Tries.{paidTry, paidTries, missesOn, found};
-ghost use Rattle.tries.specs.Openings.{tryOf, Small, Finds};
+ghost use Rattle.tries.specs.inner.Openings.{tryOf, Small, Finds};
 
 // What a search over tries finds: the first that misses, how its list begins and the days of its interval.
 pub(crate) enum Tried {

@@ -1,25 +1,13 @@
 -- What the reader and the writer answer is what turning a text is to answer.
-use Prim.Native.Nat.{ℕ, _≤_}
-use mathlib.Core.Path.{_≡_, sym, ap, _∙_, subst}
-use mathlib.Core.Bool.{Bool, _&&_}
-use mathlib.Core.List.{List}
-use native.Mathlib.Omega.{arith}
-use borrow.Author.Tests.{leb-true}
-use lib.Dec.{leb}
-use Rattle.lists.proofs.Lists.{by-bool, and-right}
+use Rattle.base.proofs.Prelude.{ℕ, _≤_, _≡_, sym, ap, _∙_, subst, Bool, _&&_, List, arith, leb-true, leb}
+use Rattle.base.proofs.Lists.{by-bool, and-right}
 use Rattle.faults.specs.declared.Fault.{Fault}
-use Rattle.faults.specs.declared.Checked.the-variants as checked
-use Rattle.rules.specs.declared.Plan.{Plan}
-use Rattle.rules.specs.declared.Releases.{Releases}
-use Rattle.rules.specs.declared.Reading.{Reading}
-use Rattle.rules.specs.Refusal.{runCheck}
-use Rattle.rules.specs.Layout.{Version, hasField, headerFrame, Common}
-use Rattle.rules.specs.Text.{readingIn}
+use Rattle.rules.specs.{declared.Plan.Plan, declared.Releases.Releases, declared.Reading.Reading, Refusal.runCheck, Layout.{Version, hasField, headerFrame, Common}, Text.readingIn}
 use Rattle.laws.proofs.Releases.{runCheck-lawful}
-use Rattle.writing.specs.declared.Saved.the-variants.{Refused}
-use Rattle.writing.specs.Saved.{noRoom, firstOther, alikeCheck, savedText, writableCheck, saveCheck, savedAnswer, savedPage}
-use Rattle.onetext.proofs.ReadLawful.{text-read}
+use Rattle.writing.specs.{declared.Saved.the-variants.Refused, Saved.{noRoom, firstOther, alikeCheck, savedText, writableCheck, saveCheck, savedAnswer, savedPage}}
+use Rattle.roundtrip.proofs.ReadLawful.{text-read}
 use Rattle.turning.specs.Turned.{lineOf, onLine, placeIn, turnedText, turnCheck, turnedAnswer, turnedPage}
+use Rattle.faults.specs.declared.Checked.the-variants as checked
 
 module _ (v w : Version) (text page : List ℕ) (at : ℕ) where
   abbrev p : Plan
@@ -68,9 +56,9 @@ module _ (v w : Version) (text page : List ℕ) (at : ℕ) where
 -- ---- The same of what the reader answered
 
 module _ (v w : Version) (text page : List ℕ) (at : ℕ) (r : Reading) (read : r ≡ readingIn v text) where
-  pub read-refused : (f : Fault) (k : ℕ) → r .checked ≡ checked.Refused f k
+  pub turn-when-refused : (f : Fault) (k : ℕ) → r .checked ≡ checked.Refused f k
       → (Refused f k ≡ turnedAnswer v w text page at) × (page ≡ turnedPage v w text page at)
-  read-refused f k h = turn-refused v w text page at f k (sym (ap (λ s. s .checked) read) ∙ h)
+  turn-when-refused f k h = turn-refused v w text page at f k (sym (ap (λ s. s .checked) read) ∙ h)
 
   module _ (h : r .checked ≡ checked.Lawful) where
     is-lawful : readingIn v text .checked ≡ checked.Lawful

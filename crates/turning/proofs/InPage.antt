@@ -1,27 +1,18 @@
 -- Where a text is answered with, the turned text stands in the page from the named place on.
-use Prim.Native.Nat.{ℕ}
-use mathlib.Core.Path.{_≡_, sym, ap, _∙_}
-use mathlib.Core.List.{List}
-use lib.ListN.{length, take, drop}
-use Rattle.lists.specs.Count.{putAt}
-use Rattle.lists.proofs.Parts.{putAt-stands}
-use Rattle.faults.specs.declared.Fault.the-variants.{NoRoom}
-use Rattle.faults.specs.declared.Checked.{Checked}
-use Rattle.faults.specs.declared.Checked.the-variants.{Lawful}
-use Rattle.faults.specs.Checks.{then, refuseIf}
+use Rattle.base.proofs.Prelude.{ℕ, _≡_, sym, ap, _∙_, List, length, take, drop}
+use Rattle.base.specs.Count.{putAt}
+use Rattle.base.proofs.Parts.{putAt-stands}
+use Rattle.faults.specs.{declared.Fault.the-variants.NoRoom, declared.Checked.Checked, declared.Checked.the-variants.Lawful, Checks.{then, refuseIf}}
 use Rattle.faults.proofs.Checks.{then-first, then-second, refuseIf-not}
-use Rattle.rules.specs.declared.Plan.{Plan}
-use Rattle.rules.specs.Layout.{Version}
-use Rattle.rules.specs.Text.{readingIn}
-use Rattle.writing.specs.declared.Saved.the-variants.{Text}
-use Rattle.writing.specs.Saved.{noRoom, firstOther, alikeCheck}
-use Rattle.onetext.proofs.InPage.{answered, room-inside}
+use Rattle.rules.specs.{declared.Plan.Plan, Layout.Version, Text.readingIn}
+use Rattle.writing.specs.{declared.Saved.the-variants.Text, Saved.{noRoom, firstOther, alikeCheck}}
+use Rattle.roundtrip.proofs.InPage.{answered-text, room-inside}
 use Rattle.turning.specs.Turned.{lineOf, turnedText, turnCheck, turnedAnswer, turnedPage}
 
 module _ (v w : Version) (text page : List ℕ) (at len : ℕ) (h : turnedAnswer v w text page at ≡ Text len) where
   turned : (turnCheck v w text page at ≡ Lawful) × (length (turnedText v w text) ≡ len)
   unfolding turnedAnswer
-  turned = answered (turnCheck v w text page at) (length (turnedText v w text)) len h
+  turned = answered-text (turnCheck v w text page at) (length (turnedText v w text)) len h
 
   abbrev plan : Plan
   plan = readingIn v text .plan

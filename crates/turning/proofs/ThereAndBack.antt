@@ -1,39 +1,17 @@
 -- Files of version 01 to 02 and back (document 02, W-208): what is turned and turned back has the bytes that it had; a file of version 02
 -- goes into version 01 exactly when its moving costs are one; and a file says the same before and after.
-use Prim.Native.Nat.{ℕ, _+_, _-_, _≤_, _<_}
-use mathlib.Core.Path.{_≡_, sym, ap, _∙_, subst}
-use mathlib.Core.Logic.{_↔_}
-use mathlib.Core.Bool.{true, false, not}
-use mathlib.Core.List.{List, [], _∷_}
-use native.Mathlib.Omega.{arith}
-use borrow.Author.Tests.{eq-eqb, eqb-true, not-false, leb-false, lt-leb}
-use lib.Dec.{leb}
-use lib.ListN.{length, getD}
-use lib.Seq.{length-take-le}
-use Rattle.days.specs.declared.Length.{Length}
-use Rattle.days.specs.Days.{days}
-use Rattle.lists.specs.Count.{All}
-use Rattle.lists.proofs.Lists.{all-at, all-by, all-map, by-bool}
-use Rattle.lists.proofs.Least.{leastFrom-none, leastFrom-before}
-use Rattle.faults.specs.declared.Fault.{Fault}
-use Rattle.faults.specs.declared.Fault.the-variants.{FrameWrong, CostsDiffer}
-use Rattle.faults.specs.declared.Checked.the-variants.{Lawful}
+use Rattle.base.proofs.Prelude.{ℕ, _+_, _-_, _≤_, _<_, _≡_, sym, ap, _∙_, subst, _↔_, true, false, not, List, [], _∷_, arith, eq-eqb, eqb-true, not-false, lt-leb, leb, length, getD, length-take-le}
+use borrow.Author.Tests.{leb-false}
+use Rattle.days.specs.{declared.Length.Length, Days.days}
+use Rattle.base.specs.Count.{All}
+use Rattle.base.proofs.{Lists.{all-at, all-by, all-map, by-bool}, Least.{leastFrom-none, leastFrom-before}}
+use Rattle.faults.specs.{declared.Fault.Fault, declared.Fault.the-variants.{FrameWrong, CostsDiffer}, declared.Checked.the-variants.Lawful}
 use Rattle.faults.proofs.Checks.{refused-not-lawful, refuseIf-not}
-use Rattle.rules.specs.declared.BatteryString.{BatteryString}
-use Rattle.rules.specs.declared.Plan.{Plan}
-use Rattle.rules.specs.Plan.{stringsOf, stringAt, noString}
-use Rattle.rules.specs.Refusal.{runCheck}
-use Rattle.rules.specs.Layout.{Version, hasField, version01, version02, heldTo}
-use Rattle.rules.specs.Text.{Line, linesOf, versionOf, aIn, planIn, linesCheck, readingIn, readingOf}
-use Rattle.rules.specs.Answer.{answered, answerOf}
+use Rattle.rules.specs.{declared.BatteryString.BatteryString, declared.Plan.Plan, Plan.{stringsOf, stringAt, noString}, Refusal.runCheck, Layout.{Version, hasField, version01, version02, heldTo}, Text.{Line, linesOf, versionOf, aIn, planIn, linesCheck, readingIn, readingOf}, Answer.{answered, answerOf}}
 use Rattle.laws.proofs.Versions.{one-cost, lines-checked, reading-plan}
-use Rattle.writing.specs.declared.Saved.the-variants.{Refused, Text}
-use Rattle.writing.specs.Saved.{noRoom, costDiffers, firstOther, alikeCheck, savedText}
-use Rattle.onetext.proofs.ReadLawful.{text-read}
-use Rattle.onetext.proofs.ReadBack.{reading-what-was-written, written-names, alike-02}
-use Rattle.onetext.proofs.WriteBack.{writing-what-was-read}
-use Rattle.onetext.proofs.As02.{read-trimmed, run-is, ten, thousand}
-use Rattle.onetext.specs.OneText.{OneCost}
+use Rattle.writing.specs.{declared.Saved.the-variants.{Refused, Text}, Saved.{noRoom, costDiffers, firstOther, alikeCheck, savedText}}
+use Rattle.roundtrip.proofs.{ReadLawful.text-read, ReadBack.{reading-what-was-written, written-names, alike-02}, WriteBack.writing-what-was-read, As02.{read-trimmed, run-is, ten-places, thousand}}
+use Rattle.roundtrip.specs.OneText.{OneCost}
 use Rattle.turning.specs.Turned.{lineOf, turnedText, turnCheck, turnedAnswer}
 
 refused-not-text : (f : Fault) (at len : ℕ) → Refused f at ≡ Text len → ⊥
@@ -71,11 +49,11 @@ module _ (v : Version) (text : List ℕ) (h : readingIn v text .checked ≡ Lawf
   said = readingIn v text .plan
 
   many : length (stringsOf said) ≡ said .n
-  many = length-take-le (said .n) (said .strings) (omega (arith, ten v text h, run-is v text h .plan .nMax))
+  many = length-take-le (said .n) (said .strings) (omega (arith, ten-places v text h, run-is v text h .plan .nMax))
 
   savable : (length (said .strings) ≡ 10) × (length (readingIn v text .releases .list) ≡ 1000)
       × (runCheck said (readingIn v text .releases) ≡ Lawful)
-  savable = (ten v text h, thousand v text h, text-read v text h)
+  savable = (ten-places v text h, thousand v text h, text-read v text h)
 
 -- a text that is lawful in a version names it
 names : (k : ℕ) (text : List ℕ) → readingIn (heldTo k) text .checked ≡ Lawful → readingOf text ≡ readingIn (heldTo k) text
@@ -182,7 +160,7 @@ module _ (text : List ℕ) (h : readingIn version02 text .checked ≡ Lawful) wh
       (λ none. absurd (not-one (oneCost-of-none plan (many version02 text h) (leb-false (firstOther plan) (plan .n) none))))
 
   module _ (one : OneCost plan) where
-    pub reads-01 : readingIn version01 in-01 ≡ readingIn version02 text
+    reads-01 : readingIn version01 in-01 ≡ readingIn version02 text
     unfolding turnedText heldTo
     reads-01 =
         reading-what-was-written 1 plan (readingIn version02 text .releases) (savable version02 text h) (λ moving. one)

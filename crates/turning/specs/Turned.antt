@@ -10,7 +10,7 @@ use mathlib.Core.Bool.{cond}
 use mathlib.Core.List.{List}
 use lib.Dec.{eqb}
 use lib.ListN.{length}
-use Rattle.lists.specs.Count.{putAt}
+use Rattle.base.specs.Count.{putAt}
 use Rattle.faults.specs.declared.Fault.the-variants.{NoRoom}
 use Rattle.faults.specs.declared.Checked.{Checked}
 use Rattle.faults.specs.Checks.{then, refuseIf, orRefused}

@@ -1,21 +1,14 @@
 -- The frames of a version, cell by cell, as the code makes them: a field that a frame does not have is a cell of no bytes.
 --     headerCells w n a run, stringCells w s, releaseCells w r    the cells of the frames in the code's version w
-use Prim.Native.Nat.{ℕ}
-use mathlib.Core.Path.{_≡_, refl, sym, subst}
-use mathlib.Core.List.{List, [], _∷_, flatMap}
-use Rattle.lists.specs.Count.{sumOf}
-use Rattle.rules.specs.declared.BatteryString.{BatteryString}
-use Rattle.rules.specs.declared.Plan.{Plan}
-use Rattle.rules.specs.declared.Release.{Release}
-use Rattle.rules.specs.Plan.{stringAt}
-use Rattle.rules.specs.Layout.{Version, heldTo, headerFrame, stringFrame, releaseFrame}
-use Rattle.layouts.specs.declared.Version as code
-use Rattle.layouts.specs.Versions.{codeOf, meantBy, Known}
+use Rattle.base.proofs.Prelude.{ℕ, _≡_, refl, sym, subst, List, [], _∷_}
+use mathlib.Core.List.{flatMap}
+use Rattle.base.specs.Count.{sumOf}
+use Rattle.rules.specs.{declared.BatteryString.BatteryString, declared.Plan.Plan, declared.Release.Release, Plan.stringAt, Layout.{Version, heldTo, headerFrame, stringFrame, releaseFrame}}
+use Rattle.layouts.specs.inner.Versions.{codeOf, meantBy, Known}
 use Rattle.layouts.proofs.Versions.{number-size, count-size, x-size, t-size, c-size, d-size, place-size, day-size, need-size}
-use Rattle.writing.specs.declared.cells.Cell.{Cell}
-use Rattle.writing.specs.Written.{frameBytes, headerSays, stringSays, releaseSays}
-use Rattle.writing.specs.Cells.{cellsSize, SaysFrame}
+use Rattle.writing.specs.{declared.cells.Cell.Cell, Written.{frameBytes, headerSays, stringSays, releaseSays}, inner.Cells.{cellsSize, SaysFrame}}
 use Rattle.writing.proofs.Texts.{cells-frame}
+use Rattle.layouts.specs.declared.Version as code
 
 abbrev cell : ℕ → ℕ → Cell
 cell size value = record { size = size; value = value }

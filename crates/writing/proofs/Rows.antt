@@ -1,30 +1,14 @@
 -- Lines of one length, written one after the other into a part of a page: a string's line, or a release's.
 --     Rows before part i    the lines of the first i stand at the head of the part, and what stood behind them stays
-use Prim.Native.Nat.{ℕ, _+_, _-_, _*_, _≤_, _<_, suc}
-use mathlib.Core.Path.{_≡_, sym, ap, _∙_, subst}
-use mathlib.Core.List.{List, [], _∷_, _++_, flatMap, append-nil}
-use native.Mathlib.Omega.{arith}
-use native.Mathlib.Numerals.{add-one}
-use native.Mathlib.Nat.{suc-mul, mul-le-mul-right}
-use lib.ListN.{length, take, drop, getD, length-append}
-use lib.Seq.{take-suc, take-all, length-take-le}
-use borrow.Rule.Slice.PartMut.{putMid}
-use Rattle.rules.specs.declared.BatteryString.{BatteryString}
-use Rattle.rules.specs.declared.Plan.{Plan}
-use Rattle.rules.specs.declared.Release.{Release}
-use Rattle.rules.specs.declared.Releases.{Releases}
-use Rattle.rules.specs.Plan.{stringsOf}
-use Rattle.rules.specs.Release.{releasesOf}
-use Rattle.rules.specs.Layout.{Layout, Version, lineSize, headerFrame, stringFrame, releaseFrame}
-use Rattle.writing.specs.declared.cells.Cell.{Cell}
-use Rattle.writing.specs.Written.{frameBytes, lineText, headerSays, stringSays, releaseSays, headerText, stringText, releaseText, planText}
-use Rattle.writing.specs.Cells.{cellsSize, cellsText, Room, SaysFrame}
-use Rattle.writing.proofs.Texts.{flatMap-append, flatMap-one, flatMap-length, Stands, stands-none, stands-next}
-use Rattle.writing.proofs.Texts.{lineText-length, frameBytes-length, says-line}
+use Rattle.base.proofs.Prelude.{ℕ, _+_, _-_, _*_, _≤_, _<_, suc, _≡_, sym, ap, _∙_, subst, List, [], _∷_, _++_, append-nil, arith, add-one, suc-mul, mul-le-mul-right, length, take, drop, getD, length-append, take-suc, take-all, length-take-le, putMid}
+use mathlib.Core.List.{flatMap}
+use Rattle.rules.specs.{declared.BatteryString.BatteryString, declared.Plan.Plan, declared.Release.Release, declared.Releases.Releases, Plan.stringsOf, Release.releasesOf, Layout.{Layout, Version, lineSize, headerFrame, stringFrame, releaseFrame}}
+use Rattle.writing.specs.{declared.cells.Cell.Cell, Written.{frameBytes, lineText, headerSays, stringSays, releaseSays, headerText, stringText, releaseText, planText}, inner.Cells.{cellsSize, cellsText, Room, SaysFrame}}
+use Rattle.writing.proofs.Texts.{flatMap-append, flatMap-one, flatMap-length, TextStands, stands-none, stands-next, lineText-length, frameBytes-length, says-line}
 
 module _ {ℓ} {A : Type ℓ} (f : A → List ℕ) (k : ℕ) (each : (x : A) → length (f x) ≡ k) (xs : List A) (z : A) where
   abbrev pub Rows : List ℕ → List ℕ → ℕ → Type 0
-  Rows before part i = Stands before (flatMap f (take i xs)) part
+  Rows before part i = TextStands before (flatMap f (take i xs)) part
 
   pub rows-start : (before : List ℕ) → Rows before before 0
   unfolding flatMap
@@ -42,13 +26,14 @@ module _ {ℓ} {A : Type ℓ} (f : A → List ℕ) (k : ℕ) (each : (x : A) →
       → next ≡ f (getD xs i z) ++ drop k (take (length part - i * k) (drop (i * k) part))
       → Rows before (putMid (i * k) (length part - i * k) part next) (i + 1)
   rows-next before part next i s h room got =
-      subst (λ text. Stands before text (putMid (i * k) (length part - i * k) part next)) (sym (step i h))
+      subst (λ text. TextStands before text (putMid (i * k) (length part - i * k) part next)) (sym (step i h))
       (stands-next before (flatMap f (take i xs)) (f (getD xs i z)) part next (i * k) k s (so-far i (omega arith)) (each (getD xs i z))
       room got)
 
   -- all of them stand
-  pub rows-end : (before part : List ℕ) (i : ℕ) → Rows before part i → i ≡ length xs → part ≡ flatMap f xs ++ drop (length xs * k) before
-  rows-end before part i s e =
+  pub rows-written : (before part : List ℕ) (i : ℕ) → Rows before part i → i ≡ length xs
+      → part ≡ flatMap f xs ++ drop (length xs * k) before
+  rows-written before part i s e =
       let all : take i xs ≡ xs = take-all i xs (omega arith) in
       s .is ∙ rw (all, flatMap-length f k each xs)
 
@@ -111,7 +96,7 @@ module _ (v : Version) (p : Plan) (rs : Releases) (strings-many : length (string
         flatMap-length (stringText v) (lineSize (stringFrame v)) (stringText-length v) (stringsOf p)
         ∙ ap (λ n. n * lineSize (stringFrame v)) strings-many
 
-    pub releases-long : length releases ≡ rs .count * lineSize (releaseFrame v)
+    releases-long : length releases ≡ rs .count * lineSize (releaseFrame v)
     releases-long =
         flatMap-length (releaseText v) (lineSize (releaseFrame v)) (releaseText-length v) (releasesOf rs)
         ∙ ap (λ n. n * lineSize (releaseFrame v)) releases-many

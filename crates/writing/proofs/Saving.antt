@@ -1,35 +1,15 @@
 -- What is answered and what the page holds: a refusal of the plan, no room, or the text in its place.
-use Prim.Native.Nat.{ℕ, _-_, _≤_, _<_}
-use mathlib.Core.Path.{_≡_, refl, sym, ap, _∙_}
-use mathlib.Core.Bool.{Bool, true, false, _||_}
-use mathlib.Core.List.{List, _++_}
-use native.Mathlib.Omega.{arith}
-use borrow.Author.Tests.{lt-ltb, le-ltb, le-leb, lt-leb}
-use lib.Dec.{ltb, leb}
-use lib.ListN.{length, take, drop, length-drop}
-use lib.Seq.{length-take-le, drop-drop}
-use borrow.Rule.Slice.PartMut.{putMid}
-use Rattle.lists.specs.Count.{All}
-use Rattle.lists.proofs.Lists.{by-bool, all-by}
-use Rattle.faults.specs.declared.Fault.{Fault}
-use Rattle.faults.specs.declared.Fault.the-variants.{NoRoom, CostsDiffer}
-use Rattle.faults.specs.declared.Checked.the-variants as checked
+use Rattle.base.proofs.Prelude.{ℕ, _-_, _≤_, _<_, _≡_, refl, sym, ap, _∙_, Bool, true, false, _||_, List, _++_, arith, lt-ltb, le-ltb, le-leb, lt-leb, ltb, leb, length, take, drop, length-drop, length-take-le, drop-drop, putMid}
+use Rattle.base.specs.Count.{All}
+use Rattle.base.proofs.Lists.{by-bool, all-by}
+use Rattle.faults.specs.{declared.Fault.Fault, declared.Fault.the-variants.{NoRoom, CostsDiffer}}
 use Rattle.faults.proofs.Checks.{then-first, then-lawful}
-use Rattle.rules.specs.declared.Plan.{Plan}
-use Rattle.rules.specs.declared.Releases.{Releases}
-use Rattle.rules.specs.Plan.{stringsOf}
-use Rattle.rules.specs.Release.{releasesOf, noRelease}
-use Rattle.rules.specs.Refusal.{runCheck}
-use Rattle.rules.specs.Layout.{Version, hasField, headerFrame, Common}
+use Rattle.rules.specs.{declared.Plan.Plan, declared.Releases.Releases, Plan.stringsOf, Release.{releasesOf, noRelease}, Refusal.runCheck, Layout.{Version, hasField, headerFrame, Common}}
 use Rattle.laws.specs.Lawful.{LawfulRun}
-use Rattle.laws.proofs.Releases.{runCheck-lawful}
-use Rattle.laws.proofs.ReleaseList.{release-lawful}
-use Rattle.writing.specs.declared.Saved.the-variants.{Refused, Text}
-use Rattle.writing.specs.Written.{planText}
-use Rattle.writing.specs.Saved.{noRoom, firstOther, alikeCheck, savedText, writableCheck, saveCheck, savedAnswer, savedPage}
-use Rattle.writing.specs.Cells.{PlanFits}
-use Rattle.writing.proofs.Texts.{lent-part, lent-back}
-use Rattle.writing.proofs.Rows.{longAs, text-long}
+use Rattle.laws.proofs.{Releases.runCheck-lawful, ReleaseList.release-lawful}
+use Rattle.writing.specs.{declared.Saved.the-variants.{Refused, Text}, Written.planText, Saved.{noRoom, firstOther, alikeCheck, savedText, writableCheck, saveCheck, savedAnswer, savedPage}, inner.Cells.PlanFits}
+use Rattle.writing.proofs.{Texts.{lent-part, lent-back}, Rows.{longAs, text-long}}
+use Rattle.faults.specs.declared.Checked.the-variants as checked
 
 -- ---- Room
 

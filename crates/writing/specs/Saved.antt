@@ -13,7 +13,7 @@ use mathlib.Core.Bool.{Bool, not, _&&_, _||_}
 use mathlib.Core.List.{List}
 use lib.Dec.{ltb, leb, eqb}
 use lib.ListN.{length, drop}
-use Rattle.lists.specs.Count.{leastFrom, putAt}
+use Rattle.base.specs.Count.{leastFrom, putAt}
 use Rattle.faults.specs.declared.Fault.the-variants.{NoRoom, CostsDiffer}
 use Rattle.faults.specs.declared.Checked.{Checked}
 use Rattle.faults.specs.Checks.{then, refuseIf, orRefused}

@@ -6,7 +6,7 @@ use rules::Plan;
 use rules::Releases;
 ghost use mathlib.Core.Path.{_≡_};
 ghost use Prim.Native.Nat.{_≤_};
-ghost use Rattle.layouts.specs.Versions.{meantBy, Known};
+ghost use Rattle.layouts.specs.inner.Versions.{meantBy, Known};
 ghost use Rattle.writing.specs.Saved.{firstOther, alikeCheck, writableCheck};
 
 // The first place whose moving cost is another than that of place 1; the place after the last where none is.

@@ -16,7 +16,7 @@ use rules::Plan;
 use rules::Releases;
 ghost use mathlib.Core.Path.{_≡_};
 ghost use Rattle.rules.specs.Layout.{version01, version02};
-ghost use Rattle.layouts.specs.Versions.{meantBy, Known};
+ghost use Rattle.layouts.specs.inner.Versions.{meantBy, Known};
 ghost use Rattle.writing.specs.Saved.{writableCheck, savedAnswer, savedPage};
 
 // The length of the text that was written, or why nothing was.

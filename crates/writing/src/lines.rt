@@ -13,9 +13,9 @@ ghost use lib.ListN.{length, drop};
 ghost use Rattle.rules.specs.Plan.{stringsOf};
 ghost use Rattle.rules.specs.Release.{releasesOf};
 ghost use Rattle.rules.specs.Layout.{lineSize, stringFrame, releaseFrame};
-ghost use Rattle.layouts.specs.Versions.{meantBy, Known};
+ghost use Rattle.layouts.specs.inner.Versions.{meantBy, Known};
 ghost use Rattle.writing.specs.Written.{stringText, releaseText, planText};
-ghost use Rattle.writing.specs.Cells.{StringsFit, ReleasesFit, PlanFits};
+ghost use Rattle.writing.specs.inner.Cells.{StringsFit, ReleasesFit, PlanFits};
 
 // A line for each string.
 fn put_strings(part: &mut [u8], p: Plan, version: Version)

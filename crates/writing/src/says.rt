@@ -16,9 +16,9 @@ use rules::Plan;
 use rules::Release;
 ghost use Prim.Native.Nat.{_≤_};
 ghost use Rattle.rules.specs.Layout.{headerFrame, stringFrame, releaseFrame};
-ghost use Rattle.layouts.specs.Versions.{meantBy, Known};
+ghost use Rattle.layouts.specs.inner.Versions.{meantBy, Known};
 ghost use Rattle.writing.specs.Written.{headerSays, stringSays, releaseSays};
-ghost use Rattle.writing.specs.Cells.{SaysFrame};
+ghost use Rattle.writing.specs.inner.Cells.{SaysFrame};
 
 // The header: its kind and four fields. A moving cost for all strings is that of the first.
 pub(crate) fn header_cells(p: Plan, version: Version) -> [Cell; 7]

@@ -1,5 +1,5 @@
 -- `held_to` meets its contract: the constants of a version are the definitions'.
-use borrow.Author.Tests.{eq-eqb, ne-eqb}
+use Rattle.base.proofs.Prelude.{eq-eqb, ne-eqb}
 use Rattle.rules.specs.Layout.{heldTo}
 use Rattle.layouts.proofs.held_to.Statement.{statement}
 use Rattle.layouts.proofs.held_to.Tie as tie

@@ -1,13 +1,7 @@
 -- `lines::verdict_written` meets its contract: the verdict's line on a blank page.
-use mathlib.Core.List.{[]}
-use native.Mathlib.Omega.{arith}
-use borrow.Author.Needs.{needs}
-use Rattle.lines.proofs.Growing.{written, len-is, grown, within}
-use Rattle.lines.proofs.verdict_written.Statement.{statement}
+use Rattle.base.proofs.Prelude.{[], arith, needs}
+use Rattle.lines.proofs.{Growing.{written, len-is, grown, within}, verdict_written.Statement.statement}
 use Rattle.lines.proofs.verdict_written.Tie as tie
-
-verdict-line-requires : tie.Need-verdict-line-requires
-verdict-line-requires c κs = (written _ [] (c .blank .ensures), omega (arith, len-is _ [] (c .blank .ensures)))
 
 returns : tie.Need-returns
 returns c =
@@ -15,4 +9,7 @@ returns c =
     (is, within _ _ is)
 
 pub verdict-written-spec : {M : Type 1} → statement M
-verdict-written-spec = tie.close (tie.spec (λ c κs. search needs) verdict-line-requires returns)
+verdict-written-spec =
+    tie.close (tie.spec
+    (λ c κs. search needs) (λ c κs. (written _ [] (c .blank .ensures), omega (arith, len-is _ [] (c .blank .ensures))))
+    returns)

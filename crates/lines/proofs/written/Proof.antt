@@ -1,17 +1,8 @@
 -- `lines::written` meets its contract: the lines of an answer, one behind the other on a blank page.
-use mathlib.Core.List.{[]}
-use native.Mathlib.Omega.{arith}
-use borrow.Author.Needs.{needs}
+use Rattle.base.proofs.Prelude.{[], arith, needs}
 use Rattle.rules.specs.Lines.{linesFor}
-use Rattle.lines.proofs.Growing.{written, len-is, grown, within}
-use Rattle.lines.proofs.written.Statement.{statement}
+use Rattle.lines.proofs.{Growing.{written, len-is, grown, within}, written.Statement.statement}
 use Rattle.lines.proofs.written.Tie as tie
-
-verdict-line-requires : tie.Need-verdict-line-requires
-verdict-line-requires c κs = (written _ [] (c .blank .ensures), omega (arith, len-is _ [] (c .blank .ensures)))
-
-assign-line-requires : tie.Need-assign-line-requires
-assign-line-requires c κs = (written _ _ (c .verdict-line .ensures .0), omega (arith, len-is _ [] (c .before .blank .ensures)))
 
 outcome-line-requires : tie.Need-outcome-line-requires
 outcome-line-requires c κs = (written _ _ (c .assign-line .ensures .0), omega (arith, len-is _ [] (c .before .before .blank .ensures)))
@@ -34,5 +25,7 @@ returns-2 c =
 pub written-spec : {M : Type 1} → statement M
 written-spec =
     tie.close (tie.spec
-    (λ c. search needs) (λ c κs. search needs) (λ c. search needs) (λ c κs. search needs) verdict-line-requires
-    assign-line-requires outcome-line-requires returns returns-2)
+    (λ c. search needs) (λ c κs. search needs) (λ c. search needs) (λ c κs. search needs)
+    (λ c κs. (written _ [] (c .blank .ensures), omega (arith, len-is _ [] (c .blank .ensures))))
+    (λ c κs. (written _ _ (c .verdict-line .ensures .0), omega (arith, len-is _ [] (c .before .blank .ensures))))
+    outcome-line-requires returns returns-2)

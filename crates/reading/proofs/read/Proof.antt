@@ -1,13 +1,9 @@
 -- `reading::read` meets its contract: the first line names the version that the text is held to.
-use mathlib.Core.Path.{refl, sym, ap, _∙_}
-use native.Mathlib.Omega.{arith}
-use borrow.Author.Needs.{needs}
-use Rattle.rules.specs.Layout.{heldTo}
-use Rattle.rules.specs.Text.{readingIn}
-use Rattle.layouts.specs.Versions.{codeOf}
+use Rattle.base.proofs.Prelude.{refl, sym, ap, _∙_, arith, needs}
+use Rattle.rules.specs.{Layout.heldTo, Text.readingIn}
+use Rattle.layouts.specs.inner.Versions.{codeOf}
 use Rattle.layouts.proofs.Versions.{held-known}
-use Rattle.reading.proofs.Choosing.{held-short, held-named}
-use Rattle.reading.proofs.read.Statement.{statement}
+use Rattle.reading.proofs.{Choosing.{held-short, held-named}, read.Statement.statement}
 use Rattle.reading.proofs.read.Tie as tie
 
 read-in-requires : tie.Need-read-in-requires
@@ -19,12 +15,6 @@ unfolding heldTo
 returns c =
     let counted = c .before .before in
     (c .read-in .ensures ∙ sym (held-short _ (omega (arith, counted .digits-ahead .ensures, c .before .if1 .taken))), refl)
-
-field-at-requires : tie.Need-field-at-requires
-field-at-requires c κs = (omega (arith, c .before .digits-ahead .ensures, c .if1 .left), omega arith)
-
-read-in-requires-2 : tie.Need-read-in-requires-2
-read-in-requires-2 c κs = held-known _ _ (c .held-to .ensures) .0
 
 returns-2 : tie.Need-returns-2
 returns-2 c =
@@ -40,5 +30,6 @@ returns-2 c =
 pub read-spec : {M : Type 1} → statement M
 read-spec =
     tie.close (tie.spec
-    (λ c κs. search needs) read-in-requires returns field-at-requires (λ c κs. search needs) read-in-requires-2
-    returns-2)
+    (λ c κs. search needs) read-in-requires returns
+    (λ c κs. (omega (arith, c .before .digits-ahead .ensures, c .if1 .left), omega arith)) (λ c κs. search needs)
+    (λ c κs. held-known _ _ (c .held-to .ensures) .0) returns-2)

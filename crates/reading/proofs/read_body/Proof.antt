@@ -1,19 +1,11 @@
 -- `reading::read_body` meets its contract: the strings decide first, then what follows them.
-use Prim.Native.Nat.{ℕ, _≤_}
-use mathlib.Core.Path.{_≡_, sym, ap, _∙_}
-use mathlib.Core.List.{List}
-use native.Mathlib.Omega.{arith}
-use borrow.Author.Needs.{needs}
+use Rattle.base.proofs.Prelude.{ℕ, _≤_, _≡_, sym, ap, _∙_, List, arith, needs}
 use Rattle.faults.specs.declared.Checked.the-variants.{Lawful}
-use Rattle.rules.specs.Layout.{Version, Count, headerFrame}
-use Rattle.rules.specs.Text.{nIn, stringLinesCheck}
-use Rattle.layouts.specs.Versions.{meantBy}
+use Rattle.rules.specs.{Layout.{Version, Count, headerFrame}, Text.{nIn, stringLinesCheck}}
+use Rattle.layouts.specs.inner.Versions.{meantBy}
 use Rattle.layouts.proofs.Versions.{count-place, header-line, header-line-short}
-use Rattle.reading.specs.Positions.{linesFrom, lineAt, stringsAt, StringsRead}
-use Rattle.reading.proofs.Said.{field-room, field-said}
-use Rattle.reading.proofs.StringLines.{strings-stand}
-use Rattle.reading.proofs.Whole.{header-few, header-inside, planned, body-rest, body-refused}
-use Rattle.reading.proofs.read_body.Statement.{statement}
+use Rattle.reading.specs.inner.Positions.{linesFrom, lineAt, stringsAt, StringsRead}
+use Rattle.reading.proofs.{Said.{field-room, field-said}, StringLines.strings-stand, Whole.{header-few, header-inside, planned, body-rest, body-refused}, read_body.Statement.statement}
 use Rattle.reading.proofs.read_body.Tie as tie
 
 abbrev textOf : tie.Start → List ℕ
@@ -88,9 +80,6 @@ plan-in-requires c κs =
     let stand = strings-stand (versionOf b) _ _ (stringsAt (versionOf b)) 2 _ (header-inside (versionOf b) _ (b .pre .1)) (lawful c) in
     (b .pre .0, (b .pre .1 .frame, ((start-is b, n-read read, few read), rw (start-is b) stand)))
 
-read-rest-requires : tie.Need-read-rest-requires
-read-rest-requires c κs = (begin (told c) .pre .0, strings c)
-
 returns : tie.Need-returns
 returns c = c .read-rest .ensures ∙ sym (body-rest (versionOf (begin (told (c .before)))) _ _ (strings (c .before)))
 
@@ -110,4 +99,4 @@ pub read-body-spec : {M : Type 1} → statement M
 read-body-spec =
     tie.close (tie.spec
     field-at-requires (λ c. search needs) string-lines-check-requires (λ c. search needs) plan-in-requires
-    read-rest-requires (λ c. search needs) (λ c κs. search needs) returns returns-2)
+    (λ c κs. (begin (told c) .pre .0, strings c)) (λ c. search needs) (λ c κs. search needs) returns returns-2)

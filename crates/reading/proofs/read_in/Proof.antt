@@ -1,16 +1,10 @@
 -- `reading::read_in` meets its contract: the length decides first, then the first line, then the body.
-use Prim.Native.Nat.{ℕ}
-use mathlib.Core.Path.{_≡_, sym, _∙_}
-use mathlib.Core.List.{List}
-use native.Mathlib.Omega.{arith}
-use borrow.Author.Needs.{needs}
+use Rattle.base.proofs.Prelude.{ℕ, _≡_, sym, _∙_, List, arith, needs}
 use Rattle.faults.specs.declared.Checked.the-variants.{Lawful}
-use Rattle.rules.specs.Layout.{Version}
-use Rattle.rules.specs.Text.{headerCheck}
-use Rattle.layouts.specs.Versions.{meantBy}
-use Rattle.reading.specs.Positions.{lineAt}
-use Rattle.reading.proofs.Whole.{header-read, read-long, read-empty, read-refused, read-body}
-use Rattle.reading.proofs.read_in.Statement.{statement}
+use Rattle.rules.specs.{Layout.Version, Text.headerCheck}
+use Rattle.layouts.specs.inner.Versions.{meantBy}
+use Rattle.reading.specs.inner.Positions.{lineAt}
+use Rattle.reading.proofs.{Whole.{header-read, read-long, read-empty, read-refused, read-body}, read_in.Statement.statement}
 use Rattle.reading.proofs.read_in.Tie as tie
 
 abbrev start : tie.After-header-check → tie.Start

@@ -1,19 +1,10 @@
 -- `reading::read_list` meets its contract: frames first, then the first unlawful release, then what ended the frames.
-use Prim.Native.Nat.{ℕ, _+_, _*_, _≤_}
-use mathlib.Core.Path.{_≡_, sym, ap, _∙_}
-use mathlib.Core.List.{List}
-use native.Mathlib.Omega.{arith}
-use borrow.Author.Needs.{needs}
-use Rattle.rules.specs.declared.Releases.{Releases}
-use Rattle.rules.specs.Release.{releasesOf, firstUnlawful}
-use Rattle.rules.specs.Layout.{Version, frameSize, releaseFrame}
-use Rattle.layouts.specs.Versions.{meantBy}
+use Rattle.base.proofs.Prelude.{ℕ, _+_, _*_, _≤_, _≡_, sym, ap, _∙_, List, arith, needs}
+use Rattle.rules.specs.{declared.Releases.Releases, Release.{releasesOf, firstUnlawful}, Layout.{Version, frameSize, releaseFrame}}
+use Rattle.layouts.specs.inner.Versions.{meantBy}
 use Rattle.layouts.proofs.Versions.{header-line, header-line-short, string-line, string-line-short, ten-short}
-use Rattle.reading.specs.declared.Framed.{Framed}
-use Rattle.reading.specs.Positions.{linesFrom, Stand, framesIn, releasesAt, releaseList}
-use Rattle.reading.proofs.Whole.{framed, strings-few, start-inside, framed-few, framed-stand, unlawful-few}
-use Rattle.reading.proofs.Whole.{list-unlawful, list-refused, list-lawful}
-use Rattle.reading.proofs.read_list.Statement.{statement}
+use Rattle.reading.specs.{declared.Framed.Framed, inner.Positions.{linesFrom, Stand, framesIn, releasesAt, releaseList}}
+use Rattle.reading.proofs.{Whole.{framed, strings-few, start-inside, framed-few, framed-stand, unlawful-few, list-unlawful, list-refused, releases-lawful}, read_list.Statement.statement}
 use Rattle.reading.proofs.read_list.Tie as tie
 
 abbrev textOf : tie.Start → List ℕ
@@ -74,15 +65,6 @@ unlawfulOf b rs = firstUnlawful (b .args .p) (releasesOf rs)
 found-is : (c : tie.After-first-unlawful) → c .first-unlawful .result ≡ unlawfulOf (begin (frames c)) (listOf (begin (frames c)))
 found-is c = c .first-unlawful .ensures ∙ ap (unlawfulOf (begin (frames c))) (list-is (c .before))
 
-mul-start : tie.Need-mul-start
-mul-start c = omega (arith, near (c .before .before))
-
-add-start : tie.Need-add-start
-add-start c = omega (arith, start-low (c .before .before .before))
-
-add-release-frames : tie.Need-add-release-frames
-add-release-frames c = omega (arith, few (c .before .before .before))
-
 release-frames-requires : tie.Need-release-frames-requires
 release-frames-requires c κs =
     let b = c .before .before .before in
@@ -96,9 +78,6 @@ releases-in-requires : tie.Need-releases-in-requires
 releases-in-requires c κs =
     let b = begin c in
     (b .pre .0, ((start-low b, rw (count-is c) (framed-few (versionOf b) _ _ (b .pre .1))), rw (count-is c) (stand b)))
-
-add-refusal : tie.Need-add-refusal
-add-refusal c = omega (arith, few (begin (frames (c .before))))
 
 add-refusal-2 : tie.Need-add-refusal-2
 add-refusal-2 c =
@@ -118,7 +97,7 @@ returns-2 c =
     let ended = ap (λ (r : Framed). r .checked) (frames-are (frames found)) in
     let none : 0 ≡ found .first-unlawful .result = omega arith in
     rw (list-is (found .before))
-    (sym (list-lawful (versionOf b) _ _ (b .pre .1) (none ∙ found-is found) (sym ended ∙ c .enum-told .given .1)))
+    (sym (releases-lawful (versionOf b) _ _ (b .pre .1) (none ∙ found-is found) (sym ended ∙ c .enum-told .given .1)))
 
 returns-3 : tie.Need-returns-3
 returns-3 c =
@@ -133,6 +112,7 @@ returns-3 c =
 pub read-list-spec : {M : Type 1} → statement M
 read-list-spec =
     tie.close (tie.spec
-    mul-start add-start add-release-frames release-frames-requires releases-in-requires (λ c κs. search needs)
-    add-refusal add-refusal-2 (λ c κs. search needs) returns (λ c. search needs) (λ c. search needs)
-    (λ c κs. search needs) returns-2 returns-3)
+    (λ c. omega (arith, near (c .before .before))) (λ c. omega (arith, start-low (c .before .before .before)))
+    (λ c. omega (arith, few (c .before .before .before))) release-frames-requires releases-in-requires
+    (λ c κs. search needs) (λ c. omega (arith, few (begin (frames (c .before))))) add-refusal-2 (λ c κs. search needs)
+    returns (λ c. search needs) (λ c. search needs) (λ c κs. search needs) returns-2 returns-3)

@@ -1,11 +1,8 @@
 -- `reading::read_rest` meets its contract: H decides first, then the release lines.
-use mathlib.Core.Path.{sym, _∙_}
-use native.Mathlib.Omega.{arith}
-use borrow.Author.Needs.{needs}
+use Rattle.base.proofs.Prelude.{sym, _∙_, arith, needs}
 use Rattle.rules.specs.Layout.{Version}
-use Rattle.layouts.specs.Versions.{meantBy}
-use Rattle.reading.proofs.Whole.{strings-few, rest-list, rest-refused}
-use Rattle.reading.proofs.read_rest.Statement.{statement}
+use Rattle.layouts.specs.inner.Versions.{meantBy}
+use Rattle.reading.proofs.{Whole.{strings-few, rest-list, rest-refused}, read_rest.Statement.statement}
 use Rattle.reading.proofs.read_rest.Tie as tie
 
 abbrev begin : tie.After-multiple-check → tie.Start
@@ -18,9 +15,6 @@ add-multiple-check : tie.Need-add-multiple-check
 add-multiple-check c =
     let b = c .before .before in
     omega (arith, strings-few (versionOf b) _ _ (b .pre .1))
-
-read-list-requires : tie.Need-read-list-requires
-read-list-requires c κs = begin (c .before .before) .pre
 
 returns : tie.Need-returns
 returns c =
@@ -41,5 +35,5 @@ returns-2 c =
 pub read-rest-spec : {M : Type 1} → statement M
 read-rest-spec =
     tie.close (tie.spec
-    add-multiple-check (λ c κs. search needs) (λ c. search needs) read-list-requires (λ c. search needs)
-    (λ c κs. search needs) returns returns-2)
+    add-multiple-check (λ c κs. search needs) (λ c. search needs) (λ c κs. begin (c .before .before) .pre)
+    (λ c. search needs) (λ c κs. search needs) returns returns-2)

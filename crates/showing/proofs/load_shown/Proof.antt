@@ -1,11 +1,9 @@
 -- `showing::load_shown` meets its contract: the figures say H and the load, or the refusal.
-use mathlib.Core.Path.{ap, _∙_}
-use borrow.Author.Needs.{needs}
+use Rattle.base.proofs.Prelude.{ap, _∙_, needs}
 use Rattle.faults.specs.declared.Checked.the-variants.{Lawful}
 use Rattle.lines.specs.Pages.{pageOf}
 use Rattle.showing.specs.Shown.{loadShown}
-use Rattle.showing.proofs.Figured.{checked-is, load-is}
-use Rattle.showing.proofs.load_shown.Statement.{statement}
+use Rattle.showing.proofs.{Figured.{checked-is, load-is}, load_shown.Statement.statement}
 use Rattle.showing.proofs.load_shown.Tie as tie
 
 returns : tie.Need-returns

@@ -1,6 +1,5 @@
 -- `showing::plan_shown` meets its contract: the check decides between the line and the refusal's.
-use mathlib.Core.Path.{sym, _∙_}
-use borrow.Author.Needs.{needs}
+use Rattle.base.proofs.Prelude.{sym, _∙_, needs}
 use Rattle.showing.specs.Shown.{planShown}
 use Rattle.showing.proofs.plan_shown.Statement.{statement}
 use Rattle.showing.proofs.plan_shown.Tie as tie

@@ -1,5 +1,5 @@
 -- `showing::refused` meets its contract: the line of an answer that is a refusal.
-use borrow.Author.Needs.{needs}
+use Rattle.base.proofs.Prelude.{needs}
 use Rattle.rules.specs.Lines.{linesFor}
 use Rattle.showing.proofs.refused.Statement.{statement}
 use Rattle.showing.proofs.refused.Tie as tie

@@ -1,11 +1,7 @@
 -- `showing::release_shown` meets its contract: the release stands below the count and in the list.
-use mathlib.Core.Path.{_≡_, ap, _∙_}
-use native.Mathlib.Omega.{arith}
-use borrow.Author.Needs.{needs}
-use lib.ListN.{length, length-map}
+use Rattle.base.proofs.Prelude.{_≡_, ap, _∙_, arith, needs, length, length-map}
 use Rattle.lines.specs.Pages.{pageOf}
-use Rattle.showing.proofs.InPlace.{blank-shown, release-none, release-there}
-use Rattle.showing.proofs.release_shown.Statement.{statement}
+use Rattle.showing.proofs.{InPlace.{blank-shown, release-none, release-there}, release_shown.Statement.statement}
 use Rattle.showing.proofs.release_shown.Tie as tie
 
 returns : tie.Need-returns

@@ -1,15 +1,9 @@
 -- `showing::string_in` meets its contract: the string and its E stand at one place.
-use Prim.Native.Nat.{_-_, _≤_}
-use mathlib.Core.Path.{_≡_, ap, _∙_}
-use native.Mathlib.Omega.{arith}
-use borrow.Author.Needs.{needs}
-use lib.ListN.{length, getD, length-map}
+use Rattle.base.proofs.Prelude.{_-_, _≤_, _≡_, ap, _∙_, arith, needs, length, getD, length-map}
 use Rattle.rules.specs.Plan.{noString}
-use Rattle.lines.specs.Pages.{pageOf}
-use Rattle.lines.specs.Shown.{stringLine}
+use Rattle.lines.specs.{Pages.pageOf, Shown.stringLine}
 use Rattle.laws.proofs.Lawful.{planCheck-lawful}
-use Rattle.showing.proofs.InPlace.{blank-shown, string-none, string-there}
-use Rattle.showing.proofs.string_in.Statement.{statement}
+use Rattle.showing.proofs.{InPlace.{blank-shown, string-none, string-there}, string_in.Statement.statement}
 use Rattle.showing.proofs.string_in.Tie as tie
 
 returns : tie.Need-returns

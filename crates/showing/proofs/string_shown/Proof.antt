@@ -1,9 +1,8 @@
 -- `showing::string_shown` meets its contract: the figures say E by place, or the refusal.
-use borrow.Author.Needs.{needs}
+use Rattle.base.proofs.Prelude.{needs}
 use Rattle.faults.specs.declared.Checked.the-variants.{Lawful}
 use Rattle.showing.specs.Shown.{stringShown}
-use Rattle.showing.proofs.Figured.{checked-is, holds-are}
-use Rattle.showing.proofs.string_shown.Statement.{statement}
+use Rattle.showing.proofs.{Figured.{checked-is, holds-are}, string_shown.Statement.statement}
 use Rattle.showing.proofs.string_shown.Tie as tie
 
 string-in-requires : tie.Need-string-in-requires

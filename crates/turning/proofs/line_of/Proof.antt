@@ -1,7 +1,5 @@
 -- `line_of` meets its contract.
-use mathlib.Core.Path.{sym}
-use borrow.Author.Needs.{needs}
-use borrow.Author.Tests.{eq-eqb, ne-eqb}
+use Rattle.base.proofs.Prelude.{sym, needs, eq-eqb, ne-eqb}
 use Rattle.turning.specs.Turned.{lineOf}
 use Rattle.turning.proofs.line_of.Statement.{statement}
 use Rattle.turning.proofs.line_of.Tie as tie

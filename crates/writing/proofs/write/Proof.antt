@@ -1,6 +1,5 @@
 -- `write` meets its contract: the constants of the version are the definitions'.
-use mathlib.Core.Path.{refl}
-use borrow.Author.Needs.{needs}
+use Rattle.base.proofs.Prelude.{refl, needs}
 use Rattle.rules.specs.Layout.{heldTo}
 use Rattle.writing.proofs.write.Statement.{statement}
 use Rattle.writing.proofs.write.Tie as tie

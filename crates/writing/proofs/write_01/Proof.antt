@@ -1,6 +1,5 @@
 -- `write_01` meets its contract: the constants of the version are the definitions'.
-use mathlib.Core.Path.{refl}
-use borrow.Author.Needs.{needs}
+use Rattle.base.proofs.Prelude.{refl, needs}
 use Rattle.rules.specs.Layout.{heldTo}
 use Rattle.writing.proofs.write_01.Statement.{statement}
 use Rattle.writing.proofs.write_01.Tie as tie

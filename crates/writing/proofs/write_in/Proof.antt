@@ -1,11 +1,9 @@
 -- `write_in` meets its contract: the check decides, then the writer of plans that the version can say.
-use mathlib.Core.Path.{_≡_, sym, _∙_}
-use borrow.Author.Needs.{needs}
+use Rattle.base.proofs.Prelude.{_≡_, sym, _∙_, needs}
 use Rattle.faults.specs.declared.Checked.the-variants.{Lawful}
-use Rattle.layouts.specs.Versions.{meantBy}
+use Rattle.layouts.specs.inner.Versions.{meantBy}
 use Rattle.writing.specs.Saved.{writableCheck}
-use Rattle.writing.proofs.Saving.{saved-refused}
-use Rattle.writing.proofs.write_in.Statement.{statement}
+use Rattle.writing.proofs.{Saving.saved-refused, write_in.Statement.statement}
 use Rattle.writing.proofs.write_in.Tie as tie
 
 -- where the function starts, from the lawful arm of the check
@@ -15,12 +13,6 @@ start c = c .before .before .before .before
 -- what the check said
 lawful : (c : tie.After-enum-told) → writableCheck (meantBy (start c .args .version)) (start c .args .p) (start c .args .rs) ≡ Lawful
 lawful c = sym (c .before .before .writable-check .ensures) ∙ c .enum-told .given .1
-
-write-lawful-requires : tie.Need-write-lawful-requires
-write-lawful-requires c κs = (start (c .before) .pre, lawful (c .before))
-
-returns : tie.Need-returns
-returns c = c .before .before .write-lawful .ensures
 
 returns-2 : tie.Need-returns-2
 returns-2 c =
@@ -34,5 +26,5 @@ returns-2 c =
 pub write-in-spec : {M : Type 1} → statement M
 write-in-spec =
     tie.close (tie.spec
-    (λ c κs. search needs) (λ c. search needs) write-lawful-requires (λ c. search needs) (λ c. search needs) returns
-    returns-2)
+    (λ c κs. search needs) (λ c. search needs) (λ c κs. (start (c .before) .pre, lawful (c .before)))
+    (λ c. search needs) (λ c. search needs) (λ c. c .before .before .write-lawful .ensures) returns-2)

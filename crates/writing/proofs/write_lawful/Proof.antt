@@ -1,16 +1,10 @@
 -- `write_lawful` meets its contract: the room decides; where there is room, the part from the place on comes back with the text ahead.
-use Prim.Native.Nat.{ℕ, _+_, _*_, _≤_}
-use mathlib.Core.Path.{_≡_, sym, ap}
-use native.Mathlib.Omega.{arith}
-use borrow.Author.Needs.{needs}
-use lib.ListN.{length, length-map}
+use Rattle.base.proofs.Prelude.{ℕ, _+_, _*_, _≤_, _≡_, sym, ap, arith, needs, length, length-map}
 use Rattle.rules.specs.Layout.{Version}
 use Rattle.laws.proofs.Releases.{runCheck-lawful}
-use Rattle.layouts.specs.Versions.{meantBy}
+use Rattle.layouts.specs.inner.Versions.{meantBy}
 use Rattle.layouts.proofs.Versions.{header-line, header-line-short, string-line, string-line-short, ten-short, release-line, release-line-short, thousand-short}
-use Rattle.writing.proofs.Rows.{longAs}
-use Rattle.writing.proofs.Saving.{writable-run, saved-beyond, saved-short, plan-fits, saved-written}
-use Rattle.writing.proofs.write_lawful.Statement.{statement}
+use Rattle.writing.proofs.{Rows.longAs, Saving.{writable-run, saved-beyond, saved-short, plan-fits, saved-written}, write_lawful.Statement.statement}
 use Rattle.writing.proofs.write_lawful.Tie as tie
 
 -- where the function starts
@@ -46,18 +40,6 @@ small s =
     let releases = thousand-short (s .args .rs .count) (version .release .line) (good .few) (release-line-short version (s .pre .0)) in
     omega (arith, header-line-short version (s .pre .0))
 
-mul-length : tie.Need-mul-length
-mul-length c = omega (arith, small (c .before .before))
-
-add-length : tie.Need-add-length
-add-length c = omega (arith, small (c .before .before .before))
-
-mul-length-2 : tie.Need-mul-length-2
-mul-length-2 c = omega (arith, small (start c))
-
-add-length-2 : tie.Need-add-length-2
-add-length-2 c = omega (arith, small (start c))
-
 returns : tie.Need-returns
 returns c =
     let s = start (c .before) in
@@ -91,5 +73,6 @@ returns-3 c =
 pub write-lawful-spec : {M : Type 1} → statement M
 write-lawful-spec =
     tie.close (tie.spec
-    mul-length add-length mul-length-2 add-length-2 returns (λ c. search needs) returns-2 (λ c. search needs)
-    (λ c. search needs) (λ c. search needs) put-plan-requires (λ c. search needs) returns-3)
+    (λ c. omega (arith, small (c .before .before))) (λ c. omega (arith, small (c .before .before .before)))
+    (λ c. omega (arith, small (start c))) (λ c. omega (arith, small (start c))) returns (λ c. search needs) returns-2
+    (λ c. search needs) (λ c. search needs) (λ c. search needs) put-plan-requires (λ c. search needs) returns-3)

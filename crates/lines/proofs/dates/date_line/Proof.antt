@@ -1,6 +1,5 @@
 -- `lines::dates::date_line` meets its contract: the line of the date that was read, or of its refusal.
-use mathlib.Core.Path.{refl, sym, _∙_}
-use borrow.Author.Needs.{needs}
+use Rattle.base.proofs.Prelude.{refl, sym, _∙_, needs}
 use Rattle.calendar.proofs.RoundTrip.{date-read-exists}
 use Rattle.lines.specs.Dates.{dateLineFor, dateLine}
 use Rattle.lines.proofs.dates.date_line.Statement.{statement}

@@ -1,17 +1,13 @@
 -- `lines::dates::numbered_line` meets its contract: a date that exists has a day number.
-use Prim.Native.Nat.{ℕ}
-use mathlib.Core.Path.{_≡_, sym, ap, _∙_}
-use native.Mathlib.Omega.{arith}
-use borrow.Author.Needs.{needs}
+use Rattle.base.proofs.Prelude.{ℕ, _≡_, sym, ap, _∙_, arith, needs}
 use Rattle.days.specs.declared.Day.{Day}
 use Rattle.rules.specs.Lines.{bytesOf, wordedIn}
 use Rattle.faults.specs.declared.Fault.{Fault}
 use Rattle.calendar.specs.declared.WhichDay.{WhichDay}
-use Rattle.calendar.specs.declared.WhichDay.the-variants as which-day
 use Rattle.calendar.proofs.Answers.{dayAnswer-is, dayAnswer-day}
-use Rattle.lines.specs.Dates.{numberedLine}
-use Rattle.lines.specs.Templates.{marked, takes, filledIn}
+use Rattle.lines.specs.{Dates.numberedLine, Templates.{marked, takes, filledIn}}
 use Rattle.lines.proofs.dates.numbered_line.Statement.{statement}
+use Rattle.calendar.specs.declared.WhichDay.the-variants as which-day
 use Rattle.lines.proofs.dates.numbered_line.Tie as tie
 
 returns : tie.Need-returns

@@ -1,6 +1,5 @@
 -- `lines::dates::refused` meets its contract: the template filled is the line.
-use mathlib.Core.Path.{sym}
-use borrow.Author.Needs.{needs}
+use Rattle.base.proofs.Prelude.{sym, needs}
 use Rattle.rules.specs.Lines.{bytesOf, wordedIn, refusedLine}
 use Rattle.lines.specs.Templates.{marked, takes, filledIn}
 use Rattle.lines.proofs.dates.refused.Statement.{statement}

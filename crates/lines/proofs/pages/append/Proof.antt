@@ -1,15 +1,9 @@
 -- `lines::pages::append` meets its contract: the page holds its text and what is copied so far.
-use Prim.Native.Nat.{ℕ, _+_, _-_, _≤_, _<_}
-use mathlib.Core.Path.{_≡_, sym, ap, _∙_}
-use mathlib.Core.List.{List, [], _++_, append-nil}
-use native.Mathlib.Omega.{arith}
-use lib.ListN.{length, getD, take, set, length-append}
+use Rattle.base.proofs.Prelude.{ℕ, _+_, _-_, _≤_, _<_, _≡_, sym, ap, _∙_, List, [], _++_, append-nil, arith, length, getD, take, set, length-append}
 use lib.Seq.{take-length}
-use Rattle.lists.specs.Count.{filled}
-use Rattle.lines.specs.declared.Page.{Page}
-use Rattle.lines.specs.Pages.{pageOf, textOf, Written}
-use Rattle.lines.proofs.Growing.{stored, bytes-are, len-is}
-use Rattle.lines.proofs.pages.append.Statement.{statement}
+use Rattle.base.specs.Count.{filled}
+use Rattle.lines.specs.{declared.Page.Page, Pages.{pageOf, textOf, Written}}
+use Rattle.lines.proofs.{Growing.{stored, bytes-are, len-is}, pages.append.Statement.statement}
 use Rattle.lines.proofs.pages.append.Tie as tie
 
 -- a page's bytes once i bytes of the text stand behind its own

@@ -1,16 +1,9 @@
 -- `lines::pages::append_number` meets its contract: the digits of what is left, and those stored, are the digits of the number.
-use Prim.Native.Nat.{ℕ, _+_, _-_, _^_, _≤_, _<_}
-use mathlib.Core.Path.{_≡_, refl, sym, ap, _∙_}
-use mathlib.Core.List.{List, _++_, append-nil}
-use native.Mathlib.Omega.{arith}
-use borrow.Author.Needs.{needs}
-use lib.ListN.{length, take, drop, set, length-set, length-drop}
-use lib.Seq.{take-all}
-use Rattle.lists.proofs.Digits.{digits-room}
+use Rattle.base.proofs.Prelude.{ℕ, _+_, _-_, _^_, _≤_, _<_, _≡_, refl, sym, ap, _∙_, List, _++_, append-nil, arith, needs, length, take, drop, set, length-set, length-drop, take-all}
+use Rattle.base.proofs.Digits.{digits-room}
 use Rattle.rules.specs.Lines.{decimal}
 use Rattle.lines.specs.Pages.{pageOf, textOf}
-use Rattle.lines.proofs.Digits.{digits-more, digits-all}
-use Rattle.lines.proofs.pages.append_number.Statement.{statement}
+use Rattle.lines.proofs.{Digits.{digits-more, digits-all}, pages.append_number.Statement.statement}
 use Rattle.lines.proofs.pages.append_number.Tie as tie
 
 -- the part that is lent is all that stands from a place on

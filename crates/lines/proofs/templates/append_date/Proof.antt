@@ -1,18 +1,11 @@
 -- `lines::templates::append_date` meets its contract: the calendar has a date for the day, or nothing is written.
-use mathlib.Core.Path.{_≡_, sym, _∙_}
-use mathlib.Core.List.{_++_, append-nil}
-use native.Mathlib.Omega.{arith}
-use borrow.Author.Needs.{needs}
-use Prim.Native.Nat.{ℕ}
+use Rattle.base.proofs.Prelude.{_≡_, sym, _∙_, _++_, append-nil, arith, needs, ℕ}
 use Rattle.faults.specs.declared.Fault.{Fault}
 use Rattle.calendar.specs.declared.WhichDate.{WhichDate}
-use Rattle.calendar.specs.declared.WhichDate.the-variants as which-date
 use Rattle.calendar.proofs.Answers.{dateAnswer-refused, dateAnswer-exists}
-use Rattle.lines.specs.declared.Page.{Page}
-use Rattle.lines.specs.Pages.{pageOf, textOf, Written}
-use Rattle.lines.specs.Templates.{dateFor}
-use Rattle.lines.proofs.Growing.{own}
-use Rattle.lines.proofs.templates.append_date.Statement.{statement}
+use Rattle.lines.specs.{declared.Page.Page, Pages.{pageOf, textOf, Written}, Templates.dateFor}
+use Rattle.lines.proofs.{Growing.own, templates.append_date.Statement.statement}
+use Rattle.calendar.specs.declared.WhichDate.the-variants as which-date
 use Rattle.lines.proofs.templates.append_date.Tie as tie
 
 -- where there is no date
@@ -20,9 +13,6 @@ kept : (page : Page) (date : WhichDate) (f : Fault) (at : ℕ) → Written page 
     → page ≡ pageOf (textOf page ++ dateFor date)
 unfolding dateFor
 kept page date f at w e = rw (e, append-nil (textOf page)) (own page w)
-
-returns : tie.Need-returns
-returns c = kept _ _ _ _ (c .before .pre .0) (dateAnswer-refused _ (omega arith))
 
 append-text-requires : tie.Need-append-text-requires
 append-text-requires c κs =
@@ -44,5 +34,5 @@ returns-3 c =
 pub append-date-spec : {M : Type 1} → statement M
 append-date-spec =
     tie.close (tie.spec
-    returns (λ c. search needs) (λ c κs. search needs) (λ c. search needs) append-text-requires (λ c. search needs) returns-2
-    returns-3)
+    (λ c. kept _ _ _ _ (c .before .pre .0) (dateAnswer-refused _ (omega arith))) (λ c. search needs)
+    (λ c κs. search needs) (λ c. search needs) append-text-requires (λ c. search needs) returns-2 returns-3)

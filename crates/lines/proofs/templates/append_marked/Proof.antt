@@ -1,6 +1,5 @@
 -- `lines::templates::append_marked` meets its contract: the tests are the definition's, in its order.
-use borrow.Author.Needs.{needs}
-use borrow.Author.Tests.{eq-eqb, ne-eqb}
+use Rattle.base.proofs.Prelude.{needs, eq-eqb, ne-eqb}
 use Rattle.lines.specs.Templates.{marked}
 use Rattle.lines.proofs.templates.append_marked.Statement.{statement}
 use Rattle.lines.proofs.templates.append_marked.Tie as tie

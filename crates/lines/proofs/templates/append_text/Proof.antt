@@ -1,13 +1,7 @@
 -- `lines::templates::append_text` meets its contract: the text of a date that exists.
-use mathlib.Core.Path.{_≡_, ap, _∙_}
-use mathlib.Core.List.{_++_}
-use native.Mathlib.Omega.{arith}
-use borrow.Author.Needs.{needs}
-use lib.ListN.{length}
-use Rattle.calendar.specs.declared.DateText.{DateText}
-use Rattle.calendar.specs.Texts.{dateText}
-use Rattle.calendar.proofs.Texts.{dateWriting-is}
-use Rattle.calendar.proofs.RoundTrip.{dateText-ten}
+use Rattle.base.proofs.Prelude.{_≡_, ap, _∙_, _++_, arith, needs, length}
+use Rattle.calendar.specs.{declared.DateText.DateText, Texts.dateText}
+use Rattle.calendar.proofs.{Texts.dateWriting-is, RoundTrip.dateText-ten}
 use Rattle.lines.specs.Pages.{pageOf, textOf}
 use Rattle.lines.proofs.templates.append_text.Statement.{statement}
 use Rattle.lines.proofs.templates.append_text.Tie as tie

@@ -1,14 +1,9 @@
 -- `lines::templates::append_weekday` meets its contract: the names stand in the order of the weekdays.
-use Prim.Native.Nat.{_+_, _-_, _*_, _%_}
-use mathlib.Core.Path.{_≡_, ap, _∙_}
-use mathlib.Core.List.{_++_}
-use native.Mathlib.Omega.{arith}
-use borrow.Author.Needs.{needs}
+use Rattle.base.proofs.Prelude.{_+_, _-_, _*_, _%_, _≡_, ap, _∙_, _++_, arith, needs}
 use Rattle.rules.specs.Lines.{bytesOf}
 use Rattle.calendar.specs.Weekdays.{weekdayOf}
 use Rattle.lines.specs.Pages.{pageOf, textOf}
-use Rattle.lines.proofs.Filled.{name-at}
-use Rattle.lines.proofs.templates.append_weekday.Statement.{statement}
+use Rattle.lines.proofs.{Filled.name-at, templates.append_weekday.Statement.statement}
 use Rattle.lines.proofs.templates.append_weekday.Tie as tie
 
 returns : tie.Need-returns

@@ -1,15 +1,7 @@
 -- `lines::templates::fill_in` meets its contract: what is filled so far, with what is left of the template and the numbers, is the whole.
-use Prim.Native.Nat.{_+_, _-_, _*_, _≤_}
-use mathlib.Core.Path.{_≡_, refl}
-use mathlib.Core.List.{_++_}
-use native.Mathlib.Omega.{arith}
-use lib.ListN.{length, getD, drop, length-take}
-use Rattle.lines.specs.Pages.{textOf, Written}
-use Rattle.lines.specs.Templates.{filledIn}
-use Rattle.lines.proofs.Digits.{decimal-64}
-use Rattle.lines.proofs.Growing.{own, written, len-more}
-use Rattle.lines.proofs.Filled.{marked-short, takes-most, filled-more, filled-used, filled-whole}
-use Rattle.lines.proofs.templates.fill_in.Statement.{statement}
+use Rattle.base.proofs.Prelude.{_+_, _-_, _*_, _≤_, _≡_, refl, _++_, arith, length, getD, drop, length-take}
+use Rattle.lines.specs.{Pages.{textOf, Written}, Templates.filledIn}
+use Rattle.lines.proofs.{Digits.decimal-64, Growing.{own, written, len-more}, Filled.{marked-short, takes-most, filled-more, filled-used, filled-whole}, templates.fill_in.Statement.statement}
 use Rattle.lines.proofs.templates.fill_in.Tie as tie
 
 abbrev Inv-loop : tie.InvT-loop
@@ -44,9 +36,6 @@ returns c =
           (omega arith) (c .append .ensures),
       omega (arith, length-take (length text - at .loop .at) (drop (at .loop .at) text)),
     )
-
-append-marked-requires : tie.Need-append-marked-requires Inv-loop μ-loop
-append-marked-requires c κs = (c .before .before .before .before .loop .inv .kept, omega arith)
 
 -- a mark takes one number
 add-next : tie.Need-add-next Inv-loop μ-loop
@@ -88,6 +77,7 @@ returns-2 c =
 pub fill-in-spec : {M : Type 1} → statement M
 fill-in-spec =
     tie.close (tie.spec
-    Inv-loop μ-loop loop-holds (λ c. omega arith) (λ c. omega arith) (λ c. omega arith) append-requires returns (λ c. omega arith)
-    (λ c. omega arith) (λ c. omega arith) append-marked-requires (λ c κs. tt) add-next (λ c. omega arith) (λ c. omega arith)
-    loop-again returns-2)
+    Inv-loop μ-loop loop-holds (λ c. omega arith) (λ c. omega arith) (λ c. omega arith) append-requires returns
+    (λ c. omega arith) (λ c. omega arith) (λ c. omega arith)
+    (λ c κs. (c .before .before .before .before .loop .inv .kept, omega arith)) (λ c κs. tt) add-next (λ c. omega arith)
+    (λ c. omega arith) loop-again returns-2)

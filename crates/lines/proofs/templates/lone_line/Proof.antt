@@ -1,13 +1,7 @@
 -- `lines::templates::lone_line` meets its contract: a template filled on a blank page.
-use mathlib.Core.List.{[]}
-use native.Mathlib.Omega.{arith}
-use borrow.Author.Needs.{needs}
-use Rattle.lines.proofs.Growing.{written, len-is, grown, within}
-use Rattle.lines.proofs.templates.lone_line.Statement.{statement}
+use Rattle.base.proofs.Prelude.{[], arith, needs}
+use Rattle.lines.proofs.{Growing.{written, len-is, grown, within}, templates.lone_line.Statement.statement}
 use Rattle.lines.proofs.templates.lone_line.Tie as tie
-
-fill-in-requires : tie.Need-fill-in-requires
-fill-in-requires c κs = (written _ [] (c .blank .ensures), omega (arith, len-is _ [] (c .blank .ensures)))
 
 returns : tie.Need-returns
 returns c =
@@ -15,4 +9,7 @@ returns c =
     (is, within _ _ is)
 
 pub lone-line-spec : {M : Type 1} → statement M
-lone-line-spec = tie.close (tie.spec (λ c κs. search needs) fill-in-requires returns)
+lone-line-spec =
+    tie.close (tie.spec
+    (λ c κs. search needs) (λ c κs. (written _ [] (c .blank .ensures), omega (arith, len-is _ [] (c .blank .ensures))))
+    returns)

@@ -1,5 +1,5 @@
 -- `lines::templates::takes_number` meets its contract: the tests are the definition's, in its order.
-use borrow.Author.Tests.{eq-eqb, ne-eqb}
+use Rattle.base.proofs.Prelude.{eq-eqb, ne-eqb}
 use Rattle.lines.specs.Templates.{takes}
 use Rattle.lines.proofs.templates.takes_number.Statement.{statement}
 use Rattle.lines.proofs.templates.takes_number.Tie as tie

@@ -1,10 +1,6 @@
 -- `reading::digits::byte_at` meets its contract: no digit is worth more than 16.
-use Prim.Native.Nat.{_+_}
-use native.Mathlib.Omega.{arith}
-use borrow.Author.Needs.{needs}
-use lib.ListN.{getD}
-use Rattle.reading.proofs.Hex.{digitOf-le}
-use Rattle.reading.proofs.digits.byte_at.Statement.{statement}
+use Rattle.base.proofs.Prelude.{_+_, arith, needs, getD}
+use Rattle.reading.proofs.{Hex.digitOf-le, digits.byte_at.Statement.statement}
 use Rattle.reading.proofs.digits.byte_at.Tie as tie
 
 mul-result : tie.Need-mul-result

@@ -1,13 +1,7 @@
 -- `reading::digits::digits_ahead` meets its contract: the digits passed and those ahead are all.
-use Prim.Native.Nat.{ℕ, _+_, _-_, _≤_}
-use mathlib.Core.Path.{_≡_}
-use mathlib.Core.List.{List}
-use native.Mathlib.Omega.{arith}
-use borrow.Author.Needs.{needs}
-use lib.ListN.{length, drop}
-use Rattle.reading.specs.Positions.{digitsAhead}
-use Rattle.reading.proofs.Hex.{ahead-next, ahead-stops, ahead-ends}
-use Rattle.reading.proofs.digits.digits_ahead.Statement.{statement}
+use Rattle.base.proofs.Prelude.{ℕ, _+_, _-_, _≤_, _≡_, List, arith, needs, length, drop}
+use Rattle.reading.specs.inner.Positions.{digitsAhead}
+use Rattle.reading.proofs.{Hex.{ahead-next, ahead-stops, ahead-ends}, digits.digits_ahead.Statement.statement}
 use Rattle.reading.proofs.digits.digits_ahead.Tie as tie
 
 abbrev Inv-loop : tie.InvT-loop

@@ -1,14 +1,7 @@
 -- `reading::frames::frame_check` meets its contract: its form decides first, then its size, then its kind.
-use Prim.Native.Nat.{_/_}
-use mathlib.Core.Path.{_≡_, sym, ap, _∙_}
-use native.Mathlib.Omega.{arith}
-use borrow.Author.Tests.{not-true, not-false}
-use borrow.Author.Needs.{needs}
-use lib.ListN.{drop}
-use Rattle.reading.specs.Positions.{digitsAhead}
-use Rattle.reading.proofs.Lines.{Formed, formed-is}
-use Rattle.reading.proofs.Framing.{check-malformed, check-size, check-kind, check-good}
-use Rattle.reading.proofs.frames.frame_check.Statement.{statement}
+use Rattle.base.proofs.Prelude.{_/_, _≡_, sym, ap, _∙_, arith, not-true, not-false, needs, drop}
+use Rattle.reading.specs.inner.Positions.{digitsAhead}
+use Rattle.reading.proofs.{Lines.{Formed, formed-is}, Framing.{check-malformed, check-size, check-kind, check-good}, frames.frame_check.Statement.statement}
 use Rattle.reading.proofs.frames.frame_check.Tie as tie
 
 abbrev start : tie.After-digits-ahead → tie.Start

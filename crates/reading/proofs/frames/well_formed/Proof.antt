@@ -1,12 +1,6 @@
 -- `reading::frames::well_formed` meets its contract: each test that ends it denies a part of a well-formed line.
-use Prim.Native.Nat.{_+_}
-use mathlib.Core.Path.{sym, ap, _∙_}
-use native.Mathlib.Omega.{arith}
-use borrow.Author.Needs.{needs}
-use lib.ListN.{getD, drop, length-drop}
-use Rattle.reading.proofs.Hex.{digitsAhead-fits}
-use Rattle.reading.proofs.Lines.{formed-not, formed-even}
-use Rattle.reading.proofs.frames.well_formed.Statement.{statement}
+use Rattle.base.proofs.Prelude.{_+_, sym, ap, _∙_, arith, needs, getD, drop, length-drop}
+use Rattle.reading.proofs.{Hex.digitsAhead-fits, Lines.{formed-not, formed-even}, frames.well_formed.Statement.statement}
 use Rattle.reading.proofs.frames.well_formed.Tie as tie
 
 add-end : tie.Need-add-end

@@ -1,16 +1,13 @@
 -- `reading::header::header_check` meets its contract: the frame decides first, then its numbers.
-use mathlib.Core.Path.{_≡_, sym, ap, _∙_}
-use borrow.Author.Needs.{needs}
+use Rattle.base.proofs.Prelude.{_≡_, sym, ap, _∙_, needs}
 use Rattle.faults.specs.declared.Checked.the-variants.{Lawful}
 use Rattle.faults.proofs.Checks.{then-lawful, then-refused}
-use Rattle.rules.specs.Layout.{Version, headerFrame}
-use Rattle.rules.specs.Text.{Line, headerCheck, frameCheck, layoutCheck}
-use Rattle.layouts.specs.declared.Layout as code
-use Rattle.layouts.specs.Versions.{meantBy}
+use Rattle.rules.specs.{Layout.{Version, headerFrame}, Text.{Line, headerCheck, frameCheck, layoutCheck}}
+use Rattle.layouts.specs.inner.Versions.{meantBy}
 use Rattle.layouts.proofs.Versions.{header-known}
-use Rattle.reading.specs.Positions.{lineAt}
-use Rattle.reading.proofs.Framing.{frameCheck-frame}
-use Rattle.reading.proofs.header.header_check.Statement.{statement}
+use Rattle.reading.specs.inner.Positions.{lineAt}
+use Rattle.reading.proofs.{Framing.frameCheck-frame, header.header_check.Statement.statement}
+use Rattle.layouts.specs.declared.Layout as code
 use Rattle.reading.proofs.header.header_check.Tie as tie
 
 abbrev start : tie.After-frame-check → tie.Start
@@ -31,9 +28,6 @@ framed c =
 lawful : (c : tie.After-enum-told) → layoutCheck 1 (headerFrame (versionOf (c .before .before))) (lineOf (c .before .before)) ≡ Lawful
 lawful c = sym (framed (c .before .before)) ∙ c .enum-told .given .1
 
-numbers-check-requires : tie.Need-numbers-check-requires
-numbers-check-requires c κs = (start (c .before .before) .pre, frameCheck-frame _ 0 1 _ _ (lawful c))
-
 returns : tie.Need-returns
 unfolding headerCheck
 returns c = c .numbers-check .ensures ∙ sym (then-lawful _ _ (lawful (c .before)))
@@ -47,4 +41,6 @@ returns-2 c =
 pub header-check-spec : {M : Type 1} → statement M
 header-check-spec =
     tie.close (tie.spec
-    (λ c κs. search needs) (λ c. search needs) numbers-check-requires (λ c. search needs) returns returns-2)
+    (λ c κs. search needs) (λ c. search needs)
+    (λ c κs. (start (c .before .before) .pre, frameCheck-frame _ 0 1 _ _ (lawful c))) (λ c. search needs) returns
+    returns-2)

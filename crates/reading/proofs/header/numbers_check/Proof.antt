@@ -1,19 +1,12 @@
 -- `reading::header::numbers_check` meets its contract: the version decides first, then n and N, then the moving cost of all strings.
-use Prim.Native.Nat.{ℕ}
-use mathlib.Core.Path.{_≡_, sym, ap, _∙_}
-use mathlib.Core.List.{List}
-use native.Mathlib.Omega.{arith}
-use borrow.Author.Needs.{needs}
+use Rattle.base.proofs.Prelude.{ℕ, _≡_, sym, ap, _∙_, List, arith, needs}
 use Rattle.faults.specs.Checks.{then}
 use Rattle.faults.proofs.Checks.{then-lawful, then-refused}
-use Rattle.rules.specs.Layout.{Version, Number, Count, Common, Run, headerFrame}
-use Rattle.rules.specs.Text.{Line, nIn, aIn, runIn, fieldOf}
-use Rattle.rules.specs.Refusal.{headCheck, costCheck}
-use Rattle.layouts.specs.Versions.{meantBy}
+use Rattle.rules.specs.{Layout.{Version, Number, Count, Common, Run, headerFrame}, Text.{Line, nIn, aIn, runIn, fieldOf}, Refusal.{headCheck, costCheck}}
+use Rattle.layouts.specs.inner.Versions.{meantBy}
 use Rattle.layouts.proofs.Versions.{number-place, count-place, number-known, common-known, run-known, common-small, run-small}
-use Rattle.reading.specs.Positions.{lineAt, headerNumbers}
-use Rattle.reading.proofs.Said.{field-room, field-said, other-version, this-version}
-use Rattle.reading.proofs.header.numbers_check.Statement.{statement}
+use Rattle.reading.specs.inner.Positions.{lineAt, headerNumbers}
+use Rattle.reading.proofs.{Said.{field-room, field-said, number-elsewhere, this-version}, header.numbers_check.Statement.statement}
 use Rattle.reading.proofs.header.numbers_check.Tie as tie
 
 abbrev textOf : tie.Start → List ℕ
@@ -75,7 +68,7 @@ returns : tie.Need-returns
 returns c =
     let read = c .before .before in
     let s = start read in
-    sym (other-version (versionOf s) (lineOf s)
+    sym (number-elsewhere (versionOf s) (lineOf s)
     (λ same. c .if1 .taken (version-read read ∙ same ∙ sym (number-known (s .args .version) (s .pre .0)))))
 
 field-at-requires-2 : tie.Need-field-at-requires-2

@@ -1,14 +1,9 @@
 -- `reading::releases::release_at` meets its contract: place, day and need stand at the same positions in all versions.
-use Prim.Native.Nat.{ℕ}
-use mathlib.Core.Path.{_∙_}
-use native.Mathlib.Omega.{arith}
-use borrow.Author.Needs.{needs}
-use Rattle.rules.specs.Layout.{Layout, ReleaseField, releaseFrame, Place, Day, Need}
-use Rattle.rules.specs.Text.{releaseOf}
-use Rattle.layouts.specs.Versions.{meantBy}
+use Rattle.base.proofs.Prelude.{ℕ, _∙_, arith, needs}
+use Rattle.rules.specs.{Layout.{Layout, ReleaseField, releaseFrame, Place, Day, Need}, Text.releaseOf}
+use Rattle.layouts.specs.inner.Versions.{meantBy}
 use Rattle.layouts.proofs.Versions.{place-place, day-place, need-place}
-use Rattle.reading.proofs.Said.{field-room, field-said}
-use Rattle.reading.proofs.releases.release_at.Statement.{statement}
+use Rattle.reading.proofs.{Said.{field-room, field-said}, releases.release_at.Statement.statement}
 use Rattle.reading.proofs.releases.release_at.Tie as tie
 
 abbrev layoutOf : tie.Start → Layout ReleaseField

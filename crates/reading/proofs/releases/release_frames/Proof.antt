@@ -1,24 +1,13 @@
 -- `reading::releases::release_frames` meets its contract: the lines that are left, from the one reached on, give what all of them give.
-use Prim.Native.Nat.{ℕ, suc, _+_, _-_, _*_, _≤_}
-use mathlib.Core.Path.{_≡_, sym, ap, _∙_}
-use mathlib.Core.List.{List}
-use native.Mathlib.Omega.{arith}
-use native.Mathlib.Numerals.{add-one}
-use native.Mathlib.Nat.{zero-add, zero-mul, suc-mul}
-use borrow.Author.Needs.{needs}
-use lib.ListN.{length}
-use Rattle.faults.specs.declared.Checked.{Checked}
-use Rattle.faults.specs.declared.Checked.the-variants.{Lawful}
-use Rattle.rules.specs.Layout.{Layout, Version, ReleaseField, lineSize, releaseFrame}
-use Rattle.rules.specs.Text.{frameCheck, layoutCheck}
-use Rattle.layouts.specs.declared.Layout as code
-use Rattle.layouts.specs.Versions.{meantBy}
+use Rattle.base.proofs.Prelude.{ℕ, suc, _+_, _-_, _*_, _≤_, _≡_, sym, ap, _∙_, List, arith, add-one, zero-mul, suc-mul, needs, length}
+use native.Mathlib.Nat.{zero-add}
+use Rattle.faults.specs.{declared.Checked.Checked, declared.Checked.the-variants.Lawful}
+use Rattle.rules.specs.{Layout.{Layout, Version, ReleaseField, lineSize, releaseFrame}, Text.{frameCheck, layoutCheck}}
+use Rattle.layouts.specs.inner.Versions.{meantBy}
 use Rattle.layouts.proofs.Versions.{release-known, release-line, release-line-short, thousand-short}
-use Rattle.reading.specs.declared.Framed.{Framed}
-use Rattle.reading.specs.Positions.{linesFrom, lineAt, framesIn}
-use Rattle.reading.proofs.Framing.{frameCheck-frame}
-use Rattle.reading.proofs.ReleaseLines.{frames-none-at, frames-refused-at, frames-full-at, frames-next-at}
-use Rattle.reading.proofs.releases.release_frames.Statement.{statement}
+use Rattle.reading.specs.{declared.Framed.Framed, inner.Positions.{linesFrom, lineAt, framesIn}}
+use Rattle.reading.proofs.{Framing.frameCheck-frame, ReleaseLines.{frames-none-at, frames-refused-at, frames-full-at, frames-next-at}, releases.release_frames.Statement.statement}
+use Rattle.layouts.specs.declared.Layout as code
 use Rattle.reading.proofs.releases.release_frames.Tie as tie
 
 -- n frames stand ahead
@@ -118,12 +107,6 @@ loop-holds c =
       at-first (meantBy (g .version)) (g .text .now) step (g .start) (g .k),
     )
 
-mul-here : tie.Need-mul-here Inv-loop μ-loop
-mul-here c = omega (arith, near (reached c))
-
-add-here : tie.Need-add-here Inv-loop μ-loop
-add-here c = omega (arith, near (reached c), begin (reached c) .pre .1 .1)
-
 returns : tie.Need-returns Inv-loop μ-loop
 returns c =
     let o = reached (c .before) in
@@ -133,9 +116,6 @@ add-frame-check : tie.Need-add-frame-check Inv-loop μ-loop
 add-frame-check c =
     let o = reached (c .before) in
     omega (arith, o .loop .inv .0, begin o .pre .1 .2)
-
-frame-check-requires : tie.Need-frame-check-requires Inv-loop μ-loop
-frame-check-requires c κs = reached (c .before) .loop .inv .1
 
 add-t15 : tie.Need-add-t15 Inv-loop μ-loop
 add-t15 c =
@@ -181,5 +161,7 @@ returns-3 c =
 pub release-frames-spec : {M : Type 1} → statement M
 release-frames-spec =
     tie.close (tie.spec
-    Inv-loop μ-loop loop-holds mul-here add-here returns add-frame-check frame-check-requires (λ c. search needs)
-    add-t15 returns-2 (λ c. omega arith) (λ c. omega arith) loop-again (λ c. search needs) returns-3)
+    Inv-loop μ-loop loop-holds (λ c. omega (arith, near (reached c)))
+    (λ c. omega (arith, near (reached c), begin (reached c) .pre .1 .1)) returns add-frame-check
+    (λ c κs. reached (c .before) .loop .inv .1) (λ c. search needs) add-t15 returns-2 (λ c. omega arith)
+    (λ c. omega arith) loop-again (λ c. search needs) returns-3)

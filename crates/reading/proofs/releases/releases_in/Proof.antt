@@ -1,18 +1,11 @@
 -- `reading::releases::releases_in` meets its contract: the list holds the releases read so far, and the filler behind them.
-use Prim.Native.Nat.{ℕ, _-_, _*_, _≤_}
-use mathlib.Core.Path.{_≡_}
-use mathlib.Core.List.{List, map}
-use native.Mathlib.Omega.{arith}
-use Rattle.lists.specs.Count.{filled}
-use Rattle.rules.specs.declared.Release.{Release}
-use Rattle.rules.specs.Release.{noRelease}
-use Rattle.rules.specs.Layout.{Version, lineSize, releaseFrame}
-use Rattle.rules.specs.Text.{releaseOf}
-use Rattle.layouts.specs.Versions.{meantBy}
+use Rattle.base.proofs.Prelude.{ℕ, _-_, _*_, _≤_, _≡_, List, map, arith}
+use Rattle.base.specs.Count.{filled}
+use Rattle.rules.specs.{declared.Release.Release, Release.noRelease, Layout.{Version, lineSize, releaseFrame}, Text.releaseOf}
+use Rattle.layouts.specs.inner.Versions.{meantBy}
 use Rattle.layouts.proofs.Versions.{release-line, release-line-short, thousand-short}
-use Rattle.reading.specs.Positions.{linesAt, releaseList}
-use Rattle.reading.proofs.Standing.{stored-none, stored-more}
-use Rattle.reading.proofs.releases.releases_in.Statement.{statement}
+use Rattle.reading.specs.inner.Positions.{linesAt, releaseList}
+use Rattle.reading.proofs.{Standing.{stored-none, stored-more}, releases.releases_in.Statement.statement}
 use Rattle.reading.proofs.releases.releases_in.Tie as tie
 
 -- what is stored of i releases; each line takes step bytes
@@ -54,26 +47,11 @@ loop-holds c =
     let g = c .before .args in
     (omega arith, stored-none noRelease (releaseOf (meantBy (g .version))) 1000 (g .text .now) (g .start) (g .version .release .line))
 
-mul-release-at : tie.Need-mul-release-at Inv-loop μ-loop
-mul-release-at c = omega (arith, near (reached c))
-
-add-release-at : tie.Need-add-release-at Inv-loop μ-loop
-add-release-at c = omega (arith, near (reached c), begin (reached c) .pre .1 .0 .0)
-
 release-at-requires : tie.Need-release-at-requires Inv-loop μ-loop
 release-at-requires c κs =
     let o = reached c in
     let b = begin o in
     (b .pre .0, rw (release-line (b .args .version) (b .pre .0)) (b .pre .1 .1 .each (o .loop .i) (omega arith)))
-
-mul-list : tie.Need-mul-list Inv-loop μ-loop
-mul-list c = omega (arith, few (reached (c .before)))
-
-array-set-from-list : tie.Need-array-set-from-list Inv-loop μ-loop
-array-set-from-list c = omega (arith, few (reached (c .before)))
-
-add-i : tie.Need-add-i Inv-loop μ-loop
-add-i c = omega (arith, few (reached (c .before)))
 
 loop-again : tie.Need-loop-again Inv-loop μ-loop
 loop-again c =
@@ -93,5 +71,7 @@ returns c =
 pub releases-in-spec : {M : Type 1} → statement M
 releases-in-spec =
     tie.close (tie.spec
-    Inv-loop μ-loop loop-holds mul-release-at add-release-at release-at-requires mul-list array-set-from-list add-i
-    (λ c. omega arith) loop-again returns)
+    Inv-loop μ-loop loop-holds (λ c. omega (arith, near (reached c)))
+    (λ c. omega (arith, near (reached c), begin (reached c) .pre .1 .0 .0)) release-at-requires
+    (λ c. omega (arith, few (reached (c .before)))) (λ c. omega (arith, few (reached (c .before))))
+    (λ c. omega (arith, few (reached (c .before)))) (λ c. omega arith) loop-again returns)

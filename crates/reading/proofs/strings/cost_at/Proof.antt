@@ -1,13 +1,10 @@
 -- `reading::strings::cost_at` meets its contract: a header that says a moving cost has bytes for it.
-use mathlib.Core.Path.{_≡_, sym, ap, _∙_}
-use native.Mathlib.Omega.{arith}
+use Rattle.base.proofs.Prelude.{_≡_, sym, ap, _∙_, arith}
 use Rattle.days.specs.Days.{days}
-use Rattle.rules.specs.Layout.{Version, Common, Own, headerFrame, stringFrame}
-use Rattle.rules.specs.Text.{aIn}
-use Rattle.layouts.specs.Versions.{meantBy}
+use Rattle.rules.specs.{Layout.{Version, Common, Own, headerFrame, stringFrame}, Text.aIn}
+use Rattle.layouts.specs.inner.Versions.{meantBy}
 use Rattle.layouts.proofs.Versions.{common-known, common-size, common-small, own-known, own-small, cost-common, cost-own}
-use Rattle.reading.proofs.Said.{field-room, field-said}
-use Rattle.reading.proofs.strings.cost_at.Statement.{statement}
+use Rattle.reading.proofs.{Said.{field-room, field-said}, strings.cost_at.Statement.statement}
 use Rattle.reading.proofs.strings.cost_at.Tie as tie
 
 abbrev start : tie.After-struct-known → tie.Start

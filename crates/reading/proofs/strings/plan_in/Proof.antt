@@ -1,20 +1,11 @@
 -- `reading::strings::plan_in` meets its contract: the array holds the strings read so far, and the filler behind them.
-use Prim.Native.Nat.{ℕ, _-_, _*_, _≤_}
-use mathlib.Core.Path.{_≡_, ap, _∙_}
-use mathlib.Core.List.{List, map}
-use native.Mathlib.Omega.{arith}
-use Rattle.lists.specs.Count.{filled}
-use Rattle.rules.specs.declared.BatteryString.{BatteryString}
-use Rattle.rules.specs.Plan.{noString}
-use Rattle.rules.specs.Layout.{Version, Run, headerFrame}
-use Rattle.rules.specs.Text.{runIn, stringOf}
-use Rattle.layouts.specs.Versions.{meantBy}
+use Rattle.base.proofs.Prelude.{ℕ, _-_, _*_, _≤_, _≡_, ap, _∙_, List, map, arith}
+use Rattle.base.specs.Count.{filled}
+use Rattle.rules.specs.{declared.BatteryString.BatteryString, Plan.noString, Layout.{Version, Run, headerFrame}, Text.{runIn, stringOf}}
+use Rattle.layouts.specs.inner.Versions.{meantBy}
 use Rattle.layouts.proofs.Versions.{run-known, run-small, string-line, string-line-short, header-short, ten-short}
-use Rattle.reading.specs.Positions.{lineAt, linesAt}
-use Rattle.reading.proofs.Said.{field-room, field-said}
-use Rattle.reading.proofs.Standing.{stored-none, stored-more}
-use Rattle.reading.proofs.Whole.{plan-said}
-use Rattle.reading.proofs.strings.plan_in.Statement.{statement}
+use Rattle.reading.specs.inner.Positions.{lineAt, linesAt}
+use Rattle.reading.proofs.{Said.{field-room, field-said}, Standing.{stored-none, stored-more}, Whole.plan-said, strings.plan_in.Statement.statement}
 use Rattle.reading.proofs.strings.plan_in.Tie as tie
 
 -- what is stored of i strings; each line takes step bytes
@@ -53,9 +44,6 @@ loop-holds c =
     let g = c .before .args in
     (omega arith, stored-none noString (stringOf (meantBy (g .version)) _) 10 (g .text .now) (g .start) (g .version .string .line))
 
-mul-string-at : tie.Need-mul-string-at Inv-loop μ-loop
-mul-string-at c = omega (arith, near (reached c))
-
 add-string-at : tie.Need-add-string-at Inv-loop μ-loop
 add-string-at c =
     let o = reached c in
@@ -67,15 +55,6 @@ string-at-requires c κs =
     let b = begin o in
     let long = string-line (b .args .version) (b .pre .0) in
     (b .pre .0, (b .pre .1 .0, rw long (b .pre .1 .1 .1 .each (o .loop .i) (omega arith))))
-
-mul-strings : tie.Need-mul-strings Inv-loop μ-loop
-mul-strings c = omega (arith, few (reached (c .before)))
-
-array-set-from-strings : tie.Need-array-set-from-strings Inv-loop μ-loop
-array-set-from-strings c = omega (arith, few (reached (c .before)))
-
-add-i : tie.Need-add-i Inv-loop μ-loop
-add-i c = omega (arith, few (reached (c .before)))
 
 loop-again : tie.Need-loop-again Inv-loop μ-loop
 loop-again c =
@@ -113,5 +92,6 @@ returns c =
 pub plan-in-spec : {M : Type 1} → statement M
 plan-in-spec =
     tie.close (tie.spec
-    Inv-loop μ-loop loop-holds mul-string-at add-string-at string-at-requires mul-strings array-set-from-strings add-i
-    (λ c. omega arith) loop-again field-at-requires returns)
+    Inv-loop μ-loop loop-holds (λ c. omega (arith, near (reached c))) add-string-at string-at-requires
+    (λ c. omega (arith, few (reached (c .before)))) (λ c. omega (arith, few (reached (c .before))))
+    (λ c. omega (arith, few (reached (c .before)))) (λ c. omega arith) loop-again field-at-requires returns)

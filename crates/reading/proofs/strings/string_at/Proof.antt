@@ -1,13 +1,9 @@
 -- `reading::strings::string_at` meets its contract: T, C, D and X stand at the same positions in all versions.
-use Prim.Native.Nat.{ℕ}
-use mathlib.Core.Path.{_∙_}
-use native.Mathlib.Omega.{arith}
-use borrow.Author.Needs.{needs}
+use Rattle.base.proofs.Prelude.{ℕ, _∙_, arith, needs}
 use Rattle.rules.specs.Layout.{Layout, StringField, X, T, C, D, stringFrame}
-use Rattle.layouts.specs.Versions.{meantBy}
+use Rattle.layouts.specs.inner.Versions.{meantBy}
 use Rattle.layouts.proofs.Versions.{x-place, t-place, c-place, d-place}
-use Rattle.reading.proofs.Said.{field-room, field-said, string-said}
-use Rattle.reading.proofs.strings.string_at.Statement.{statement}
+use Rattle.reading.proofs.{Said.{field-room, field-said, string-said}, strings.string_at.Statement.statement}
 use Rattle.reading.proofs.strings.string_at.Tie as tie
 
 abbrev start : tie.After-field-at → tie.Start

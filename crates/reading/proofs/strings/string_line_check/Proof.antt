@@ -1,17 +1,13 @@
 -- `reading::strings::string_line_check` meets its contract: the frame decides first, then the bounds of the string.
-use mathlib.Core.Path.{_≡_, sym, ap, _∙_}
-use borrow.Author.Needs.{needs}
+use Rattle.base.proofs.Prelude.{_≡_, sym, ap, _∙_, needs}
 use Rattle.faults.specs.declared.Checked.the-variants.{Lawful}
 use Rattle.faults.proofs.Checks.{then-lawful, then-refused}
-use Rattle.rules.specs.Plan.{stringLawful}
-use Rattle.rules.specs.Layout.{Version, stringFrame}
-use Rattle.rules.specs.Text.{Line, stringOf, stringLineCheck, frameCheck, layoutCheck}
-use Rattle.layouts.specs.declared.Layout as code
-use Rattle.layouts.specs.Versions.{meantBy}
+use Rattle.rules.specs.{Plan.stringLawful, Layout.{Version, stringFrame}, Text.{Line, stringOf, stringLineCheck, frameCheck, layoutCheck}}
+use Rattle.layouts.specs.inner.Versions.{meantBy}
 use Rattle.layouts.proofs.Versions.{string-known}
-use Rattle.reading.specs.Positions.{lineAt}
-use Rattle.reading.proofs.Framing.{frameCheck-frame}
-use Rattle.reading.proofs.strings.string_line_check.Statement.{statement}
+use Rattle.reading.specs.inner.Positions.{lineAt}
+use Rattle.reading.proofs.{Framing.frameCheck-frame, strings.string_line_check.Statement.statement}
+use Rattle.layouts.specs.declared.Layout as code
 use Rattle.reading.proofs.strings.string_line_check.Tie as tie
 
 abbrev start : tie.After-frame-check → tie.Start
@@ -47,9 +43,6 @@ judged : (c : tie.After-string-lawful) → c .string-lawful .result
     ≡ stringLawful (stringOf (versionOf (checked (told c))) (headerOf (checked (told c))) (lineOf (checked (told c))))
 judged c = c .string-lawful .ensures ∙ ap stringLawful (c .before .string-at .ensures)
 
-frame-check-requires : tie.Need-frame-check-requires
-frame-check-requires c κs = c .before .pre .1 .1
-
 string-at-requires : tie.Need-string-at-requires
 string-at-requires c κs =
     let s = start (checked c) in
@@ -72,5 +65,5 @@ returns-3 c =
 pub string-line-check-spec : {M : Type 1} → statement M
 string-line-check-spec =
     tie.close (tie.spec
-    frame-check-requires (λ c. search needs) string-at-requires (λ c κs. search needs) (λ c. search needs) returns
-    returns-2 returns-3)
+    (λ c κs. c .before .pre .1 .1) (λ c. search needs) string-at-requires (λ c κs. search needs) (λ c. search needs)
+    returns returns-2 returns-3)

@@ -1,23 +1,11 @@
 -- `reading::strings::string_lines_check` meets its contract: the lines that are left, from the one reached on, give what all of them give.
-use Prim.Native.Nat.{ℕ, suc, _+_, _-_, _*_, _≤_, _<_}
-use mathlib.Core.Path.{_≡_, sym, _∙_}
-use mathlib.Core.List.{List}
-use native.Mathlib.Omega.{arith}
-use native.Mathlib.Numerals.{add-one}
-use native.Mathlib.Nat.{zero-mul, suc-mul}
-use borrow.Author.Needs.{needs}
-use lib.ListN.{length}
-use Rattle.faults.specs.declared.Fault.{Fault}
-use Rattle.faults.specs.declared.Fault.the-variants.{FrameWrong}
-use Rattle.faults.specs.declared.Checked.{Checked}
-use Rattle.faults.specs.declared.Checked.the-variants.{Lawful, Refused}
-use Rattle.rules.specs.Layout.{Version, lineSize, stringFrame}
-use Rattle.rules.specs.Text.{Line, stringLineCheck, stringLinesCheck}
-use Rattle.layouts.specs.Versions.{meantBy}
+use Rattle.base.proofs.Prelude.{ℕ, suc, _+_, _-_, _*_, _≤_, _<_, _≡_, sym, _∙_, List, arith, add-one, zero-mul, suc-mul, needs, length}
+use Rattle.faults.specs.{declared.Fault.Fault, declared.Fault.the-variants.FrameWrong, declared.Checked.Checked, declared.Checked.the-variants.{Lawful, Refused}}
+use Rattle.rules.specs.{Layout.{Version, lineSize, stringFrame}, Text.{Line, stringLineCheck, stringLinesCheck}}
+use Rattle.layouts.specs.inner.Versions.{meantBy}
 use Rattle.layouts.proofs.Versions.{string-line, string-line-short, ten-short}
-use Rattle.reading.specs.Positions.{linesFrom, lineAt}
-use Rattle.reading.proofs.StringLines.{string-frame, strings-missing, strings-bad, strings-good, strings-end}
-use Rattle.reading.proofs.strings.string_lines_check.Statement.{statement}
+use Rattle.reading.specs.inner.Positions.{linesFrom, lineAt}
+use Rattle.reading.proofs.{StringLines.{string-frame, strings-missing, strings-bad, strings-good, strings-end}, strings.string_lines_check.Statement.statement}
 use Rattle.reading.proofs.strings.string_lines_check.Tie as tie
 
 -- what the lines from the i-th on, of n, give; each line takes step bytes
@@ -96,23 +84,11 @@ loop-holds c =
       at-first (meantBy (g .version)) (g .text .now) step (g .start) (g .n),
     )
 
-mul-here : tie.Need-mul-here Inv-loop μ-loop
-mul-here c = omega (arith, near (reached c))
-
-add-here : tie.Need-add-here Inv-loop μ-loop
-add-here c = omega (arith, near (reached c), begin (reached c) .pre .1 .1 .1)
-
-add-t13 : tie.Need-add-t13 Inv-loop μ-loop
-add-t13 c = omega (arith, reached (c .before) .loop .inv .0, begin (reached (c .before)) .pre .1 .1 .2)
-
 returns : tie.Need-returns Inv-loop μ-loop
 returns c =
     let o = reached (c .before) in
     let g = begin o .args in
     sym (missing (versionOf o) (g .text .now) (stepOf o) (g .start) (g .n) (o .loop .i) (omega arith) (c .if1 .taken)) ∙ o .loop .inv .2
-
-add-string-line-check : tie.Need-add-string-line-check Inv-loop μ-loop
-add-string-line-check c = omega (arith, reached (c .before) .loop .inv .0, begin (reached (c .before)) .pre .1 .1 .2)
 
 string-line-check-requires : tie.Need-string-line-check-requires Inv-loop μ-loop
 string-line-check-requires c κs =
@@ -162,5 +138,9 @@ returns-3 c =
 pub string-lines-check-spec : {M : Type 1} → statement M
 string-lines-check-spec =
     tie.close (tie.spec
-    Inv-loop μ-loop loop-holds mul-here add-here add-t13 returns add-string-line-check string-line-check-requires
-    (λ c. search needs) add-i (λ c. omega arith) loop-again (λ c. search needs) returns-2 returns-3)
+    Inv-loop μ-loop loop-holds (λ c. omega (arith, near (reached c)))
+    (λ c. omega (arith, near (reached c), begin (reached c) .pre .1 .1 .1))
+    (λ c. omega (arith, reached (c .before) .loop .inv .0, begin (reached (c .before)) .pre .1 .1 .2)) returns
+    (λ c. omega (arith, reached (c .before) .loop .inv .0, begin (reached (c .before)) .pre .1 .1 .2))
+    string-line-check-requires (λ c. search needs) add-i (λ c. omega arith) loop-again (λ c. search needs) returns-2
+    returns-3)

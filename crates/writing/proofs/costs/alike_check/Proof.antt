@@ -1,13 +1,10 @@
 -- `alike_check` meets its contract: a header that says no moving cost asks nothing of them.
-use mathlib.Core.Path.{sym, ap, _∙_}
-use native.Mathlib.Omega.{arith}
-use Rattle.faults.specs.declared.Fault.the-variants.{CostsDiffer}
-use Rattle.faults.specs.declared.Checked.the-variants.{Refused}
-use Rattle.layouts.specs.Versions.{meantBy}
+use Rattle.base.proofs.Prelude.{sym, ap, _∙_, arith}
+use Rattle.faults.specs.{declared.Fault.the-variants.CostsDiffer, declared.Checked.the-variants.Refused}
+use Rattle.layouts.specs.inner.Versions.{meantBy}
 use Rattle.layouts.proofs.Versions.{common-size}
 use Rattle.writing.specs.Saved.{firstOther}
-use Rattle.writing.proofs.Saving.{alike-none, alike-yes, alike-differs}
-use Rattle.writing.proofs.costs.alike_check.Statement.{statement}
+use Rattle.writing.proofs.{Saving.{alike-none, alike-yes, alike-differs}, costs.alike_check.Statement.statement}
 use Rattle.writing.proofs.costs.alike_check.Tie as tie
 
 returns : tie.Need-returns
@@ -15,9 +12,6 @@ returns c =
     let s = c .before .before in
     let version = s .args .version in
     sym (alike-none (meantBy version) (s .args .p) _ (omega (arith, common-size version (s .pre .0), c .if1 .taken)))
-
-first-other-requires : tie.Need-first-other-requires
-first-other-requires c κs = c .before .before .pre .1
 
 returns-2 : tie.Need-returns-2
 returns-2 c =
@@ -38,4 +32,4 @@ returns-3 c =
     (omega (arith, other, c .if2 .left)))
 
 pub alike-check-spec : {M : Type 1} → statement M
-alike-check-spec = tie.close (tie.spec returns first-other-requires returns-2 returns-3)
+alike-check-spec = tie.close (tie.spec returns (λ c κs. c .before .before .pre .1) returns-2 returns-3)

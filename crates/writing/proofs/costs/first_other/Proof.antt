@@ -1,13 +1,7 @@
 -- `first_other` meets its contract. Invariant: the strings so far have the moving cost of the first.
-use Prim.Native.Nat.{ℕ, _+_, _-_, _≤_, _<_}
-use mathlib.Core.Path.{_≡_, sym, subst}
-use native.Mathlib.Omega.{arith}
-use native.Mathlib.Decide.{ℕ-discrete}
-use borrow.Author.Needs.{needs}
-use lib.ListN.{length, getD, length-map}
+use Rattle.base.proofs.Prelude.{ℕ, _+_, _-_, _≤_, _<_, _≡_, sym, subst, arith, ℕ-discrete, needs, length, getD, length-map}
 use Rattle.rules.specs.Plan.{noString}
-use Rattle.writing.proofs.FirstOther.{costAfter, other-here, other-none}
-use Rattle.writing.proofs.costs.first_other.Statement.{statement}
+use Rattle.writing.proofs.{FirstOther.{costAfter, other-here, other-none}, costs.first_other.Statement.statement}
 use Rattle.writing.proofs.costs.first_other.Tie as tie
 
 abbrev Inv-loop : tie.InvT-loop

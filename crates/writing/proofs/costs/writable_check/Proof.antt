@@ -1,6 +1,5 @@
 -- `writable_check` meets its contract: the numbers decide first, then the moving costs.
-use mathlib.Core.Path.{_≡_, sym, _∙_}
-use borrow.Author.Needs.{needs}
+use Rattle.base.proofs.Prelude.{_≡_, sym, _∙_, needs}
 use Rattle.faults.specs.declared.Checked.the-variants.{Lawful}
 use Rattle.faults.proofs.Checks.{then-lawful, then-refused}
 use Rattle.rules.specs.Refusal.{runCheck}

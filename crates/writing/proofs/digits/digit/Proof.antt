@@ -1,6 +1,5 @@
 -- `digit` meets its contract: the test chooses the same letter or figure as the definition.
-use borrow.Author.Needs.{needs}
-use borrow.Author.Tests.{lt-ltb, le-ltb}
+use Rattle.base.proofs.Prelude.{needs, lt-ltb, le-ltb}
 use Rattle.writing.specs.Written.{digitText}
 use Rattle.writing.proofs.digits.digit.Statement.{statement}
 use Rattle.writing.proofs.digits.digit.Tie as tie

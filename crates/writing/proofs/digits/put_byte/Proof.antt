@@ -1,11 +1,7 @@
 -- `put_byte` meets its contract: the two digits stand where the first two bytes stood.
-use Prim.Native.Nat.{_/_, _%_}
-use mathlib.Core.Path.{_≡_}
-use native.Mathlib.Omega.{arith}
-use borrow.Author.Needs.{needs}
+use Rattle.base.proofs.Prelude.{_/_, _%_, _≡_, arith, needs}
 use Rattle.writing.specs.Written.{digitText, byteText}
-use Rattle.writing.proofs.Texts.{set-two}
-use Rattle.writing.proofs.digits.put_byte.Statement.{statement}
+use Rattle.writing.proofs.{Texts.set-two, digits.put_byte.Statement.statement}
 use Rattle.writing.proofs.digits.put_byte.Tie as tie
 
 returns : tie.Need-returns

@@ -1,15 +1,8 @@
 -- `put_number` meets its contract. Invariant: the digits of the bytes that are still to come, with what stands from their place on, are
 -- the whole.
-use Prim.Native.Nat.{suc, _≤_, _*_, _-_, _%_}
-use mathlib.Core.Path.{_≡_, refl, _∙_}
-use native.Mathlib.Nat.{mod-lt}
-use mathlib.Core.List.{_++_}
-use native.Mathlib.Omega.{arith}
-use lib.ListN.{length, drop, length-drop}
-use Rattle.writing.specs.Written.{byteText}
-use Rattle.writing.specs.Cells.{numberText}
-use Rattle.writing.proofs.Texts.{lent-part, lent-length, byteText-length, number-done, number-step}
-use Rattle.writing.proofs.digits.put_number.Statement.{statement}
+use Rattle.base.proofs.Prelude.{suc, _≤_, _*_, _-_, _%_, _≡_, refl, _∙_, mod-lt, _++_, arith, length, drop, length-drop}
+use Rattle.writing.specs.{Written.byteText, inner.Cells.numberText}
+use Rattle.writing.proofs.{Texts.{lent-part, lent-length, byteText-length, number-done, number-step}, digits.put_number.Statement.statement}
 use Rattle.writing.proofs.digits.put_number.Tie as tie
 
 abbrev Inv-loop : tie.InvT-loop
@@ -18,9 +11,6 @@ Inv-loop part₀ size n i₀ rest₀ part i rest =
 
 abbrev μ-loop : tie.MeasureT-loop
 μ-loop part₀ size n i₀ rest₀ part i rest = i
-
-loop-holds : tie.Need-loop-holds Inv-loop μ-loop
-loop-holds c = (omega arith, refl, refl)
 
 put-byte-requires : tie.Need-put-byte-requires Inv-loop μ-loop
 put-byte-requires c κs =
@@ -56,5 +46,5 @@ returns c = number-done (c .before .loop .i) (c .before .loop .rest) (c .before 
 pub put-number-spec : {M : Type 1} → statement M
 put-number-spec =
     tie.close (tie.spec
-    Inv-loop μ-loop loop-holds (λ c. omega arith) (λ c. omega arith) (λ c. omega arith) (λ c. omega arith)
-    (λ c. omega arith) put-byte-requires (λ c. omega arith) loop-again (λ c. omega arith) returns)
+    Inv-loop μ-loop (λ c. (omega arith, refl, refl)) (λ c. omega arith) (λ c. omega arith) (λ c. omega arith)
+    (λ c. omega arith) (λ c. omega arith) put-byte-requires (λ c. omega arith) loop-again (λ c. omega arith) returns)

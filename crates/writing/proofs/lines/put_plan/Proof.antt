@@ -1,27 +1,12 @@
 -- `put_plan` meets its contract: the header's line, then the strings' lines in the next part, then the releases' lines in the part after
 -- that.
-use Prim.Native.Nat.{ℕ, _+_, _-_, _*_, _≤_}
-use mathlib.Core.Path.{_≡_, refl, sym, ap, _∙_}
-use mathlib.Core.List.{List, [], _∷_, _++_, flatMap}
-use native.Mathlib.Omega.{arith}
-use lib.ListN.{length, take, drop, length-append, length-drop}
-use lib.Seq.{length-take-le}
-use borrow.Rule.Slice.PartMut.{putMid}
-use borrow.Author.Needs.{needs}
-use Rattle.rules.specs.declared.Plan.{Plan}
-use Rattle.rules.specs.declared.Releases.{Releases}
-use Rattle.rules.specs.Plan.{stringsOf}
-use Rattle.rules.specs.Release.{releasesOf}
-use Rattle.rules.specs.Layout.{Version, lineSize, headerFrame, stringFrame, releaseFrame}
-use Rattle.layouts.specs.declared.Version as code
-use Rattle.layouts.specs.Versions.{meantBy, Known}
+use Rattle.base.proofs.Prelude.{ℕ, _+_, _-_, _*_, _≤_, _≡_, refl, sym, ap, _∙_, List, [], _∷_, _++_, flatMap, arith, length, take, drop, length-append, length-drop, length-take-le, putMid, needs}
+use Rattle.rules.specs.{declared.Plan.Plan, declared.Releases.Releases, Plan.stringsOf, Release.releasesOf, Layout.{Version, lineSize, headerFrame, stringFrame, releaseFrame}}
+use Rattle.layouts.specs.inner.Versions.{meantBy, Known}
 use Rattle.layouts.proofs.Versions.{header-line, header-line-short, string-line, string-line-short, ten-short, release-line}
-use Rattle.writing.specs.declared.cells.Cell.{Cell}
-use Rattle.writing.specs.Written.{headerText, headerSays, stringText, releaseText, planText}
-use Rattle.writing.specs.Cells.{cellsSize, cellsText, SaysFrame, PlanFits}
-use Rattle.writing.proofs.Texts.{lent-part, flatMap-length, Stands, stands-first, stands-next}
-use Rattle.writing.proofs.Rows.{headerText-length, stringText-length, releaseText-length, line-put, line-room, strings-long, text-long}
-use Rattle.writing.proofs.lines.put_plan.Statement.{statement}
+use Rattle.writing.specs.{declared.cells.Cell.Cell, Written.{headerText, headerSays, stringText, releaseText, planText}, inner.Cells.{cellsSize, cellsText, SaysFrame, PlanFits}}
+use Rattle.writing.proofs.{Texts.{lent-part, flatMap-length, TextStands, stands-first, stands-next}, Rows.{headerText-length, stringText-length, releaseText-length, line-put, line-room, strings-long, text-long}, lines.put_plan.Statement.statement}
+use Rattle.layouts.specs.declared.Version as code
 use Rattle.writing.proofs.lines.put_plan.Tie as tie
 
 module _ (version : code.Version) (known : Known version) (p : Plan) (rs : Releases) (before : List ℕ)
@@ -70,17 +55,17 @@ module _ (version : code.Version) (known : Known version) (p : Plan) (rs : Relea
 
     header-stands : (cells : List Cell) (part : List ℕ) → SaysFrame cells 5 (headerFrame v) (headerSays (v .number) p)
         → part ≡ (cellsText (take 5 cells) ++ (0x0a ∷ [])) ++ drop (cellsSize (take 5 cells) * 2 + 1) before
-        → Stands before (headerText v p) part
+        → TextStands before (headerText v p) part
     unfolding headerText
     header-stands cells part says got =
         stands-first before (headerText v p) part (lineSize (headerFrame v)) (headerText-length v p)
         (omega (arith, room, header-line version known))
         (line-put cells 5 (headerFrame v) (headerSays (v .number) p) before part says got)
 
-    strings-stand : (part next : List ℕ) → Stands before (headerText v p) part
+    strings-stand : (part next : List ℕ) → TextStands before (headerText v p) part
         → next ≡ flatMap (stringText v) (stringsOf p)
         ++ drop (length (stringsOf p) * lineSize (stringFrame v)) (take (length part - header) (drop header part))
-        → Stands before (headerText v p ++ flatMap (stringText v) (stringsOf p)) (putMid header (length part - header) part next)
+        → TextStands before (headerText v p ++ flatMap (stringText v) (stringsOf p)) (putMid header (length part - header) part next)
     strings-stand part next stands got =
         let many = ap (λ n. n * lineSize (stringFrame v)) strings-many in
         stands-next before (headerText v p) (flatMap (stringText v) (stringsOf p)) part next header
@@ -89,11 +74,11 @@ module _ (version : code.Version) (known : Known version) (p : Plan) (rs : Relea
         (flatMap-length (stringText v) (lineSize (stringFrame v)) (stringText-length v) (stringsOf p))
         (omega (arith, room, stands .size, strings-are)) got
 
-    releases-stand : (part next : List ℕ) → Stands before (headerText v p ++ flatMap (stringText v) (stringsOf p)) part
+    releases-stand : (part next : List ℕ) → TextStands before (headerText v p ++ flatMap (stringText v) (stringsOf p)) part
         → next ≡ flatMap (releaseText v) (releasesOf rs)
         ++ drop (length (releasesOf rs) * lineSize (releaseFrame v))
         (take (length part - (header + strings)) (drop (header + strings) part))
-        → Stands before (planText v p (releasesOf rs)) (putMid (header + strings) (length part - (header + strings)) part next)
+        → TextStands before (planText v p (releasesOf rs)) (putMid (header + strings) (length part - (header + strings)) part next)
     unfolding planText
     releases-stand part next stands got =
         let head = headerText v p in
@@ -126,9 +111,6 @@ room-at s = room (s .args .version) (s .pre .0) (s .args .p) (s .args .rs) (s .a
 short-at : (s : tie.Start) → s .args .version .header .line + s .args .p .n * s .args .version .string .line ≤ 1000
 short-at s = short (s .args .version) (s .pre .0) (s .args .p) (s .args .rs) (s .args .part .now) (s .pre .1)
 
-mul-strings : tie.Need-mul-strings
-mul-strings c = omega (arith, short-at (c .before .before .before))
-
 header-cells-requires : tie.Need-header-cells-requires
 header-cells-requires c κs =
     let s = c .before .before .before .before in
@@ -143,7 +125,7 @@ put-frame-requires c κs =
 -- ---- What stands after each part
 
 headed : (c : tie.After-slice-known2)
-    → Stands (start c .args .part .now) (headerText (meantBy (start c .args .version)) (start c .args .p))
+    → TextStands (start c .args .part .now) (headerText (meantBy (start c .args .version)) (start c .args .p))
     (c .before .before .put-frame .last .0)
 headed c =
     let s = start c in
@@ -160,7 +142,7 @@ page-two c =
     putMid header (length part - header) part (c .before .before .put-strings .last .0)
 
 stringed : (c : tie.After-slice-known3)
-    → Stands (start (later c) .args .part .now)
+    → TextStands (start (later c) .args .part .now)
     (headerText (meantBy (start (later c) .args .version)) (start (later c) .args .p)
     ++ flatMap (stringText (meantBy (start (later c) .args .version))) (stringsOf (start (later c) .args .p)))
     (page-two c)
@@ -168,12 +150,6 @@ stringed c =
     let s = start (later c) in
     strings-stand (s .args .version) (s .pre .0) (s .args .p) (s .args .rs) (s .args .part .now) (s .pre .1) _ _ (headed (later c))
     (c .before .before .put-strings .ensures)
-
-sub-put-strings : tie.Need-sub-put-strings
-sub-put-strings c = omega (arith, headed c .size, room-at (start c))
-
-part-put-strings-start : tie.Need-part-put-strings-start
-part-put-strings-start c = omega (arith, headed c .size, room-at (start c))
 
 put-strings-requires : tie.Need-put-strings-requires
 put-strings-requires c κs =
@@ -192,15 +168,6 @@ put-strings-requires c κs =
             bytes = omega (arith, headed known .size, room-at s, length-drop header part, long);
           }),
     )
-
-add-put-releases : tie.Need-add-put-releases
-add-put-releases c = omega (arith, short-at (start (later c)))
-
-sub-put-releases : tie.Need-sub-put-releases
-sub-put-releases c = omega (arith, stringed c .size, room-at (start (later c)))
-
-part-put-releases-start : tie.Need-part-put-releases-start
-part-put-releases-start c = omega (arith, stringed c .size, room-at (start (later c)))
 
 put-releases-requires : tie.Need-put-releases-requires
 put-releases-requires c κs =
@@ -229,6 +196,9 @@ returns c =
 pub put-plan-spec : {M : Type 1} → statement M
 put-plan-spec =
     tie.close (tie.spec
-    mul-strings header-cells-requires put-frame-requires sub-put-strings part-put-strings-start (λ c. search needs)
-    put-strings-requires add-put-releases sub-put-releases part-put-releases-start (λ c. search needs)
-    put-releases-requires (λ c. search needs) returns)
+    (λ c. omega (arith, short-at (c .before .before .before))) header-cells-requires put-frame-requires
+    (λ c. omega (arith, headed c .size, room-at (start c))) (λ c. omega (arith, headed c .size, room-at (start c)))
+    (λ c. search needs) put-strings-requires (λ c. omega (arith, short-at (start (later c))))
+    (λ c. omega (arith, stringed c .size, room-at (start (later c))))
+    (λ c. omega (arith, stringed c .size, room-at (start (later c)))) (λ c. search needs) put-releases-requires
+    (λ c. search needs) returns)

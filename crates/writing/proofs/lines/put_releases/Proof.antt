@@ -1,23 +1,12 @@
 -- `put_releases` meets its contract. Invariant: the lines of the releases so far stand at the head of the part.
-use Prim.Native.Nat.{ℕ, _+_, _-_, _*_, _≤_, _<_}
-use mathlib.Core.Path.{_≡_, sym, ap, _∙_, subst}
-use mathlib.Core.List.{List, _++_, flatMap}
-use native.Mathlib.Omega.{arith}
-use lib.ListN.{length, take, drop, getD, length-drop}
-use lib.Seq.{length-take-le, getD-take}
-use Rattle.lists.proofs.Lists.{all-at}
-use Rattle.rules.specs.declared.Release.{Release}
-use Rattle.rules.specs.declared.Releases.{Releases}
-use Rattle.rules.specs.Release.{releasesOf, noRelease}
-use Rattle.rules.specs.Layout.{lineSize, releaseFrame}
-use Rattle.layouts.specs.declared.Version as code
-use Rattle.layouts.specs.Versions.{meantBy, Known}
+use Rattle.base.proofs.Prelude.{ℕ, _+_, _-_, _*_, _≤_, _<_, _≡_, sym, ap, _∙_, subst, List, _++_, flatMap, arith, length, take, drop, getD, length-drop, length-take-le, getD-take}
+use Rattle.base.proofs.Lists.{all-at}
+use Rattle.rules.specs.{declared.Release.Release, declared.Releases.Releases, Release.{releasesOf, noRelease}, Layout.{lineSize, releaseFrame}}
+use Rattle.layouts.specs.inner.Versions.{meantBy, Known}
 use Rattle.layouts.proofs.Versions.{release-line}
-use Rattle.writing.specs.Written.{releaseSays, releaseText}
-use Rattle.writing.specs.Cells.{ReleasesFit}
-use Rattle.writing.proofs.Texts.{lent-part, Stands}
-use Rattle.writing.proofs.Rows.{rows-start, rows-next, rows-end, rows-room, releaseText-length, line-put, line-room}
-use Rattle.writing.proofs.lines.put_releases.Statement.{statement}
+use Rattle.writing.specs.{Written.{releaseSays, releaseText}, inner.Cells.ReleasesFit}
+use Rattle.writing.proofs.{Texts.{lent-part, TextStands}, Rows.{rows-start, rows-next, rows-written, rows-room, releaseText-length, line-put, line-room}, lines.put_releases.Statement.statement}
+use Rattle.layouts.specs.declared.Version as code
 use Rattle.writing.proofs.lines.put_releases.Tie as tie
 
 -- a release's line is as long as the version says
@@ -27,7 +16,7 @@ each-long version known s = releaseText-length (meantBy version) s ∙ sym (rele
 
 -- the lines of the first i of so many releases
 abbrev Lines : code.Version → List Release → ℕ → List ℕ → List ℕ → ℕ → Type 0
-Lines version list count before part i = Stands before (flatMap (releaseText (meantBy version)) (take i (take count list))) part
+Lines version list count before part i = TextStands before (flatMap (releaseText (meantBy version)) (take i (take count list))) part
 
 module _ (version : code.Version) (known : Known version) (rs : Releases) (before : List ℕ)
     (fit : ReleasesFit (meantBy version) rs (length before))
@@ -80,24 +69,6 @@ loop-holds c =
           (releasesOf (s .args .rs)) noRelease _,
     )
 
-mul-r : tie.Need-mul-r Inv-loop μ-loop
-mul-r c = omega (arith, start (c .before) .pre .1 .few)
-
-array-copy-out-r : tie.Need-array-copy-out-r Inv-loop μ-loop
-array-copy-out-r c = omega (arith, start (c .before) .pre .1 .few)
-
-mul-put-frame : tie.Need-mul-put-frame Inv-loop μ-loop
-mul-put-frame c = omega (arith, fits (c .before))
-
-sub-put-frame : tie.Need-sub-put-frame Inv-loop μ-loop
-sub-put-frame c = omega (arith, fits (c .before))
-
-part-put-frame-start : tie.Need-part-put-frame-start Inv-loop μ-loop
-part-put-frame-start c = omega (arith, fits (c .before))
-
-part-put-frame-end : tie.Need-part-put-frame-end Inv-loop μ-loop
-part-put-frame-end c = omega (arith, fits (c .before))
-
 release-cells-requires : tie.Need-release-cells-requires Inv-loop μ-loop
 release-cells-requires c κs =
     let o = c .before .before .before in
@@ -118,9 +89,6 @@ put-frame-requires c κs =
     rw (lent-part a (o .loop .part))
     (line-room (c .release-cells .result) 4 (releaseFrame (meantBy version)) _ _ (c .release-cells .ensures) (omega arith)
     (omega (arith, fits into, length-drop a (o .loop .part), release-line version (start o .pre .0))))
-
-add-i : tie.Need-add-i Inv-loop μ-loop
-add-i c = omega (arith, start (c .before .before .before .before .before .before .before) .pre .1 .few)
 
 loop-again : tie.Need-loop-again Inv-loop μ-loop
 unfolding releaseText
@@ -146,9 +114,6 @@ loop-again c =
           (omega (arith, counted version (s .pre .0) rs (s .args .part .now) (s .pre .1))) (fits into) (rw this (put ∙ long)),
     )
 
-same-length : tie.Need-same-length Inv-loop μ-loop
-same-length c = c .before .loop .inv .1 .size
-
 returns : tie.Need-returns Inv-loop μ-loop
 returns c =
     let o = c .before in
@@ -156,13 +121,16 @@ returns c =
     let version = s .args .version in
     let rs = s .args .rs in
     let v = meantBy version in
-    rows-end (releaseText v) (lineSize (releaseFrame v)) (releaseText-length v) (releasesOf rs)
+    rows-written (releaseText v) (lineSize (releaseFrame v)) (releaseText-length v) (releasesOf rs)
     noRelease (s .args .part .now) (o .loop .part) (o .loop .i) (o .loop .inv .1)
     (omega (arith, counted version (s .pre .0) rs (s .args .part .now) (s .pre .1)))
 
 pub put-releases-spec : {M : Type 1} → statement M
 put-releases-spec =
     tie.close (tie.spec
-    Inv-loop μ-loop loop-holds mul-r array-copy-out-r mul-put-frame sub-put-frame part-put-frame-start
-    part-put-frame-end release-cells-requires put-frame-requires add-i (λ c. omega arith) loop-again same-length
-    returns)
+    Inv-loop μ-loop loop-holds (λ c. omega (arith, start (c .before) .pre .1 .few))
+    (λ c. omega (arith, start (c .before) .pre .1 .few)) (λ c. omega (arith, fits (c .before)))
+    (λ c. omega (arith, fits (c .before))) (λ c. omega (arith, fits (c .before))) (λ c. omega (arith, fits (c .before)))
+    release-cells-requires put-frame-requires
+    (λ c. omega (arith, start (c .before .before .before .before .before .before .before) .pre .1 .few))
+    (λ c. omega arith) loop-again (λ c. c .before .loop .inv .1 .size) returns)

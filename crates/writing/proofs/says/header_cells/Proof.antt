@@ -1,11 +1,7 @@
 -- `header_cells` meets its contract: cell by cell it is the header's layout in every version.
-use mathlib.Core.Path.{sym, ap}
-use borrow.Author.Needs.{needs}
-use lib.Seq.{getD-take}
-use Rattle.rules.specs.declared.BatteryString.{BatteryString}
-use Rattle.rules.specs.Plan.{noString}
-use Rattle.writing.proofs.CellsSaid.{header-says}
-use Rattle.writing.proofs.says.header_cells.Statement.{statement}
+use Rattle.base.proofs.Prelude.{sym, ap, needs, getD-take}
+use Rattle.rules.specs.{declared.BatteryString.BatteryString, Plan.noString}
+use Rattle.writing.proofs.{CellsSaid.header-says, says.header_cells.Statement.statement}
 use Rattle.writing.proofs.says.header_cells.Tie as tie
 
 returns : tie.Need-returns
