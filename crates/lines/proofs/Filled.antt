@@ -5,7 +5,7 @@ use Rattle.base.proofs.Lists.{All, by-bool}
 use Rattle.rules.specs.Lines.{bytesOf, decimal, mark}
 use Rattle.calendar.specs.{declared.Weekday.Weekday, declared.Weekday.the-variants.{Saturday, Sunday, Monday, Tuesday, Wednesday, Thursday, Friday}, declared.WhichDate.WhichDate, Weekdays.{week, weekdayOf}, Refusals.dateAnswer}
 use Rattle.calendar.proofs.RoundTrip.{dateText-ten}
-use Rattle.lines.specs.{declared.Page.Page, Pages.{pageOf, textOf, Written}, Dates.weekdayName, Templates.{dateMark, weekdayMark, dateFor, marked, takes, filledIn}}
+use Rattle.lines.specs.{declared.Page.Page, Pages.{pageOf, textOf, Written}, Dates.weekdayName, inner.Templates.{dateMark, weekdayMark, dateFor, marked, takes, filledIn}}
 use Rattle.lines.proofs.{Digits.decimal-32, Growing.{text-is, own, len-more}}
 use Rattle.calendar.specs.declared.WhichDate.the-variants as which-date
 

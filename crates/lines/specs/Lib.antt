@@ -1,4 +1,4 @@
 pub mod Pages
 pub mod Dates
-pub mod Templates
 pub mod Shown
+pub mod inner

@@ -19,7 +19,7 @@ ghost use Rattle.calendar.specs.Refusals.{dateAnswer};
 ghost use Rattle.calendar.specs.Texts.{dateText};
 ghost use Rattle.lines.specs.Pages.{pageOf, textOf, Written};
 ghost use Rattle.lines.specs.Dates.{weekdayName};
-ghost use Rattle.lines.specs.Templates.{dateFor, marked, takes, filledIn};
+ghost use Rattle.lines.specs.inner.Templates.{dateFor, marked, takes, filledIn};
 
 // A date that exists.
 fn append_text(page: Page, d: Date) -> Page

@@ -1,7 +1,7 @@
 -- `lines::dates::day_line` meets its contract: the line of the day's date, or of its refusal.
 use Rattle.base.proofs.Prelude.{sym, _∙_, needs}
 use Rattle.rules.specs.Lines.{bytesOf, wordedIn}
-use Rattle.lines.specs.{Dates.{dayLineFor, dayLine}, Templates.{dateFor, marked, takes, filledIn}}
+use Rattle.lines.specs.{Dates.{dayLineFor, dayLine}, inner.Templates.{dateFor, marked, takes, filledIn}}
 use Rattle.lines.proofs.dates.day_line.Statement.{statement}
 use Rattle.lines.proofs.dates.day_line.Tie as tie
 

@@ -5,7 +5,7 @@ use Rattle.rules.specs.Lines.{bytesOf, wordedIn}
 use Rattle.faults.specs.declared.Fault.{Fault}
 use Rattle.calendar.specs.declared.WhichDay.{WhichDay}
 use Rattle.calendar.proofs.Answers.{dayAnswer-is, dayAnswer-day}
-use Rattle.lines.specs.{Dates.numberedLine, Templates.{marked, takes, filledIn}}
+use Rattle.lines.specs.{Dates.numberedLine, inner.Templates.{marked, takes, filledIn}}
 use Rattle.lines.proofs.dates.numbered_line.Statement.{statement}
 use Rattle.calendar.specs.declared.WhichDay.the-variants as which-day
 use Rattle.lines.proofs.dates.numbered_line.Tie as tie

@@ -1,7 +1,7 @@
 -- `lines::dates::refused` meets its contract: the template filled is the line.
 use Rattle.base.proofs.Prelude.{sym, needs}
 use Rattle.rules.specs.Lines.{bytesOf, wordedIn, refusedLine}
-use Rattle.lines.specs.Templates.{marked, takes, filledIn}
+use Rattle.lines.specs.inner.Templates.{marked, takes, filledIn}
 use Rattle.lines.proofs.dates.refused.Statement.{statement}
 use Rattle.lines.proofs.dates.refused.Tie as tie
 

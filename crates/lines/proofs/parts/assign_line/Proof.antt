@@ -1,7 +1,7 @@
 -- `lines::parts::assign_line` meets its contract: each arm writes the line of its answer.
 use Rattle.base.proofs.Prelude.{arith, needs}
 use Rattle.rules.specs.Lines.{bytesOf, wordedIn, assignLine}
-use Rattle.lines.specs.Templates.{marked, takes, filledIn}
+use Rattle.lines.specs.inner.Templates.{marked, takes, filledIn}
 use Rattle.lines.proofs.parts.assign_line.Statement.{statement}
 use Rattle.lines.proofs.parts.assign_line.Tie as tie
 

@@ -1,7 +1,7 @@
 -- `lines::parts::outcome_line` meets its contract: each arm writes the line of its outcome.
 use Rattle.base.proofs.Prelude.{needs}
 use Rattle.rules.specs.Lines.{bytesOf, wordedIn, outcomeLine}
-use Rattle.lines.specs.Templates.{marked, takes, filledIn}
+use Rattle.lines.specs.inner.Templates.{marked, takes, filledIn}
 use Rattle.lines.proofs.parts.outcome_line.Statement.{statement}
 use Rattle.lines.proofs.parts.outcome_line.Tie as tie
 

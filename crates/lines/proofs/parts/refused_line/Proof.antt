@@ -1,7 +1,7 @@
 -- `lines::parts::refused_line` meets its contract: the template filled is the line.
 use Rattle.base.proofs.Prelude.{arith, sym, needs}
 use Rattle.rules.specs.Lines.{bytesOf, wordedIn, refusedLine}
-use Rattle.lines.specs.Templates.{marked, takes, filledIn}
+use Rattle.lines.specs.inner.Templates.{marked, takes, filledIn}
 use Rattle.lines.proofs.parts.refused_line.Statement.{statement}
 use Rattle.lines.proofs.parts.refused_line.Tie as tie
 

@@ -1,7 +1,7 @@
 -- `lines::parts::verdict_line` meets its contract: each arm writes the line of its verdict.
 use Rattle.base.proofs.Prelude.{_+_, _≤_, arith, needs}
 use Rattle.rules.specs.Lines.{bytesOf, wordedIn, verdictLine}
-use Rattle.lines.specs.Templates.{marked, takes, filledIn}
+use Rattle.lines.specs.inner.Templates.{marked, takes, filledIn}
 use Rattle.lines.proofs.{Filled.fill-32, parts.verdict_line.Statement.statement}
 use Rattle.lines.proofs.parts.verdict_line.Tie as tie
 

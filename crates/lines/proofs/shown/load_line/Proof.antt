@@ -1,7 +1,7 @@
 -- `lines::shown::load_line` meets its contract: the template filled is the line.
 use Rattle.base.proofs.Prelude.{needs}
 use Rattle.rules.specs.Lines.{bytesOf, wordedIn}
-use Rattle.lines.specs.{Shown.loadLine, Templates.{marked, takes, filledIn}}
+use Rattle.lines.specs.{Shown.loadLine, inner.Templates.{marked, takes, filledIn}}
 use Rattle.lines.proofs.shown.load_line.Statement.{statement}
 use Rattle.lines.proofs.shown.load_line.Tie as tie
 

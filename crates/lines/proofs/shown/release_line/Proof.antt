@@ -1,7 +1,7 @@
 -- `lines::shown::release_line` meets its contract: the template filled is the line.
 use Rattle.base.proofs.Prelude.{needs}
 use Rattle.rules.specs.Lines.{bytesOf, wordedIn}
-use Rattle.lines.specs.{Shown.releaseLine, Templates.{marked, takes, filledIn}}
+use Rattle.lines.specs.{Shown.releaseLine, inner.Templates.{marked, takes, filledIn}}
 use Rattle.lines.proofs.shown.release_line.Statement.{statement}
 use Rattle.lines.proofs.shown.release_line.Tie as tie
 

@@ -1,7 +1,7 @@
 -- `lines::shown::string_line` meets its contract: the test of the definition is the code's, and the template filled is the line.
 use Rattle.base.proofs.Prelude.{needs, eq-eqb, ne-eqb}
 use Rattle.rules.specs.Lines.{bytesOf, wordedIn}
-use Rattle.lines.specs.{Shown.{permission, stringLine}, Templates.{marked, takes, filledIn}}
+use Rattle.lines.specs.{Shown.{permission, stringLine}, inner.Templates.{marked, takes, filledIn}}
 use Rattle.lines.proofs.shown.string_line.Statement.{statement}
 use Rattle.lines.proofs.shown.string_line.Tie as tie
 

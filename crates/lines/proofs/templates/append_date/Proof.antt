@@ -3,7 +3,7 @@ use Rattle.base.proofs.Prelude.{_≡_, sym, _∙_, _++_, append-nil, arith, nee
 use Rattle.faults.specs.declared.Fault.{Fault}
 use Rattle.calendar.specs.declared.WhichDate.{WhichDate}
 use Rattle.calendar.proofs.Answers.{dateAnswer-refused, dateAnswer-exists}
-use Rattle.lines.specs.{declared.Page.Page, Pages.{pageOf, textOf, Written}, Templates.dateFor}
+use Rattle.lines.specs.{declared.Page.Page, Pages.{pageOf, textOf, Written}, inner.Templates.dateFor}
 use Rattle.lines.proofs.{Growing.own, templates.append_date.Statement.statement}
 use Rattle.calendar.specs.declared.WhichDate.the-variants as which-date
 use Rattle.lines.proofs.templates.append_date.Tie as tie

@@ -1,6 +1,6 @@
 -- `lines::templates::append_marked` meets its contract: the tests are the definition's, in its order.
 use Rattle.base.proofs.Prelude.{needs, eq-eqb, ne-eqb}
-use Rattle.lines.specs.Templates.{marked}
+use Rattle.lines.specs.inner.Templates.{marked}
 use Rattle.lines.proofs.templates.append_marked.Statement.{statement}
 use Rattle.lines.proofs.templates.append_marked.Tie as tie
 

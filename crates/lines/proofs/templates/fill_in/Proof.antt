@@ -1,6 +1,6 @@
 -- `lines::templates::fill_in` meets its contract: what is filled so far, with what is left of the template and the numbers, is the whole.
 use Rattle.base.proofs.Prelude.{_+_, _-_, _*_, _≤_, _≡_, refl, _++_, arith, length, getD, drop, length-take}
-use Rattle.lines.specs.{Pages.{textOf, Written}, Templates.filledIn}
+use Rattle.lines.specs.{Pages.{textOf, Written}, inner.Templates.filledIn}
 use Rattle.lines.proofs.{Digits.decimal-64, Growing.{own, written, len-more}, Filled.{marked-short, takes-most, filled-more, filled-used, filled-whole}, templates.fill_in.Statement.statement}
 use Rattle.lines.proofs.templates.fill_in.Tie as tie
 
