@@ -1,20 +1,8 @@
 -- Laws for loops over the strings of a plan: the array of ten of which the first n count, one string after the other.
-use Prim.Native.Nat.{ℕ, _+_, _-_, _≤_, _<_, min}
-use mathlib.Core.Path.{_≡_, sym, _∙_}
-use mathlib.Core.Bool.{true, false}
-use mathlib.Core.List.{List}
-use native.Mathlib.Omega.{arith}
-use native.Mathlib.Decide.{decLe}
-use native.Mathlib.Numerals.{add-one}
-use lib.ListN.{length, take, drop, getD, length-take, List·getD-eq-default}
-use lib.Seq.{take-all, getD-take}
-use Rattle.rules.specs.declared.BatteryString.{BatteryString}
-use Rattle.rules.specs.declared.Plan.{Plan}
-use Rattle.faults.specs.declared.Fault.the-variants.{OutOfBounds}
-use Rattle.faults.specs.declared.Checked.the-variants.{Lawful, Refused}
-use Rattle.lists.proofs.FirstN.{part-cons, part-end}
-use Rattle.rules.specs.Plan.{stringLawful, noString, stringAt}
-use Rattle.rules.specs.Refusal.{stringsCheck}
+use Rattle.base.proofs.Prelude.{ℕ, _+_, _-_, _≤_, _<_, min, _≡_, sym, _∙_, true, false, List, arith, decLe, add-one, length, take, drop, getD, length-take, List·getD-eq-default, take-all, getD-take}
+use Rattle.rules.specs.{declared.BatteryString.BatteryString, declared.Plan.Plan, Plan.{stringLawful, noString, stringAt}, Refusal.stringsCheck}
+use Rattle.faults.specs.{declared.Fault.the-variants.OutOfBounds, declared.Checked.the-variants.{Lawful, Refused}}
+use Rattle.base.proofs.FirstN.{part-cons, part-end}
 
 -- of m elements, as many as count are those up to the smaller of k and m
 pub take-min {ℓ} : {A : Type ℓ} (k m : ℕ) (xs : List A) → length xs ≡ m → take (min k m) xs ≡ take k xs

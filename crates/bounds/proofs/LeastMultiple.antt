@@ -1,29 +1,17 @@
 -- H is the least common multiple of all T: the numbers that every T divides are the multiples of one number.
 --     period s          T of s
 --     Done xs n h i     h, 1 to 100,000, is the least common multiple of the first i of n strings
-use Prim.Native.Nat.{ℕ, _+_, _≤_, _<_}
-use mathlib.Core.Path.{_≡_, refl, sym, ap, _∙_}
-use mathlib.Core.Logic.{_↔_}
-use mathlib.Core.Bool.{true, false}
-use mathlib.Core.List.{List, [], _∷_}
-use native.Mathlib.Omega.{arith}
-use native.Mathlib.Numerals.{add-one}
-use native.Mathlib.Nat.{dvd-refl, le-of-dvd}
-use lib.ListN.{length, take, getD}
+use Rattle.base.proofs.Prelude.{ℕ, _+_, _≤_, _<_, _≡_, refl, sym, ap, _∙_, _↔_, true, false, List, [], _∷_, arith, add-one, dvd-refl, le-of-dvd, length, take, getD}
 use lib.Seq.{take-take}
-use Rattle.numbers.specs.Divisors.{divides}
-use Rattle.numbers.specs.Multiples.{lcm, lcmOf, CommonMultiple}
-use Rattle.numbers.proofs.Divisors.{divides-is}
-use Rattle.numbers.proofs.Multiples.{lcmOf-dvd-iff, lcmOf-take, lcmOf-past}
-use Rattle.rules.specs.declared.BatteryString.{BatteryString}
-use Rattle.rules.specs.declared.Plan.{Plan}
-use Rattle.lists.specs.Count.{every}
+use Rattle.base.specs.{Divisors.divides, Multiples.{lcm, lcmOf, CommonMultiple}}
+use Rattle.base.proofs.{Divisors.divides-is, Multiples.{lcmOf-dvd-iff, lcmOf-take, lcmOf-past}}
+use Rattle.rules.specs.{declared.BatteryString.BatteryString, declared.Plan.Plan, Plan.{stringsOf, noString, commonMultiple, multipleOf}}
+use Rattle.base.specs.Count.{every}
 use Rattle.faults.specs.Checks.{inBounds}
-use Rattle.rules.specs.Plan.{stringsOf, noString, commonMultiple, multipleOf}
-use Rattle.lists.proofs.Lists.{by-bool, true-not-false}
+use Rattle.base.proofs.Lists.{by-bool, true-not-false}
 use Rattle.faults.proofs.Checks.{inBounds-low, inBounds-yes, inBounds-not}
 use Rattle.laws.proofs.Lawful.{multipleOf-found, multipleOf-over}
-use Rattle.bounds.specs.Capped.{capped}
+use Rattle.bounds.specs.inner.Capped.{capped}
 
 -- ---- capped
 

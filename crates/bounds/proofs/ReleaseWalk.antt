@@ -1,20 +1,8 @@
 -- The walk over a release list: what holds before each release, and how it ends.
-use Prim.Native.Nat.{ℕ, _+_, _-_, _≤_, _<_}
-use mathlib.Core.Path.{_≡_, sym, ap, _∙_}
-use mathlib.Core.Bool.{true, false}
-use mathlib.Core.List.{List}
-use native.Mathlib.Omega.{arith}
-use native.Mathlib.Decide.{ℕ-discrete}
-use lib.ListN.{length, take, drop, getD, set, length-set}
-use lib.Seq.{getD-set-same, getD-set-other}
-use Rattle.days.specs.declared.Day.{Day}
-use Rattle.days.specs.Days.{day}
-use Rattle.rules.specs.declared.Plan.{Plan}
-use Rattle.rules.specs.declared.Release.{Release}
-use Rattle.rules.specs.Release.{releaseLawful, unlawfulFrom, firstUnlawful, noRelease}
-use Rattle.bounds.specs.declared.releases.Last.{Last}
-use Rattle.bounds.specs.declared.releases.Last.the-variants.{Never, On}
-use Rattle.bounds.specs.Seen.{latestOf, lastOf, rememberedOf, admits}
+use Rattle.base.proofs.Prelude.{ℕ, _+_, _-_, _≤_, _<_, _≡_, sym, ap, _∙_, true, false, List, arith, ℕ-discrete, length, take, drop, getD, set, length-set, getD-set-same, getD-set-other}
+use Rattle.days.specs.{declared.Day.Day, Days.day}
+use Rattle.rules.specs.{declared.Plan.Plan, declared.Release.Release, Release.{releaseLawful, unlawfulFrom, firstUnlawful, noRelease}}
+use Rattle.bounds.specs.{declared.releases.Last.Last, declared.releases.Last.the-variants.{Never, On}, inner.Seen.{latestOf, lastOf, rememberedOf, admits}}
 use Rattle.bounds.proofs.Seen.{seenTo, seenTo-none, latestOf-next, lastOf-same, lastOf-other, unlawfulFrom-good, unlawfulFrom-bad, unlawfulFrom-end, admits-remembered, admits-facts, admitted-few}
 
 pub record Walk (p : Plan) (rs : List Release) (end : ℕ) (last : List Last) (latest : Day) (i : ℕ) : Type 0 where
@@ -47,7 +35,7 @@ module _ {p : Plan} {rs : List Release} {end : ℕ} where
     here : Release
     here = getD rs i noRelease
 
-    pub walk-admits : admits p latest (rememberedOf last (getD rs i noRelease .place)) (getD rs i noRelease)
+    walk-admits : admits p latest (rememberedOf last (getD rs i noRelease .place)) (getD rs i noRelease)
         ≡ releaseLawful p (seenTo rs i) (getD rs i noRelease)
     walk-admits =
         ap (λ v. admits p v (rememberedOf last (getD rs i noRelease .place)) (getD rs i noRelease)) (w .order)
@@ -58,8 +46,8 @@ module _ {p : Plan} {rs : List Release} {end : ℕ} where
     walk-bad inside e =
         sym (unlawfulFrom-bad p rs end i inside (omega arith) (i + 1) (sym walk-admits ∙ e)) ∙ w .same
 
-    pub walk-end : end ≤ i → 0 ≡ firstUnlawful p (take end rs)
-    walk-end h = sym (unlawfulFrom-end p rs end i (i + 1) h) ∙ w .same
+    pub releases-walked : end ≤ i → 0 ≡ firstUnlawful p (take end rs)
+    releases-walked h = sym (unlawfulFrom-end p rs end i (i + 1) h) ∙ w .same
 
     -- an admitted release has one of the ten places
     pub walk-low : admits p latest (rememberedOf last (getD rs i noRelease .place)) (getD rs i noRelease) ≡ true

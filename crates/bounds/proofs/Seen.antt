@@ -1,29 +1,12 @@
 -- Laws of what the code remembers of the releases seen: it decides the next release as the list itself does.
 --     Admitted p latest last r   the facts that admits tests
-use Prim.Native.Nat.{ℕ, zero, suc, _+_, _-_, _≤_, _<_}
-use mathlib.Core.Path.{_≡_, refl, sym, ap, _∙_}
-use mathlib.Core.Bool.{Bool, true, false, not, _&&_}
-use mathlib.Core.List.{List, [], _∷_}
-use native.Mathlib.Omega.{arith}
-use native.Mathlib.Decide.{decLe}
-use native.Mathlib.Numerals.{add-one}
-use borrow.Author.Tests.{lt-ltb, le-ltb, ltb-true, ltb-false, eq-eqb, ne-eqb, not-true}
-use lib.Dec.{ltb, eqb}
-use lib.ListN.{length, take, drop, getD}
-use Rattle.days.specs.declared.Day.{Day}
-use Rattle.days.specs.declared.Length.{Length}
-use Rattle.rules.specs.declared.BatteryString.{BatteryString}
-use Rattle.rules.specs.declared.Plan.{Plan}
-use Rattle.rules.specs.declared.Release.{Release}
-use Rattle.rules.specs.Plan.{stringAt}
+use Rattle.base.proofs.Prelude.{ℕ, zero, suc, _+_, _-_, _≤_, _<_, _≡_, refl, sym, ap, _∙_, Bool, true, false, not, _&&_, List, [], _∷_, arith, decLe, add-one, lt-ltb, le-ltb, ltb-true, ltb-false, eq-eqb, ne-eqb, not-true, ltb, eqb, length, take, drop, getD}
+use Rattle.days.specs.{declared.Day.Day, declared.Length.Length}
+use Rattle.rules.specs.{declared.BatteryString.BatteryString, declared.Plan.Plan, declared.Release.Release, Plan.stringAt, Release.{tooClose, outOfOrder, releaseLawful, unlawfulFrom, noRelease}}
 use Rattle.faults.specs.Checks.{inBounds}
 use Rattle.faults.proofs.Checks.{inBounds-low, inBounds-high, inBounds-yes}
-use Rattle.rules.specs.Release.{tooClose, outOfOrder, releaseLawful, unlawfulFrom, noRelease}
-use Rattle.lists.proofs.FirstN.{part-cons, part-end}
-use Rattle.lists.proofs.Lists.{by-bool, and-left, and-right, true-not-false}
-use Rattle.bounds.specs.declared.releases.Last.{Last}
-use Rattle.bounds.specs.declared.releases.Last.the-variants.{Never, On}
-use Rattle.bounds.specs.Seen.{latestOf, lastOf, rememberedOf, tooSoon, admits}
+use Rattle.base.proofs.{FirstN.{part-cons, part-end}, Lists.{by-bool, and-left, and-right, true-not-false}}
+use Rattle.bounds.specs.{declared.releases.Last.Last, declared.releases.Last.the-variants.{Never, On}, inner.Seen.{latestOf, lastOf, rememberedOf, tooSoon, admits}}
 use Rattle.bounds.proofs.ByPlace.{stringAt-out}
 
 -- ---- The list, and what is remembered of it
@@ -38,7 +21,7 @@ unfolding tooClose lastOf tooSoon
 apart-is t r [] = refl
 apart-is t r (q ∷ seen) = by-bool (eqb (q .place) (r .place)) (λ e. rw e) (λ e. rw e (apart-is t r seen))
 
-pub admits-is : (p : Plan) (seen : List Release) (r : Release)
+admits-is : (p : Plan) (seen : List Release) (r : Release)
     → admits p (latestOf seen) (lastOf (r .place) seen) r ≡ releaseLawful p seen r
 unfolding admits releaseLawful
 admits-is p seen r = rw (order-is r seen, apart-is (stringAt p (r .place) .t) r seen)
@@ -114,7 +97,7 @@ pub seenTo-none : (rs : List Release) → seenTo rs 0 ≡ []
 unfolding seenTo
 seenTo-none rs = refl
 
-pub seenTo-next : (rs : List Release) (i : ℕ) → seenTo rs (i + 1) ≡ getD rs i noRelease ∷ seenTo rs i
+seenTo-next : (rs : List Release) (i : ℕ) → seenTo rs (i + 1) ≡ getD rs i noRelease ∷ seenTo rs i
 unfolding seenTo
 seenTo-next rs i = rw add-one
 

@@ -1,2 +1,1 @@
-pub mod Capped
-pub mod Seen
+pub mod inner

@@ -3,10 +3,10 @@ use super::strings::counted;
 use rules::Plan;
 ghost use mathlib.Core.Path.{_≡_};
 ghost use Prim.Native.Nat.{_≤_};
-ghost use Rattle.numbers.specs.Divisors.{gcd};
-ghost use Rattle.numbers.specs.Multiples.{lcm};
+ghost use Rattle.base.specs.Divisors.{gcd};
+ghost use Rattle.base.specs.Multiples.{lcm};
 ghost use Rattle.rules.specs.Plan.{multipleOf};
-ghost use Rattle.bounds.specs.Capped.{capped};
+ghost use Rattle.bounds.specs.inner.Capped.{capped};
 
 // The greatest common divisor: what divides two numbers divides the rest of their division too.
 fn common_divisor(a: u32, b: u32) -> u32

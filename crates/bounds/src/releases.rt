@@ -8,7 +8,7 @@ use rules::Releases;
 ghost use mathlib.Core.Path.{_≡_};
 ghost use Prim.Native.Nat.{min};
 ghost use Rattle.rules.specs.Release.{releasesOf, firstUnlawful};
-ghost use Rattle.bounds.specs.Seen.{tooSoon, admits, rememberedOf};
+ghost use Rattle.bounds.specs.inner.Seen.{tooSoon, admits, rememberedOf};
 
 // The last release of a place, where there was one.
 pub(crate) enum Last {

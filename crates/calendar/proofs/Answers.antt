@@ -1,36 +1,15 @@
 -- Laws of the calendar's answers: which case holds.
-use Prim.Native.Nat.{ℕ, _≤_, _<_}
-use mathlib.Core.Path.{_≡_, refl, sym, ap, _∙_}
-use mathlib.Core.Logic.{_↔_}
-use mathlib.Core.Bool.{Bool, true, false, _||_}
-use mathlib.Core.List.{List, _++_}
-use native.Mathlib.Omega.{arith}
-use native.Mathlib.Decide.{decLe}
-use lib.Dec.{ltb}
-use lib.ListN.{length, drop}
-use borrow.Author.Tests.{le-leb, lt-leb, lt-ltb, le-ltb}
-use Rattle.lists.proofs.Lists.{by-bool, true-not-false}
-use Rattle.days.specs.declared.Day.{Day}
-use Rattle.days.specs.Days.{day}
-use Rattle.faults.specs.declared.Fault.{Fault}
-use Rattle.faults.specs.declared.Fault.the-variants.{NoRoom, NoSuchDate, NoSuchEdition}
-use Rattle.calendar.specs.declared.Date.{Date}
+use Rattle.base.proofs.Prelude.{ℕ, _≤_, _<_, _≡_, refl, sym, ap, _∙_, _↔_, Bool, true, false, _||_, List, _++_, arith, decLe, ltb, length, drop, le-leb, lt-leb, lt-ltb, le-ltb}
+use Rattle.base.proofs.Lists.{by-bool, true-not-false}
+use Rattle.days.specs.{declared.Day.Day, Days.day}
+use Rattle.faults.specs.{declared.Fault.Fault, declared.Fault.the-variants.{NoRoom, NoSuchDate, NoSuchEdition}}
+use Rattle.calendar.specs.{declared.Date.Date, declared.YearlyDate.YearlyDate, declared.Weekday.the-variants.Saturday, Years.{leapYear, monthsWith, monthLengths, monthLength}, Dates.{epoch, dateExists}, Numbers.{daysBeforeYear, daysBeforeMonth, dayNumber, dateOf, lastDay}, Weekdays.weekdayOf, Yearly.{noEdition, onLeapDay, inNoYear, yearlyDays}, Refusals.{dateAnswer, dayAnswer, weekdayAnswer, yearlyCheck, listedIf, storedIf, yearlyAnswer, yearlyListed}, Said.{Said, refused, days, dateSays, daySays, weekdaySays, listedSays}}
+use Rattle.base.specs.Count.{sumOf, upFrom}
+use Rattle.calendar.proofs.{BothWays.{dateOf-exists, dayNumber-dateOf, dayNumber-in-range, dateOf-dayNumber}, Editions.editions-agree}
 use Rattle.calendar.specs.declared.WhichDate.the-variants as which-date
 use Rattle.calendar.specs.declared.WhichDay.the-variants as which-day
 use Rattle.calendar.specs.declared.WhichWeekday.the-variants as which-weekday
-use Rattle.calendar.specs.declared.YearlyDate.{YearlyDate}
 use Rattle.calendar.specs.declared.Listed.the-variants as listed
-use Rattle.lists.specs.Count.{sumOf, upFrom}
-use Rattle.calendar.specs.declared.Weekday.the-variants.{Saturday}
-use Rattle.calendar.specs.Years.{leapYear, monthsWith, monthLengths, monthLength}
-use Rattle.calendar.specs.Dates.{epoch, dateExists}
-use Rattle.calendar.specs.Numbers.{daysBeforeYear, daysBeforeMonth, dayNumber, dateOf, lastDay}
-use Rattle.calendar.specs.Weekdays.{weekdayOf}
-use Rattle.calendar.specs.Yearly.{noEdition, onLeapDay, inNoYear, yearlyDays}
-use Rattle.calendar.specs.Refusals.{dateAnswer, dayAnswer, weekdayAnswer, yearlyCheck, listedIf, storedIf, yearlyAnswer, yearlyListed}
-use Rattle.calendar.specs.Said.{Said, refused, days, dateSays, daySays, weekdaySays, listedSays}
-use Rattle.calendar.proofs.BothWays.{dateOf-exists, dayNumber-dateOf, dayNumber-in-range, dateOf-dayNumber}
-use Rattle.calendar.proofs.Editions.{editions-agree}
 
 pub dateAnswer-is : (k : ℕ) → k ≤ lastDay → dateAnswer k ≡ which-date.Is (dateOf k)
 unfolding dateAnswer
@@ -44,7 +23,7 @@ never : _≡_ {A = ℕ} 0 1 → ⊥
 never z = omega arith
 
 -- a date that is answered is the day's own, and exists
-pub dateAnswer-date : (k : ℕ) (d : Date) → dateAnswer k ≡ which-date.Is d → (k ≤ lastDay) × (d ≡ dateOf k)
+dateAnswer-date : (k : ℕ) (d : Date) → dateAnswer k ≡ which-date.Is d → (k ≤ lastDay) × (d ≡ dateOf k)
 dateAnswer-date k d h =
     elim (decLe k lastDay) [ yes within ↦ inside within (dateAnswer-is k within) | no over ↦ outside (dateAnswer-refused k (omega arith)) ]
   where
@@ -185,13 +164,13 @@ module _ (ed : ℕ) (t : YearlyDate) (a e : ℕ) (list : List ℕ) where
       (rw (known, good, fits), rw (known, good, fits))
 
   -- the four ways to answer
-  pub data Outcome : Type 0 where
-    eleven : noEdition ed ≡ true → Outcome
-    ten : noEdition ed ≡ false → noSuch ≡ true → Outcome
-    nine : noEdition ed ≡ false → noSuch ≡ false → length list < length (yearlyDays ed t a e) → Outcome
-    all : noEdition ed ≡ false → noSuch ≡ false → length (yearlyDays ed t a e) ≤ length list → Outcome
+  pub data Way : Type 0 where
+    eleven : noEdition ed ≡ true → Way
+    ten : noEdition ed ≡ false → noSuch ≡ true → Way
+    nine : noEdition ed ≡ false → noSuch ≡ false → length list < length (yearlyDays ed t a e) → Way
+    all : noEdition ed ≡ false → noSuch ≡ false → length (yearlyDays ed t a e) ≤ length list → Way
 
-  pub outcome : Outcome
+  outcome : Way
   outcome =
       by-bool (noEdition ed) (λ other. eleven other)
       (λ known. by-bool noSuch (λ bad. ten known bad)
@@ -210,7 +189,7 @@ module _ (ed : ℕ) (t : YearlyDate) (a e : ℕ) (list : List ℕ) where
       front known good room count =
           (count, yearly-listed known good room .1 ∙ ap (λ m. yearlyDays ed t a e ++ drop m list) (sym count))
 
-      by : Outcome → (n ≡ length (yearlyDays ed t a e)) × (yearlyListed ed t a e list ≡ yearlyDays ed t a e ++ drop n list)
+      by : Way → (n ≡ length (yearlyDays ed t a e)) × (yearlyListed ed t a e list ≡ yearlyDays ed t a e ++ drop n list)
       by (eleven other) =
           let is = yearly-no-edition other .0 in
           absurd (never (cc))
@@ -229,7 +208,7 @@ module _ (ed : ℕ) (t : YearlyDate) (a e : ℕ) (list : List ℕ) where
   pub listed-exists : (n : ℕ) → yearlyAnswer ed t a e (length list) ≡ listed.Days n → inNoYear t ≡ false
   listed-exists n h = by-bool (inNoYear t) (λ none. absurd (by none outcome)) (λ some. some)
     where
-      by : inNoYear t ≡ true → Outcome → ⊥
+      by : inNoYear t ≡ true → Way → ⊥
       by none (eleven other) =
           let is = yearly-no-edition other .0 in
           never (cc)
@@ -245,7 +224,7 @@ module _ (ed : ℕ) (t : YearlyDate) (a e : ℕ) (list : List ℕ) where
   pub refused-kept : (f : Fault) (at : ℕ) → yearlyAnswer ed t a e (length list) ≡ listed.Refused f at → yearlyListed ed t a e list ≡ list
   refused-kept f at h = by outcome
     where
-      by : Outcome → yearlyListed ed t a e list ≡ list
+      by : Way → yearlyListed ed t a e list ≡ list
       by (eleven other) = yearly-no-edition other .1
       by (ten known bad) = yearly-no-such known bad .1
       by (nine known good few) = yearly-no-room known good few .1
@@ -273,7 +252,7 @@ module _ (ed : ℕ) (t : YearlyDate) (a e : ℕ) (list : List ℕ) where
   pub eleven-exactly : (listedSays (yearlyAnswer ed t a e (length list)) ≡ refused 11 0) ↔ (noEdition ed ≡ true)
   eleven-exactly = (λ h. by h outcome, eleven-said)
     where
-      by : listedSays (yearlyAnswer ed t a e (length list)) ≡ refused 11 0 → Outcome → noEdition ed ≡ true
+      by : listedSays (yearlyAnswer ed t a e (length list)) ≡ refused 11 0 → Way → noEdition ed ≡ true
       by h (eleven other) = other
       by h (ten known bad) = absurd (one-number 10 11 (sym (ten-said known bad) ∙ h) (omega arith))
       by h (nine known good few) = absurd (one-number 9 11 (sym (nine-said known good few) ∙ h) (omega arith))
@@ -283,7 +262,7 @@ module _ (ed : ℕ) (t : YearlyDate) (a e : ℕ) (list : List ℕ) where
   pub ten-exactly : (listedSays (yearlyAnswer ed t a e (length list)) ≡ refused 10 0) ↔ ((noEdition ed ≡ false) × (noSuch ≡ true))
   ten-exactly = (λ h. by h outcome, λ p. ten-said (p .0) (p .1))
     where
-      by : listedSays (yearlyAnswer ed t a e (length list)) ≡ refused 10 0 → Outcome → (noEdition ed ≡ false) × (noSuch ≡ true)
+      by : listedSays (yearlyAnswer ed t a e (length list)) ≡ refused 10 0 → Way → (noEdition ed ≡ false) × (noSuch ≡ true)
       by h (eleven other) = absurd (one-number 11 10 (sym (eleven-said other) ∙ h) (omega arith))
       by h (ten known bad) = (known, bad)
       by h (nine known good few) = absurd (one-number 9 10 (sym (nine-said known good few) ∙ h) (omega arith))
@@ -294,7 +273,7 @@ module _ (ed : ℕ) (t : YearlyDate) (a e : ℕ) (list : List ℕ) where
       ↔ ((noEdition ed ≡ false) × (noSuch ≡ false) × (length list < length (yearlyDays ed t a e)))
   nine-exactly = (λ h. by h outcome, λ p. nine-said (p .0) (p .1) (p .2))
     where
-      by : listedSays (yearlyAnswer ed t a e (length list)) ≡ refused 9 0 → Outcome
+      by : listedSays (yearlyAnswer ed t a e (length list)) ≡ refused 9 0 → Way
           → (noEdition ed ≡ false) × (noSuch ≡ false) × (length list < length (yearlyDays ed t a e))
       by h (eleven other) = absurd (one-number 11 9 (sym (eleven-said other) ∙ h) (omega arith))
       by h (ten known bad) = absurd (one-number 10 9 (sym (ten-said known bad) ∙ h) (omega arith))

@@ -1,18 +1,7 @@
 -- Both ways agree on every day and every date: the sheets of the calendar, counted from the first, are its dates in their order, each once.
-use Prim.Native.Nat.{ℕ, zero, suc, _+_, _-_, _≤_, _<_}
-use mathlib.Core.Path.{_≡_, refl, ap, _∙_}
-use mathlib.Core.Bool.{true}
-use mathlib.Core.Logic.{_↔_}
-use native.Mathlib.Omega.{arith}
-use native.Mathlib.Decide.{decLe}
-use borrow.Author.Tests.{lt-ltb, le-ltb}
-use Rattle.calendar.specs.declared.Date.{Date}
-use Rattle.calendar.specs.Years.{monthLength, monthsWith, monthLengths, leapYear}
-use Rattle.calendar.specs.Dates.{date, epoch, dateExists, earlier, dateAfter}
-use Rattle.calendar.specs.Numbers.{daysBeforeYear, daysBeforeMonth, dayNumber, dateOf, lastDay}
-use Rattle.calendar.proofs.Months.{monthLength-bounds, daysBeforeMonth-first, daysBeforeMonth-next, daysBeforeMonth-all}
-use Rattle.calendar.proofs.Existing.{Existing, existing, exists, daysBeforeYear-next, daysBeforeYear-2000, daysBeforeYear-2400, dayNumber-january, dayNumber-last}
-use Rattle.calendar.proofs.Order.{Compared, sooner, same, later, compared, before-number, earlier-of-before, before-of-earlier}
+use Rattle.base.proofs.Prelude.{ℕ, zero, suc, _+_, _-_, _≤_, _<_, _≡_, refl, ap, _∙_, true, _↔_, arith, decLe, lt-ltb, le-ltb}
+use Rattle.calendar.specs.{declared.Date.Date, Years.{monthLength, monthsWith, monthLengths, leapYear}, Dates.{date, epoch, dateExists, earlier, dateAfter}, Numbers.{daysBeforeYear, daysBeforeMonth, dayNumber, dateOf, lastDay}}
+use Rattle.calendar.proofs.{Months.{monthLength-bounds, daysBeforeMonth-first, daysBeforeMonth-next, daysBeforeMonth-all}, Existing.{Existing, existing, exists, daysBeforeYear-next, daysBeforeYear-2000, daysBeforeYear-2400, dayNumber-january, dayNumber-last}, Order.{Compared, sooner, same, later, comes-before-or-after, before-number, earlier-of-before, before-of-earlier}}
 
 -- ---- The next sheet
 
@@ -36,7 +25,7 @@ sheet d x =
       ]
     ]
 
-pub dayNumber-after : (d : Date) → Existing d → dayNumber (dateAfter d) ≡ suc (dayNumber d)
+dayNumber-after : (d : Date) → Existing d → dayNumber (dateAfter d) ≡ suc (dayNumber d)
 unfolding dayNumber
 dayNumber-after d x = counted (sheet d x)
   where
@@ -57,7 +46,7 @@ dayNumber-after d x = counted (sheet d x)
 
 -- ---- No sheet is missing
 
-pub dateAfter-existing : (d : Date) → Existing d → dayNumber d < lastDay → Existing (dateAfter d)
+dateAfter-existing : (d : Date) → Existing d → dayNumber d < lastDay → Existing (dateAfter d)
 dateAfter-existing d x before-end = made (sheet d x)
   where
     made : Sheet d → Existing (dateAfter d)
@@ -120,7 +109,7 @@ dayNumber-in-range d h = dayNumber-last d (existing d h)
 
 -- the order of dates is the order of their numbers
 pub order-kept : (d e : Date) → dateExists d ≡ true → dateExists e ≡ true → (earlier d e ≡ true) ↔ (dayNumber d < dayNumber e)
-order-kept d e h g = ((λ t. before-number d e x z (before-of-earlier d e t)), (λ less. by-order less (compared d e)))
+order-kept d e h g = ((λ t. before-number d e x z (before-of-earlier d e t)), (λ less. by-order less (comes-before-or-after d e)))
   where
     x : Existing d
     x = existing d h
@@ -135,7 +124,7 @@ order-kept d e h g = ((λ t. before-number d e x z (before-of-earlier d e t)), (
 
 -- no two dates have one number
 pub dayNumber-one : (d e : Date) → dateExists d ≡ true → dateExists e ≡ true → dayNumber d ≡ dayNumber e → d ≡ e
-dayNumber-one d e h g p = by-order (compared d e)
+dayNumber-one d e h g p = by-order (comes-before-or-after d e)
   where
     by-order : Compared d e → d ≡ e
     by-order (sooner b) = absurd (omega (arith, before-number d e (existing d h) (existing e g) b))

@@ -1,20 +1,9 @@
 -- The calendar repeats: after 146,097 days, 400 years, every date comes again on its weekday.
-use Prim.Native.Nat.{ℕ, zero, suc, _+_, _-_, _%_}
-use mathlib.Core.Path.{_≡_, refl, sym, ap, _∙_}
-use mathlib.Core.Bool.{true, cond}
-use native.Mathlib.Omega.{arith}
-use lib.Dec.{ltb}
-use lib.ListN.{getD}
-use Rattle.lists.specs.Count.{sumOf, upFrom}
-use Rattle.lists.proofs.Lists.{by-bool}
-use Rattle.calendar.specs.declared.Date.{Date}
-use Rattle.calendar.specs.declared.Weekday.the-variants.{Saturday}
-use Rattle.calendar.specs.Years.{leapYear, yearLength, monthsWith, monthLengths, monthLength}
-use Rattle.calendar.specs.Dates.{date, epoch, dateExists, dateAfter}
-use Rattle.calendar.specs.Numbers.{daysBeforeYear, daysBeforeMonth, dayNumber, dateOf, lastDay}
-use Rattle.calendar.specs.Weekdays.{week, weekdayOf}
-use Rattle.calendar.proofs.Order.{same-date}
-use Rattle.calendar.proofs.BothWays.{dateOf-dayNumber}
+use Rattle.base.proofs.Prelude.{ℕ, zero, suc, _+_, _-_, _%_, _≡_, refl, sym, ap, _∙_, true, cond, arith, ltb, getD}
+use Rattle.base.specs.Count.{sumOf, upFrom}
+use Rattle.base.proofs.Lists.{by-bool}
+use Rattle.calendar.specs.{declared.Date.Date, declared.Weekday.the-variants.Saturday, Years.{leapYear, yearLength, monthsWith, monthLengths, monthLength}, Dates.{date, epoch, dateExists, dateAfter}, Numbers.{daysBeforeYear, daysBeforeMonth, dayNumber, dateOf, lastDay}, Weekdays.{week, weekdayOf}}
+use Rattle.calendar.proofs.{Order.same-date, BothWays.dateOf-dayNumber}
 
 -- the same day 400 years later
 abbrev pub ages : Date → Date

@@ -1,22 +1,12 @@
 -- Day numbers as texts: what is read so far, and what is left.
 --     digitsAfter n text    the number that digits write behind those that wrote n, as digitsNumber
-use Prim.Native.Nat.{ℕ, _+_, _-_, _*_, _≤_, _<_, min}
-use mathlib.Core.Path.{_≡_, refl}
-use mathlib.Core.Bool.{true, false, cond}
-use mathlib.Core.List.{List, [], _∷_}
-use native.Mathlib.Omega.{arith}
-use native.Mathlib.Numerals.{add-one}
-use borrow.Author.Tests.{le-leb, lt-leb}
-use lib.ListN.{length, getD, drop, drop-of-length-le}
-use lib.Seq.{drop-cons}
+use Rattle.base.proofs.Prelude.{ℕ, _+_, _-_, _*_, _≤_, _<_, min, _≡_, refl, true, false, cond, List, [], _∷_, arith, add-one, le-leb, lt-leb, length, getD, drop, drop-of-length-le, drop-cons}
 use Rattle.days.specs.Days.{day}
-use Rattle.lists.specs.Count.{every}
-use Rattle.lists.proofs.Lists.{by-bool}
+use Rattle.base.specs.Count.{every}
+use Rattle.base.proofs.Lists.{by-bool}
 use Rattle.faults.specs.declared.Fault.the-variants.{NoSuchDate}
+use Rattle.calendar.specs.{Numbers.lastDay, Texts.{fitsAt, number, numberAfter, noNumber, dayReading}, inner.Places.digitsNumber}
 use Rattle.calendar.specs.declared.WhichDay.the-variants as which-day
-use Rattle.calendar.specs.Numbers.{lastDay}
-use Rattle.calendar.specs.Texts.{fitsAt, number, numberAfter, noNumber, dayReading}
-use Rattle.calendar.specs.Places.{digitsNumber}
 
 unfoldable pub digitsAfter : ℕ → List ℕ → ℕ
 digitsAfter n text = cond (every (fitsAt 0x30) text) (min (numberAfter n text) (lastDay + 1)) (lastDay + 1)

@@ -1,16 +1,7 @@
 -- Laws of editions: the date of a test in a year, moved or as it is set.
-use Prim.Native.Nat.{ℕ}
-use mathlib.Core.Path.{_≡_, refl, ap, _∙_}
-use mathlib.Core.Bool.{true, false}
-use mathlib.Core.List.{List, [], _∷_, map}
-use lib.Dec.{eqb}
-use borrow.Author.Tests.{eqb-true}
-use Rattle.lists.proofs.Lists.{by-bool, and-left, and-right}
-use Rattle.calendar.specs.declared.Date.{Date}
-use Rattle.calendar.specs.declared.YearlyDate.{YearlyDate}
-use Rattle.calendar.specs.Years.{leapYear}
-use Rattle.calendar.specs.Dates.{date}
-use Rattle.calendar.specs.Yearly.{years, onLeapDay, setOn, movedIn, inYear, datesIn, daysIn, yearlyDays}
+use Rattle.base.proofs.Prelude.{ℕ, _≡_, refl, ap, _∙_, true, false, List, [], _∷_, map, eqb, eqb-true}
+use Rattle.base.proofs.Lists.{by-bool, and-left, and-right}
+use Rattle.calendar.specs.{declared.Date.Date, declared.YearlyDate.YearlyDate, Years.leapYear, Dates.date, Yearly.{years, onLeapDay, setOn, movedIn, inYear, datesIn, daysIn, yearlyDays}}
 use Rattle.calendar.proofs.Places.{februaryOf}
 
 -- ---- The date in a year

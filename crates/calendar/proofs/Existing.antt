@@ -1,20 +1,11 @@
 -- What it is for a date to exist, as facts on numbers; and where its day number lies.
 --     Existing d            the bounds of d's year, month and day
-use Prim.Native.Nat.{ℕ, suc, _+_, _-_, _≤_, _<_}
-use mathlib.Core.Path.{_≡_, refl, ap}
-use mathlib.Core.Bool.{true, false, _&&_}
-use native.Mathlib.Omega.{arith}
-use lib.Dec.{leb}
-use borrow.Author.Tests.{le-leb}
-use Rattle.lists.proofs.Lists.{by-bool, and-left, and-right, and-both}
+use Rattle.base.proofs.Prelude.{ℕ, suc, _+_, _-_, _≤_, _<_, _≡_, refl, ap, true, false, _&&_, arith, leb, le-leb}
+use Rattle.base.proofs.Lists.{by-bool, and-left, and-right, and-both}
 use Rattle.faults.specs.Checks.{inBounds}
 use Rattle.faults.proofs.Checks.{inBounds-low, inBounds-high, inBounds-yes}
-use Rattle.calendar.specs.declared.Date.{Date}
-use Rattle.calendar.specs.Years.{yearLength, monthLength}
-use Rattle.calendar.specs.Dates.{date, dateExists}
-use Rattle.calendar.specs.Numbers.{daysBeforeYear, daysBeforeMonth, dayNumber, lastDay}
-use Rattle.calendar.proofs.Years.{up, yearStart, yearStart-next, yearStart-mono, daysBeforeYear-closed}
-use Rattle.calendar.proofs.Months.{daysBeforeMonth-first, daysBeforeMonth-next, daysBeforeMonth-le, daysBeforeMonth-all}
+use Rattle.calendar.specs.{declared.Date.Date, Years.{yearLength, monthLength}, Dates.{date, dateExists}, Numbers.{daysBeforeYear, daysBeforeMonth, dayNumber, lastDay}}
+use Rattle.calendar.proofs.{Years.{up, yearStart, yearStart-next, yearStart-mono, daysBeforeYear-closed}, Months.{daysBeforeMonth-first, daysBeforeMonth-next, daysBeforeMonth-le, daysBeforeMonth-all}}
 
 pub record Existing (d : Date) : Type 0 where
   pub from-2000 : 2000 ≤ d .year

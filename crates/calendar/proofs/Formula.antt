@@ -1,14 +1,10 @@
 -- The months by arithmetic. If February had 30 days, month m would start after (367 m - 362) / 12 days of the year.
 --     fullStart m           the days before month m, with 30 days in February
 --     oddDays m             the days of a month other than February over 30: 1 or 0
-use Prim.Native.Nat.{ℕ, _+_, _-_, _*_, _/_, _%_, _≤_, _<_}
-use mathlib.Core.Path.{_≡_}
-use native.Mathlib.Omega.{arith}
-use lib.ListN.{take, getD}
-use Rattle.lists.specs.Count.{sumOf, upFrom}
-use Rattle.lists.proofs.Order.{each-of-upFrom}
-use Rattle.calendar.specs.Years.{monthsWith}
-use Rattle.calendar.specs.Places.{InMonth}
+use Rattle.base.proofs.Prelude.{ℕ, _+_, _-_, _*_, _/_, _%_, _≤_, _<_, _≡_, arith, take, getD}
+use Rattle.base.specs.Count.{sumOf, upFrom}
+use Rattle.base.proofs.Order.{each-of-upFrom}
+use Rattle.calendar.specs.{Years.monthsWith, inner.Places.InMonth}
 
 abbrev pub fullStart : ℕ → ℕ
 fullStart m = (367 * m - 362) / 12

@@ -1,33 +1,12 @@
 -- How far apart the days of a yearly test lie, and in which years it falls (document 02, W-206). By edition 2 it falls once in every year,
 -- 365 or 366 days after the time before. By edition 1 a test of 29 February has gaps of 1,461 or 2,921 days: four years, or eight.
-use Prim.Native.Nat.{ℕ, zero, suc, _+_, _-_, _≤_, _<_, zero-le}
-use mathlib.Core.Path.{_≡_, refl, sym, ap, _∙_}
-use mathlib.Core.Logic.{inl, inr}
-use mathlib.Core.Bool.{true, false, not, _||_}
-use mathlib.Core.List.{List, [], _∷_, map}
-use native.Mathlib.Omega.{arith}
-use native.Mathlib.Numerals.{add-one}
-use native.Mathlib.Decide.{decLe, ℕ-discrete}
-use borrow.Author.Tests.{eq-eqb, eqb-true}
-use lib.Dec.{eqb}
-use Rattle.lists.specs.Count.{All, sumOf, upFrom, keep, every}
-use Rattle.lists.proofs.Lists.{by-bool, true-not-false, all-map, all-of-every}
-use Rattle.lists.proofs.Order.{Rising}
+use Rattle.base.proofs.Prelude.{ℕ, zero, suc, _+_, _-_, _≤_, _<_, zero-le, _≡_, refl, sym, ap, _∙_, inl, inr, true, false, not, _||_, List, [], _∷_, map, arith, add-one, decLe, ℕ-discrete, eq-eqb, eqb-true, eqb}
+use Rattle.base.specs.Count.{All, sumOf, upFrom, keep, every}
+use Rattle.base.proofs.{Lists.{by-bool, true-not-false, all-map, all-of-every}, Order.Rising}
 use Rattle.faults.specs.Checks.{inBounds}
 use Rattle.faults.proofs.Checks.{inBounds-low, inBounds-yes, inBounds-not}
-use Rattle.calendar.specs.declared.Date.{Date}
-use Rattle.calendar.specs.declared.YearlyDate.{YearlyDate}
-use Rattle.calendar.specs.Years.{leapYear, yearLength, monthsWith, monthLengths, monthLength}
-use Rattle.calendar.specs.Dates.{date, dateExists}
-use Rattle.calendar.specs.Numbers.{daysBeforeYear, daysBeforeMonth, dayNumber, dateOf, lastDay}
-use Rattle.calendar.specs.Yearly.{years, leapDay, onLeapDay, setOn, inNoYear, movedIn, inYear, datesIn, daysIn, yearlyDays, gaps, YearGap, LeapGap}
-use Rattle.calendar.proofs.Formula.{fullStart, start-early, start-late, month-lengths}
-use Rattle.calendar.proofs.Existing.{Existing, existing, exists, daysBeforeYear-next, dayNumber-parts}
-use Rattle.calendar.proofs.BothWays.{dayNumber-in-range, dateOf-dayNumber}
-use Rattle.calendar.proofs.Places.{februaryOf, februaryOf-most, februaryOf-year}
-use Rattle.calendar.proofs.SomeYear.{inNoYear-2000, none-anywhere}
-use Rattle.calendar.proofs.Editions.{inYear-year, inYear-other, inYear-february, onLeapDay-month, onLeapDay-day, dates-set}
-use Rattle.calendar.proofs.YearlyDays.{all-rising}
+use Rattle.calendar.specs.{declared.Date.Date, declared.YearlyDate.YearlyDate, Years.{leapYear, yearLength, monthsWith, monthLengths, monthLength}, Dates.{date, dateExists}, Numbers.{daysBeforeYear, daysBeforeMonth, dayNumber, dateOf, lastDay}, Yearly.{years, leapDay, onLeapDay, setOn, inNoYear, movedIn, inYear, datesIn, daysIn, yearlyDays, gaps, YearGap, LeapGap}}
+use Rattle.calendar.proofs.{Formula.{fullStart, start-early, start-late, month-lengths}, Existing.{Existing, existing, exists, daysBeforeYear-next, dayNumber-parts}, BothWays.{dayNumber-in-range, dateOf-dayNumber}, Places.{februaryOf, februaryOf-most, februaryOf-year}, SomeYear.{inNoYear-2000, none-anywhere}, Editions.{inYear-year, inYear-other, inYear-february, onLeapDay-month, onLeapDay-day, dates-set}, YearlyDays.all-rising}
 
 -- ---- Between two days a rising list has the gaps that it has as a whole
 
@@ -147,7 +126,7 @@ module _ (t : YearlyDate) (x : Existing (setOn t 2000)) where
           omega (arith, x .last, februaryOf-most 2000, februaryOf-least y)
 
   -- it falls in every year
-  pub falls-in : (y : ℕ) → 2000 ≤ y → y ≤ 2399 → dateExists (inYear 2 t y) ≡ true
+  falls-in : (y : ℕ) → 2000 ≤ y → y ≤ 2399 → dateExists (inYear 2 t y) ≡ true
   falls-in y from to =
       by-bool (onLeapDay t)
       (λ leap. ap dateExists (inYear-february t y leap) ∙ exists _ (february-exists y from to))
@@ -245,10 +224,10 @@ edition-1-leap-gaps a e =
     gaps-between LeapGap a e days (all-rising 1 leapDay) all
 
 -- and both occur: the gaps of 29 February by edition 1 and by edition 2, from 1 January 2096 to 31 December 2108
-pub side-by-side : map (λ ed. gaps (yearlyDays ed leapDay 35064 39812)) (1 ∷ 2 ∷ [])
+pub editions-side-by-side : map (λ ed. gaps (yearlyDays ed leapDay 35064 39812)) (1 ∷ 2 ∷ [])
     ≡ (2921 ∷ 1461 ∷ []) ∷ (365 ∷ 365 ∷ 365 ∷ 365 ∷ 365 ∷ 365 ∷ 365 ∷ 366 ∷ 365 ∷ 365 ∷ 365 ∷ 366 ∷ []) ∷ []
 unfolding
     gaps keep upFrom sumOf
     leapYear yearLength monthsWith monthLengths monthLength dateExists
     daysBeforeYear daysBeforeMonth dayNumber onLeapDay movedIn inYear datesIn daysIn
-side-by-side = refl
+editions-side-by-side = refl

@@ -1,19 +1,14 @@
 -- Laws of months: a month starts where the one before it ends, and the twelve fill the year.
-use Prim.Native.Nat.{ℕ, suc, _+_, _-_, _≤_}
-use mathlib.Core.Path.{_≡_, refl, ap, _∙_}
-use mathlib.Core.Bool.{Bool, true, false, cond}
-use native.Mathlib.Omega.{arith}
-use lib.ListN.{length, take}
-use Rattle.lists.specs.Count.{sumOf}
-use Rattle.lists.proofs.Lists.{All, all-at, by-bool, sumOf-take-suc, sumOf-take-le}
-use Rattle.calendar.specs.Years.{leapYear, yearLength, monthsWith, monthLengths, monthLength}
-use Rattle.calendar.specs.Numbers.{daysBeforeMonth}
+use Rattle.base.proofs.Prelude.{ℕ, suc, _+_, _-_, _≤_, _≡_, refl, ap, _∙_, Bool, true, false, cond, arith, length, take}
+use Rattle.base.specs.Count.{sumOf}
+use Rattle.base.proofs.Lists.{All, all-at, by-bool, sumOf-take-suc, sumOf-take-le}
+use Rattle.calendar.specs.{Years.{leapYear, yearLength, monthsWith, monthLengths, monthLength}, Numbers.daysBeforeMonth}
 
-pub monthLengths-twelve : (y : ℕ) → length (monthLengths y) ≡ 12
+monthLengths-twelve : (y : ℕ) → length (monthLengths y) ≡ 12
 unfolding monthLengths monthsWith
 monthLengths-twelve y = refl
 
-pub monthLengths-leap : (y : ℕ) (leap : Bool) → leapYear y ≡ leap → monthLengths y ≡ monthsWith (cond leap 29 28)
+monthLengths-leap : (y : ℕ) (leap : Bool) → leapYear y ≡ leap → monthLengths y ≡ monthsWith (cond leap 29 28)
 unfolding monthLengths
 monthLengths-leap y leap h = rw h
 

@@ -1,29 +1,20 @@
 -- Earlier dates have smaller day numbers: no two dates have one number.
 --     Before d e            why d is earlier than e
-use Prim.Native.Nat.{_+_, _-_, _<_}
-use mathlib.Core.Path.{_≡_, refl, ap, sym}
-use mathlib.Core.Bool.{Bool, true, false, _||_}
-use native.Mathlib.Omega.{arith}
-use native.Mathlib.Decide.{decLe}
-use lib.Dec.{ltb, eqb}
-use borrow.Author.Tests.{ltb-true, eqb-true, lt-ltb, le-ltb, eq-eqb}
-use Rattle.lists.proofs.Lists.{and-left, and-right}
-use Rattle.calendar.specs.declared.Date.{Date}
-use Rattle.calendar.specs.Dates.{date, earlier}
-use Rattle.calendar.specs.Numbers.{daysBeforeYear, daysBeforeMonth, dayNumber}
-use Rattle.calendar.proofs.Months.{daysBeforeMonth-le}
-use Rattle.calendar.proofs.Existing.{Existing, daysBeforeYear-le, dayNumber-from-month, dayNumber-to-month, dayNumber-from-year, dayNumber-to-year}
+use Rattle.base.proofs.Prelude.{_+_, _-_, _<_, _≡_, refl, ap, sym, Bool, true, false, _||_, arith, decLe, ltb, eqb, ltb-true, eqb-true, lt-ltb, le-ltb, eq-eqb}
+use Rattle.base.proofs.Lists.{and-left, and-right}
+use Rattle.calendar.specs.{declared.Date.Date, Dates.{date, earlier}, Numbers.{daysBeforeYear, daysBeforeMonth, dayNumber}}
+use Rattle.calendar.proofs.{Months.daysBeforeMonth-le, Existing.{Existing, daysBeforeYear-le, dayNumber-from-month, dayNumber-to-month, dayNumber-from-year, dayNumber-to-year}}
 
-pub data Before (d e : Date) : Type 0 where
-  by-year : d .year < e .year → Before d e
-  by-month : d .year ≡ e .year → d .month < e .month → Before d e
-  by-day : d .year ≡ e .year → d .month ≡ e .month → d .day < e .day → Before d e
+pub data ComesBefore (d e : Date) : Type 0 where
+  by-year : d .year < e .year → ComesBefore d e
+  by-month : d .year ≡ e .year → d .month < e .month → ComesBefore d e
+  by-day : d .year ≡ e .year → d .month ≡ e .month → d .day < e .day → ComesBefore d e
 
 or-cases {ℓ} : {A : Type ℓ} (a b : Bool) → (a || b) ≡ true → (a ≡ true → A) → (b ≡ true → A) → A
 or-cases true b h f g = f refl
 or-cases false b h f g = g h
 
-pub before-of-earlier : (d e : Date) → earlier d e ≡ true → Before d e
+pub before-of-earlier : (d e : Date) → earlier d e ≡ true → ComesBefore d e
 unfolding earlier
 before-of-earlier d e h =
     or-cases (ltb (d .year) (e .year)) _ h
@@ -36,7 +27,7 @@ before-of-earlier d e h =
     by-day same (eqb-true (d .month) (e .month) (and-left (eqb (d .month) (e .month)) (ltb (d .day) (e .day)) days))
     (ltb-true (d .day) (e .day) (and-right (eqb (d .month) (e .month)) (ltb (d .day) (e .day)) days))))
 
-pub earlier-of-before : (d e : Date) → Before d e → earlier d e ≡ true
+pub earlier-of-before : (d e : Date) → ComesBefore d e → earlier d e ≡ true
 unfolding earlier
 earlier-of-before d e (by-year y) = rw (lt-ltb (d .year) (e .year) y)
 earlier-of-before d e (by-month y m) =
@@ -56,12 +47,12 @@ same-date d e y m k =
     parts
 
 pub data Compared (d e : Date) : Type 0 where
-  sooner : Before d e → Compared d e
+  sooner : ComesBefore d e → Compared d e
   same : d ≡ e → Compared d e
-  later : Before e d → Compared d e
+  later : ComesBefore e d → Compared d e
 
-pub compared : (d e : Date) → Compared d e
-compared d e =
+pub comes-before-or-after : (d e : Date) → Compared d e
+comes-before-or-after d e =
     elim (decLe (e .year) (d .year)) [
       | no y ↦ sooner (by-year (omega arith))
       | yes y ↦ elim (decLe (d .year) (e .year)) [
@@ -90,7 +81,7 @@ compared d e =
           ]
         ]
 
-pub before-number : (d e : Date) → Existing d → Existing e → Before d e → dayNumber d < dayNumber e
+pub before-number : (d e : Date) → Existing d → Existing e → ComesBefore d e → dayNumber d < dayNumber e
 unfolding dayNumber
 before-number d e x z (by-year y) =
     omega (arith, dayNumber-to-year d x, dayNumber-from-year e z, daysBeforeYear-le (d .year + 1) (e .year) (omega arith))

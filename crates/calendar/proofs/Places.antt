@@ -1,16 +1,8 @@
 -- A day that lies in a year and a month is the day of one date.
-use Prim.Native.Nat.{ℕ, _+_, _-_, _≤_}
-use mathlib.Core.Path.{_≡_, sym, ap, _∙_}
-use mathlib.Core.Bool.{cond}
-use native.Mathlib.Omega.{arith}
-use Rattle.lists.proofs.Lists.{by-bool}
-use Rattle.calendar.specs.declared.Date.{Date}
-use Rattle.calendar.specs.Years.{leapYear, yearLength, monthLengths, monthLength}
-use Rattle.calendar.specs.Dates.{date}
-use Rattle.calendar.specs.Numbers.{daysBeforeMonth, dayNumber, dateOf}
-use Rattle.calendar.specs.Places.{InYear, InMonth}
-use Rattle.calendar.proofs.Existing.{Existing, exists, dayNumber-parts}
-use Rattle.calendar.proofs.BothWays.{dateOf-dayNumber}
+use Rattle.base.proofs.Prelude.{ℕ, _+_, _-_, _≤_, _≡_, sym, ap, _∙_, cond, arith}
+use Rattle.base.proofs.Lists.{by-bool}
+use Rattle.calendar.specs.{declared.Date.Date, Years.{leapYear, yearLength, monthLengths, monthLength}, Dates.date, Numbers.{daysBeforeMonth, dayNumber, dateOf}, inner.Places.{InYear, InMonth}}
+use Rattle.calendar.proofs.{Existing.{Existing, exists, dayNumber-parts}, BothWays.dateOf-dayNumber}
 
 -- the days of a year's February
 abbrev pub februaryOf : ℕ → ℕ

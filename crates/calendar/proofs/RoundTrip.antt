@@ -1,27 +1,12 @@
 -- Reading a date's text and writing it undo each other, both ways: a date has one text, and a text is that of one date.
-use Prim.Native.Nat.{ℕ, suc, _+_, _-_, _*_, _/_, _%_, _≤_, _<_}
-use mathlib.Core.Path.{_≡_, refl, sym, ap, _∙_}
-use mathlib.Core.Bool.{true, false, not}
-use mathlib.Core.List.{List, [], _∷_, _++_}
-use native.Mathlib.Omega.{arith}
-use borrow.Author.Tests.{eqb-true}
-use lib.ListN.{length}
-use Rattle.lists.proofs.Lists.{by-bool, true-not-false, and-left, and-right}
+use Rattle.base.proofs.Prelude.{ℕ, suc, _+_, _-_, _*_, _/_, _%_, _≤_, _<_, _≡_, refl, sym, ap, _∙_, true, false, not, List, [], _∷_, _++_, arith, eqb-true, length}
+use Rattle.base.proofs.Lists.{by-bool, true-not-false, and-left, and-right}
 use Rattle.faults.proofs.Checks.{inBounds-low, inBounds-high, inBounds-yes}
 use Rattle.faults.specs.declared.Fault.the-variants.{NoSuchDate}
-use Rattle.calendar.specs.declared.Date.{Date}
-use Rattle.calendar.specs.declared.YearlyDate.{YearlyDate}
+use Rattle.calendar.specs.{declared.Date.Date, declared.YearlyDate.YearlyDate, Dates.dateExists, Yearly.{setOn, inNoYear}, Texts.{hyphen, digits, number, numberAfter, fitsAt, fits, dateForm, yearlyForm, dateText, yearlyText, dateIn, yearlyIn, dateReading, yearlyReading}}
+use Rattle.calendar.proofs.{Months.monthLength-bounds, Existing.existing, Order.same-date, SomeYear.inNoYear-2000, Texts.{dateReading-is, dateReading-form, dateReading-none, yearlyReading-is, yearlyReading-form, yearlyReading-none}}
 use Rattle.calendar.specs.declared.WhichDate.the-variants as which-date
 use Rattle.calendar.specs.declared.WhichYearly.the-variants as which-yearly
-use Rattle.calendar.specs.Dates.{dateExists}
-use Rattle.calendar.specs.Yearly.{setOn, inNoYear}
-use Rattle.calendar.specs.Texts.{hyphen, digits, number, numberAfter, fitsAt, fits, dateForm, yearlyForm, dateText, yearlyText}
-use Rattle.calendar.specs.Texts.{dateIn, yearlyIn, dateReading, yearlyReading}
-use Rattle.calendar.proofs.Months.{monthLength-bounds}
-use Rattle.calendar.proofs.Existing.{existing}
-use Rattle.calendar.proofs.Order.{same-date}
-use Rattle.calendar.proofs.SomeYear.{inNoYear-2000}
-use Rattle.calendar.proofs.Texts.{dateReading-is, dateReading-form, dateReading-none, yearlyReading-is, yearlyReading-form, yearlyReading-none}
 
 -- ---- Digits
 

@@ -1,29 +1,16 @@
 -- A month and day that exist in some year exist in 2000, a leap year.
-use Prim.Native.Nat.{ℕ, _≤_}
-use mathlib.Core.Path.{_≡_, refl, sym, ap, _∙_}
-use mathlib.Core.Bool.{true, false, not}
-use mathlib.Core.List.{List, [], _∷_, map}
-use native.Mathlib.Omega.{arith}
-use borrow.Author.Tests.{ne-eqb}
-use lib.Dec.{eqb}
-use lib.ListN.{length}
-use Rattle.lists.specs.Count.{keep, upFrom}
-use Rattle.lists.proofs.Lists.{by-bool, true-not-false}
-use Rattle.lists.proofs.Order.{keep-yes, upFrom-cons}
-use Rattle.calendar.specs.declared.YearlyDate.{YearlyDate}
-use Rattle.calendar.specs.Years.{leapYear, monthLengths, monthLength}
-use Rattle.calendar.specs.Dates.{dateExists}
-use Rattle.calendar.specs.Yearly.{years, setOn, inNoYear}
-use Rattle.calendar.proofs.Formula.{month-longest}
-use Rattle.calendar.proofs.Existing.{existing, exists}
-use Rattle.calendar.proofs.Places.{februaryOf, februaryOf-most}
+use Rattle.base.proofs.Prelude.{ℕ, _≤_, _≡_, refl, sym, ap, _∙_, true, false, not, List, [], _∷_, map, arith, ne-eqb, eqb, length}
+use Rattle.base.specs.Count.{keep, upFrom}
+use Rattle.base.proofs.{Lists.{by-bool, true-not-false}, Order.{keep-yes, upFrom-cons}}
+use Rattle.calendar.specs.{declared.YearlyDate.YearlyDate, Years.{leapYear, monthLengths, monthLength}, Dates.dateExists, Yearly.{years, setOn, inNoYear}}
+use Rattle.calendar.proofs.{Formula.month-longest, Existing.{existing, exists}, Places.{februaryOf, februaryOf-most}}
 
 monthLength-2000 : (y m : ℕ) → 1 ≤ m → m ≤ 12 → monthLength y m ≤ monthLength 2000 m
 unfolding monthLength monthLengths leapYear
 monthLength-2000 y m low high = month-longest (februaryOf y) m (februaryOf-most y) low high
 
 module _ (t : YearlyDate) where
-  pub some-2000 : (y : ℕ) → dateExists (setOn t y) ≡ true → dateExists (setOn t 2000) ≡ true
+  some-2000 : (y : ℕ) → dateExists (setOn t y) ≡ true → dateExists (setOn t 2000) ≡ true
   some-2000 y h =
       let x = existing (setOn t y) h in
       exists (setOn t 2000)

@@ -1,24 +1,12 @@
 -- Laws of texts: whether a text has a form, place by place, and the numbers that its digits write.
-use Prim.Native.Nat.{ℕ, suc, _+_, _-_, _*_, _≤_, _<_}
-use mathlib.Core.Path.{_≡_, refl}
-use mathlib.Core.Bool.{true, false}
-use mathlib.Core.List.{List, [], _∷_}
-use native.Mathlib.Omega.{arith}
-use native.Mathlib.Numerals.{add-one}
-use lib.ListN.{length, getD, take, drop, replicate, drop-of-length-le}
-use lib.Seq.{drop-cons}
-use Rattle.lists.proofs.Lists.{by-bool, and-right}
+use Rattle.base.proofs.Prelude.{ℕ, suc, _+_, _-_, _*_, _≤_, _<_, _≡_, refl, true, false, List, [], _∷_, arith, add-one, length, getD, take, drop, replicate, drop-of-length-le, drop-cons}
+use Rattle.base.proofs.Lists.{by-bool, and-right}
 use Rattle.faults.specs.declared.Fault.the-variants.{NoSuchDate, NoSuchEdition}
+use Rattle.calendar.specs.{declared.Date.Date, declared.YearlyDate.YearlyDate, Dates.{date, dateExists}, Yearly.{noEdition, inNoYear}, Texts.{fitsAt, fits, number, numberAfter, dateForm, yearlyForm, dateIn, yearlyIn, dateReading, yearlyReading, editionForm, editionReading, dateText, yearlyText, dateWriting, yearlyWriting}}
 use Rattle.faults.specs.declared.Checked.the-variants as checked
-use Rattle.calendar.specs.declared.Date.{Date}
-use Rattle.calendar.specs.declared.YearlyDate.{YearlyDate}
 use Rattle.calendar.specs.declared.WhichDate.the-variants as which-date
 use Rattle.calendar.specs.declared.WhichYearly.the-variants as which-yearly
 use Rattle.calendar.specs.declared.WhichEdition.the-variants as which-edition
-use Rattle.calendar.specs.Dates.{date, dateExists}
-use Rattle.calendar.specs.Yearly.{noEdition, inNoYear}
-use Rattle.calendar.specs.Texts.{fitsAt, fits, number, numberAfter, dateForm, yearlyForm, dateIn, yearlyIn, dateReading, yearlyReading}
-use Rattle.calendar.specs.Texts.{editionForm, editionReading, dateText, yearlyText, dateWriting, yearlyWriting}
 
 -- ---- Forms
 
@@ -65,7 +53,7 @@ number-one [] h = absurd (omega arith)
 number-one (b ∷ []) h = omega arith
 number-one (a ∷ b ∷ rest) h = absurd (omega arith)
 
-pub number-four : (text : List ℕ) → 4 ≤ length text
+number-four : (text : List ℕ) → 4 ≤ length text
     → number (take 4 text) ≡ 100 * number (take 2 (drop 0 text)) + number (take 2 (drop 2 text))
 unfolding numberAfter
 number-four [] h = absurd (omega arith)

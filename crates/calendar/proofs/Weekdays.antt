@@ -1,13 +1,9 @@
 -- Laws of weekdays: they return every 7 days.
-use Prim.Native.Nat.{ℕ, _+_, _%_}
-use mathlib.Core.Path.{_≡_, refl, sym, ap, _∙_}
-use native.Mathlib.Omega.{arith}
+use Rattle.base.proofs.Prelude.{ℕ, _+_, _%_, _≡_, refl, sym, ap, _∙_, arith, getD}
 use native.Mathlib.Nat.{add-mod-right}
-use lib.ListN.{getD}
-use Rattle.lists.specs.Count.{upFrom}
-use Rattle.lists.proofs.Order.{each-of-upFrom}
-use Rattle.calendar.specs.declared.Weekday.the-variants.{Saturday}
-use Rattle.calendar.specs.Weekdays.{week, weekdayOf, weekdayNumber}
+use Rattle.base.specs.Count.{upFrom}
+use Rattle.base.proofs.Order.{each-of-upFrom}
+use Rattle.calendar.specs.{declared.Weekday.the-variants.Saturday, Weekdays.{week, weekdayOf, weekdayNumber}}
 
 pub weekdayOf-place : (k p : ℕ) → k % 7 ≡ p → getD week p Saturday ≡ weekdayOf k
 unfolding weekdayOf

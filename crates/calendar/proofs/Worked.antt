@@ -1,22 +1,10 @@
 -- The page's dates and the dates on which planners go wrong: one table, one statement. Each row is a question and what the page says.
 -- `worked` has antt compute every answer from the definitions; lists of 29 February are computed over all 400 years.
-use Prim.Native.Nat.{ℕ}
-use Prim.Native.Char.{code}
-use Prim.Native.String.{String}
+use Rattle.base.proofs.Prelude.{ℕ, _≡_, refl, List, [], _∷_, map}
+use Prim.Native.{Char.code, String.String}
+use Rattle.base.specs.Count.{sumOf, upFrom, keep, every}
+use Rattle.calendar.specs.{declared.Date.Date, declared.YearlyDate.YearlyDate, Years.{leapYear, yearLength, monthsWith, monthLengths, monthLength}, Dates.{date, dateExists, dateAfter}, Numbers.{daysBeforeYear, daysBeforeMonth, dayNumber, dateOf}, Weekdays.weekdayOf, Yearly.{onLeapDay, inNoYear, movedIn, inYear, datesIn, daysIn}, Refusals.{dateAnswer, dayAnswer, weekdayAnswer, yearlyCheck, listedIf, storedIf, yearlyAnswer, yearlyListed}, Texts.{digits, numberAfter, fitsAt, fits, dateText, dateIn, yearlyIn, dateReading, yearlyReading, noNumber, dayReading, editionReading}, Said.{Said, refused, on, day, weekday, days, yearly, edition, dateSays, daySays, weekdaySays, yearlySays, editionSays, listedSays}}
 use Prim.Native.String as text
-use mathlib.Core.Path.{_≡_, refl}
-use mathlib.Core.List.{List, [], _∷_, map}
-use Rattle.lists.specs.Count.{sumOf, upFrom, keep, every}
-use Rattle.calendar.specs.declared.Date.{Date}
-use Rattle.calendar.specs.declared.YearlyDate.{YearlyDate}
-use Rattle.calendar.specs.Years.{leapYear, yearLength, monthsWith, monthLengths, monthLength}
-use Rattle.calendar.specs.Dates.{date, dateExists, dateAfter}
-use Rattle.calendar.specs.Numbers.{daysBeforeYear, daysBeforeMonth, dayNumber, dateOf}
-use Rattle.calendar.specs.Weekdays.{weekdayOf}
-use Rattle.calendar.specs.Yearly.{onLeapDay, inNoYear, movedIn, inYear, datesIn, daysIn}
-use Rattle.calendar.specs.Refusals.{dateAnswer, dayAnswer, weekdayAnswer, yearlyCheck, listedIf, storedIf, yearlyAnswer, yearlyListed}
-use Rattle.calendar.specs.Texts.{digits, numberAfter, fitsAt, fits, dateText, dateIn, yearlyIn, dateReading, yearlyReading, noNumber, dayReading, editionReading}
-use Rattle.calendar.specs.Said.{Said, refused, on, day, weekday, days, yearly, edition, dateSays, daySays, weekdaySays, yearlySays, editionSays, listedSays}
 
 pub data Question : Type 0 where
   day-of : Date → Question

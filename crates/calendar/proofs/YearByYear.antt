@@ -1,22 +1,11 @@
 -- Laws of yearly lists: year by year, and which years can be left out.
-use Prim.Native.Nat.{ℕ, zero, suc, _+_, _-_, _≤_, _<_}
-use mathlib.Core.Path.{_≡_, refl, sym, ap, _∙_}
-use mathlib.Core.Bool.{true, false}
-use mathlib.Core.List.{List, [], _∷_, _++_}
-use native.Mathlib.Omega.{arith}
-use lib.ListN.{length, length-append}
-use Rattle.lists.specs.Count.{keep, upFrom}
-use Rattle.lists.proofs.Lists.{by-bool}
-use Rattle.lists.proofs.Order.{upFrom-cons}
+use Rattle.base.proofs.Prelude.{ℕ, zero, suc, _+_, _-_, _≤_, _<_, _≡_, refl, sym, ap, _∙_, true, false, List, [], _∷_, _++_, arith, length, length-append}
+use Rattle.base.specs.Count.{keep, upFrom}
+use Rattle.base.proofs.{Lists.by-bool, Order.upFrom-cons}
 use Rattle.faults.specs.Checks.{inBounds}
 use Rattle.faults.proofs.Checks.{inBounds-not}
-use Rattle.calendar.specs.declared.YearlyDate.{YearlyDate}
-use Rattle.calendar.specs.Dates.{dateExists}
-use Rattle.calendar.specs.Numbers.{daysBeforeYear, dayNumber}
-use Rattle.calendar.specs.Yearly.{inYear, datesIn, daysIn, yearlyDays}
-use Rattle.calendar.specs.Places.{InYear}
-use Rattle.calendar.proofs.Editions.{inYear-year}
-use Rattle.calendar.proofs.Existing.{existing, daysBeforeYear-next, daysBeforeYear-le, dayNumber-from-year, dayNumber-to-year}
+use Rattle.calendar.specs.{declared.YearlyDate.YearlyDate, Dates.dateExists, Numbers.{daysBeforeYear, dayNumber}, Yearly.{inYear, datesIn, daysIn, yearlyDays}, inner.Places.InYear}
+use Rattle.calendar.proofs.{Editions.inYear-year, Existing.{existing, daysBeforeYear-next, daysBeforeYear-le, dayNumber-from-year, dayNumber-to-year}}
 
 module _ (ed : ℕ) (t : YearlyDate) (a e : ℕ) where
   -- ---- One year
@@ -30,12 +19,12 @@ module _ (ed : ℕ) (t : YearlyDate) (a e : ℕ) where
   unfolding daysIn datesIn keep
   daysIn-absent y h = rw h
 
-  pub daysIn-outside : (y : ℕ) → dateExists (inYear ed t y) ≡ true → inBounds a (dayNumber (inYear ed t y)) e ≡ false
+  daysIn-outside : (y : ℕ) → dateExists (inYear ed t y) ≡ true → inBounds a (dayNumber (inYear ed t y)) e ≡ false
       → daysIn ed t a e (y ∷ []) ≡ []
   unfolding keep
   daysIn-outside y h out = daysIn-there y h ∙ rw out
 
-  pub daysIn-one : (y : ℕ) → length (daysIn ed t a e (y ∷ [])) ≤ 1
+  daysIn-one : (y : ℕ) → length (daysIn ed t a e (y ∷ [])) ≤ 1
   unfolding daysIn datesIn keep
   daysIn-one y =
       by-bool (dateExists (inYear ed t y))
@@ -44,14 +33,14 @@ module _ (ed : ℕ) (t : YearlyDate) (a e : ℕ) where
 
   -- ---- Year by year
 
-  pub daysIn-cons : (y : ℕ) (ys : List ℕ) → daysIn ed t a e (y ∷ ys) ≡ daysIn ed t a e (y ∷ []) ++ daysIn ed t a e ys
+  daysIn-cons : (y : ℕ) (ys : List ℕ) → daysIn ed t a e (y ∷ ys) ≡ daysIn ed t a e (y ∷ []) ++ daysIn ed t a e ys
   unfolding daysIn datesIn keep
   daysIn-cons y ys =
       by-bool (dateExists (inYear ed t y))
       (λ h. by-bool (inBounds a (dayNumber (inYear ed t y)) e) (λ g. rw (h, g)) (λ g. rw (h, g)))
       (λ h. rw h)
 
-  pub daysIn-nil : daysIn ed t a e [] ≡ []
+  daysIn-nil : daysIn ed t a e [] ≡ []
   unfolding daysIn datesIn keep
   daysIn-nil = refl
 
@@ -84,7 +73,7 @@ module _ (ed : ℕ) (t : YearlyDate) (a e : ℕ) where
       daysIn-outside y h (inBounds-not a (dayNumber (inYear ed t y)) e (λ low high. omega arith)))
       (daysIn-absent y)
 
-  pub none-before : (y n m : ℕ) → 2000 ≤ y → daysBeforeYear (y + n) ≤ a
+  none-before : (y n m : ℕ) → 2000 ≤ y → daysBeforeYear (y + n) ≤ a
       → daysIn ed t a e (upFrom y (n + m)) ≡ daysIn ed t a e (upFrom (y + n) m)
   unfolding upFrom
   none-before y zero m from over =
@@ -98,7 +87,7 @@ module _ (ed : ℕ) (t : YearlyDate) (a e : ℕ) where
       let rest = none-before (suc y) n m (omega arith) (omega (arith, ap daysBeforeYear place)) in
       rw count (daysIn-cons y (upFrom (suc y) (n + m)) ∙ rw here (rest ∙ ap (λ z. daysIn ed t a e (upFrom z m)) place))
 
-  pub none-after : (y n : ℕ) → e < daysBeforeYear y → daysIn ed t a e (upFrom y n) ≡ []
+  none-after : (y n : ℕ) → e < daysBeforeYear y → daysIn ed t a e (upFrom y n) ≡ []
   unfolding upFrom
   none-after y zero over = daysIn-nil
   none-after y (suc n) over =

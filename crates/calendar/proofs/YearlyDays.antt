@@ -1,24 +1,11 @@
 -- The list of a yearly test: exactly the days on which it falls, rising, each once.
-use Prim.Native.Nat.{ℕ, _<_}
-use mathlib.Core.Path.{_≡_, sym, ap, _∙_}
-use mathlib.Core.Logic.{_↔_}
-use mathlib.Core.Bool.{true}
-use mathlib.Core.List.{[], map}
-use native.Mathlib.Omega.{arith}
-use Rattle.lists.specs.Count.{keep, Member}
-use Rattle.lists.proofs.Order.{Rising, all-of, all-keep, rising-keep, rising-map, rising-within, rising-mapped, rising-upFrom}
-use Rattle.lists.proofs.Members.{kept-of-member, member-of-kept, keep-none, mapped-of-member, member-of-mapped, upFrom-member}
+use Rattle.base.proofs.Prelude.{ℕ, _<_, _≡_, sym, ap, _∙_, _↔_, true, [], map, arith}
+use Rattle.base.specs.Count.{keep, Member}
+use Rattle.base.proofs.{Order.{Rising, all-of, all-keep, rising-keep, rising-map, rising-within, rising-mapped, rising-upFrom}, Members.{kept-of-member, member-of-kept, keep-none, mapped-of-member, member-of-mapped, upFrom-member}}
 use Rattle.faults.specs.Checks.{inBounds}
 use Rattle.faults.proofs.Checks.{inBounds-low, inBounds-high, inBounds-yes, inBounds-not}
-use Rattle.calendar.specs.declared.Date.{Date}
-use Rattle.calendar.specs.declared.YearlyDate.{YearlyDate}
-use Rattle.calendar.specs.Dates.{dateExists}
-use Rattle.calendar.specs.Numbers.{dayNumber, dateOf}
-use Rattle.calendar.specs.Yearly.{years, inYear, datesIn, daysIn, yearlyDays, FallsBetween}
-use Rattle.calendar.proofs.Editions.{inYear-year}
-use Rattle.calendar.proofs.Existing.{existing}
-use Rattle.calendar.proofs.Order.{by-year, before-number}
-use Rattle.calendar.proofs.BothWays.{dateOf-exists, dayNumber-dateOf, dayNumber-in-range, dateOf-dayNumber}
+use Rattle.calendar.specs.{declared.Date.Date, declared.YearlyDate.YearlyDate, Dates.dateExists, Numbers.{dayNumber, dateOf}, Yearly.{years, inYear, datesIn, daysIn, yearlyDays, FallsBetween}}
+use Rattle.calendar.proofs.{Editions.inYear-year, Existing.existing, Order.{by-year, before-number}, BothWays.{dateOf-exists, dayNumber-dateOf, dayNumber-in-range, dateOf-dayNumber}}
 
 abbrev There : Date → Type 0
 There d = dateExists d ≡ true

@@ -3,17 +3,11 @@
 --     yearStart k           the day number of 1 January of year 2000 + k
 --     Kind y                which of 400, 100 and 4 divide y, and whether it is a leap year
 --     yearGuess day         the year of a day, counted from 2000, by the mean length of a year: the right one or the one after it
-use Prim.Native.Nat.{ℕ, zero, suc, _+_, _-_, _*_, _/_, _%_, _≤_, _<_}
-use mathlib.Core.Path.{_≡_, refl, sym, _∙_, ap}
-use mathlib.Core.Bool.{true, false}
-use native.Mathlib.Omega.{arith}
-use native.Mathlib.Nat.{div-add-mod', mod-lt, add-div-right, div-eq-of-lt-le}
-use lib.Dec.{eqb}
-use borrow.Author.Tests.{eqb-true, eqb-false}
-use Rattle.lists.proofs.Lists.{by-bool}
-use Rattle.lists.specs.Count.{sumOf, upFrom}
-use Rattle.calendar.specs.Years.{leapYear, yearLength}
-use Rattle.calendar.specs.Numbers.{daysBeforeYear}
+use Rattle.base.proofs.Prelude.{ℕ, zero, suc, _+_, _-_, _*_, _/_, _%_, _≤_, _<_, _≡_, refl, sym, _∙_, ap, true, false, arith, div-add-mod', mod-lt, eqb, eqb-true, eqb-false}
+use native.Mathlib.Nat.{add-div-right, div-eq-of-lt-le}
+use Rattle.base.proofs.Lists.{by-bool}
+use Rattle.base.specs.Count.{sumOf, upFrom}
+use Rattle.calendar.specs.{Years.{leapYear, yearLength}, Numbers.daysBeforeYear}
 
 -- ---- Rounding up
 
@@ -21,11 +15,11 @@ unfoldable pub up : ℕ → ℕ → ℕ
 up n k = (k + (n - 1)) / n
 
 module _ (n k : ℕ) (some : 1 ≤ n) where
-  pub up-most : up n k * n ≤ k + (n - 1)
+  up-most : up n k * n ≤ k + (n - 1)
   unfolding up
   up-most = omega (arith, div-add-mod' (k + (n - 1)) n)
 
-  pub up-least : k ≤ up n k * n
+  up-least : k ≤ up n k * n
   unfolding up
   up-least = omega (arith, div-add-mod' (k + (n - 1)) n, mod-lt (k + (n - 1)) some)
 
@@ -35,14 +29,14 @@ module _ (n k : ℕ) (some : 1 ≤ n) where
       let same : suc k + (n - 1) ≡ k + n = omega arith in
       ap (λ m. m / n) same ∙ add-div-right k some
 
-  pub up-whole : k % n ≡ 0 → up n (suc k) ≡ up n k + 1
+  up-whole : k % n ≡ 0 → up n (suc k) ≡ up n k + 1
   unfolding up
   up-whole whole =
       let parts = div-add-mod' k n in
       let here : (k + (n - 1)) / n ≡ k / n = div-eq-of-lt-le n (omega arith) (omega arith) in
       up-suc ∙ ap (λ m. m + 1) (sym here)
 
-  pub up-part : (k % n ≡ 0 → ⊥) → up n (suc k) ≡ up n k
+  up-part : (k % n ≡ 0 → ⊥) → up n (suc k) ≡ up n k
   unfolding up
   up-part part =
       let parts = div-add-mod' k n in
@@ -52,11 +46,11 @@ module _ (n k : ℕ) (some : 1 ≤ n) where
 
 -- ---- Leap years
 
-pub yearLength-leap : (y : ℕ) → leapYear y ≡ true → yearLength y ≡ 366
+yearLength-leap : (y : ℕ) → leapYear y ≡ true → yearLength y ≡ 366
 unfolding yearLength
 yearLength-leap y h = rw h
 
-pub yearLength-common : (y : ℕ) → leapYear y ≡ false → yearLength y ≡ 365
+yearLength-common : (y : ℕ) → leapYear y ≡ false → yearLength y ≡ 365
 unfolding yearLength
 yearLength-common y h = rw h
 
@@ -66,7 +60,7 @@ pub data Kind (y : ℕ) : Type 0 where
   by-4 : y % 4 ≡ 0 → (y % 100 ≡ 0 → ⊥) → leapYear y ≡ true → Kind y
   by-none : (y % 4 ≡ 0 → ⊥) → leapYear y ≡ false → Kind y
 
-pub kindOf : (y : ℕ) → Kind y
+kindOf : (y : ℕ) → Kind y
 unfolding leapYear
 kindOf y =
     by-bool (eqb (y % 4) 0)
@@ -122,7 +116,7 @@ yearLengths j (suc n) =
     let next : 2000 + suc j ≡ suc (2000 + j) = omega arith in
     omega (arith, yearLengths (suc j) n, yearStart-next j, ap yearStart same, ap (λ y. sumOf yearLength (upFrom y n)) next)
 
-pub yearStart-zero : yearStart 0 ≡ 0
+yearStart-zero : yearStart 0 ≡ 0
 unfolding yearStart up
 yearStart-zero = refl
 

@@ -7,4 +7,4 @@ pub mod Yearly
 pub mod Refusals
 pub mod Texts
 pub mod Said
-pub mod Places
+pub mod inner

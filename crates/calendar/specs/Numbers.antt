@@ -6,7 +6,7 @@
 --     lastDay               31 December 2399
 use Prim.Native.Nat.{ℕ, zero, suc, _+_, _-_}
 use lib.ListN.{take}
-use Rattle.lists.specs.Count.{sumOf, upFrom}
+use Rattle.base.specs.Count.{sumOf, upFrom}
 use Rattle.calendar.specs.declared.Date.{Date}
 use Rattle.calendar.specs.Years.{yearLength, monthLengths}
 use Rattle.calendar.specs.Dates.{epoch, dateAfter}

@@ -19,7 +19,7 @@ use mathlib.Core.List.{List, [], _∷_, _++_}
 use lib.Dec.{eqb, ltb, leb}
 use lib.ListN.{length, getD, take, drop, replicate}
 use Rattle.days.specs.Days.{day}
-use Rattle.lists.specs.Count.{every}
+use Rattle.base.specs.Count.{every}
 use Rattle.faults.specs.declared.Fault.the-variants.{NoSuchDate, NoSuchEdition}
 use Rattle.faults.specs.declared.Checked.the-variants as checked
 use Rattle.faults.specs.Checks.{inBounds}

@@ -23,7 +23,7 @@ use mathlib.Core.Bool.{Bool, not, cond, _&&_, _||_}
 use mathlib.Core.List.{List, [], _∷_, map}
 use lib.Dec.{eqb}
 use lib.ListN.{length}
-use Rattle.lists.specs.Count.{keep, upFrom}
+use Rattle.base.specs.Count.{keep, upFrom}
 use Rattle.faults.specs.Checks.{inBounds}
 use Rattle.calendar.specs.declared.Date.{Date}
 use Rattle.calendar.specs.declared.YearlyDate.{YearlyDate}

@@ -14,12 +14,12 @@ ghost use mathlib.Core.Bool.{not};
 ghost use mathlib.Core.List.{[], _∷_};
 ghost use Prim.Native.Nat.{_+_, _≤_};
 ghost use lib.ListN.{length};
-ghost use Rattle.lists.specs.Count.{keep, putAt};
+ghost use Rattle.base.specs.Count.{keep, putAt};
 ghost use Rattle.faults.specs.Checks.{inBounds};
 ghost use Rattle.calendar.specs.Numbers.{lastDay};
 ghost use Rattle.calendar.specs.Yearly.{noEdition, inNoYear, movedIn, inYear, daysIn, yearlyDays};
 ghost use Rattle.calendar.specs.Refusals.{yearlyAnswer, yearlyListed};
-ghost use Rattle.calendar.specs.Places.{fallDays, atFront};
+ghost use Rattle.calendar.specs.inner.Places.{fallDays, atFront};
 
 // The day on which a test falls in a year.
 pub(crate) enum Fall {

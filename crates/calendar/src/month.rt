@@ -4,9 +4,9 @@ use super::year::Within;
 ghost use mathlib.Core.Path.{_≡_};
 ghost use Prim.Native.Nat.{_+_, _-_, _≤_, _<_};
 ghost use lib.ListN.{getD, take};
-ghost use Rattle.lists.specs.Count.{sumOf};
+ghost use Rattle.base.specs.Count.{sumOf};
 ghost use Rattle.calendar.specs.Years.{monthsWith};
-ghost use Rattle.calendar.specs.Places.{InMonth};
+ghost use Rattle.calendar.specs.inner.Places.{InMonth};
 
 // The days of a month.
 pub(crate) fn month_length(february: u32, month: u32) -> u32

@@ -19,7 +19,7 @@ ghost use Prim.Native.Nat.{_+_, _-_, _≤_, _%_};
 ghost use lib.ListN.{length, take, drop};
 ghost use Rattle.calendar.specs.Texts.{fitsAt, number, dateReading, yearlyReading, dateWriting, yearlyWriting};
 ghost use Rattle.calendar.specs.Texts.{fits as fitsForm, noNumber, dayReading, editionReading};
-ghost use Rattle.calendar.specs.Places.{digitsNumber};
+ghost use Rattle.calendar.specs.inner.Places.{digitsNumber};
 
 // ---- Reading
 

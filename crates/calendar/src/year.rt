@@ -4,7 +4,7 @@ ghost use mathlib.Core.Bool.{cond};
 ghost use Prim.Native.Nat.{_+_, _≤_};
 ghost use Rattle.calendar.specs.Years.{leapYear};
 ghost use Rattle.calendar.specs.Numbers.{daysBeforeYear, lastDay};
-ghost use Rattle.calendar.specs.Places.{InYear};
+ghost use Rattle.calendar.specs.inner.Places.{InYear};
 
 // Whole years or months, and the days that are left.
 pub(crate) struct Within {

@@ -1,9 +1,5 @@
 -- A count of a text's first bytes, as `io` states it.
-use Prim.Native.Nat.{ℕ, _≤_}
-use mathlib.Core.Path.{sym}
-use mathlib.Core.List.{List}
-use lib.ListN.{length}
-use lib.Seq.{length-take-le}
+use Rattle.base.proofs.Prelude.{ℕ, _≤_, sym, List, length, length-take-le}
 use Rattle.io.specs.Counts.{Counts}
 
 pub counts : (n : ℕ) (xs : List ℕ) → n ≤ length xs → Counts n xs

@@ -6,8 +6,8 @@ use super::files::read_named;
 use super::say;
 use writing::Saved;
 
-// Turned into the old version, or into the new one; `wanted` is how the command is to be said.
-pub(crate) fn turn(command: &[u8], old: bool, wanted: &[u8]) -> u8 {
+// Turned into version 01, or into version 02; `wanted` is how the command is to be said.
+pub(crate) fn turn(command: &[u8], to_01: bool, wanted: &[u8]) -> u8 {
     if 2 < word_count(command) {
         return say::complain(wanted);
     }
@@ -17,15 +17,15 @@ pub(crate) fn turn(command: &[u8], old: bool, wanted: &[u8]) -> u8 {
         return say::FAILED;
     };
     let mut page = [0u8; 65536];
-    let saved = turned(first(&text, count), &mut page, old);
+    let saved = turned(first(&text, count), &mut page, to_01);
     answer_turned(saved, &page)
 }
 
-fn turned(text: &[u8], page: &mut [u8], old: bool) -> Saved {
-    if old {
-        return turning::to_old(text, page, 0);
+fn turned(text: &[u8], page: &mut [u8], to_01: bool) -> Saved {
+    if to_01 {
+        return turning::to_01(text, page, 0);
     }
-    turning::to_new(text, page, 0)
+    turning::to_02(text, page, 0)
 }
 
 // The turned text at the head of the page, or the refusal.

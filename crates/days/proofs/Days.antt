@@ -1,16 +1,10 @@
 -- Laws of day plus length and day minus day.
-use mathlib.Core.Path.{_≡_, sym, ap, _∙_}
+use mathlib.{Core.Path.{_≡_, sym, ap, _∙_}, Core.Bool.true}
 use Prim.Native.Nat.{ℕ, _+_, _-_, _^_, _≤_, _<_}
-use native.Mathlib.Omega.{arith}
-use native.Mathlib.Decide.{decLe}
-use mathlib.Core.Bool.{true}
+use native.{Mathlib.Omega.arith, Mathlib.Decide.decLe}
 use lib.Dec.{ltb}
 use borrow.Author.Tests.{lt-ltb, le-ltb, le-leb, lt-leb}
-use Rattle.days.specs.declared.Day.{Day}
-use Rattle.days.specs.declared.Length.{Length}
-use Rattle.days.specs.declared.Later.the-variants.{On, Beyond}
-use Rattle.days.specs.declared.Gap.the-variants.{Of, Backwards}
-use Rattle.days.specs.Days.{day, days, laterOf, gapOf}
+use Rattle.days.specs.{declared.Day.Day, declared.Length.Length, declared.Later.the-variants.{On, Beyond}, declared.Gap.the-variants.{Of, Backwards}, Days.{day, days, laterOf, gapOf}}
 
 pub laterOf-fits : (t : Day) (n : Length) → t .0 + n .0 < 2 ^ 32 → laterOf t n ≡ On (day (t .0 + n .0))
 unfolding laterOf

@@ -1,14 +1,7 @@
 -- Arrays filled by place, and how many strings a row of numbers has room for.
-use Prim.Native.Nat.{ℕ, zero, suc, _+_, _*_, _/_, _%_, _-_, _≤_, _<_}
-use mathlib.Core.Path.{_≡_, refl, sym, ap, _∙_}
-use mathlib.Core.List.{List, [], _∷_, _++_, map, map-append}
-use native.Mathlib.Omega.{arith}
-use native.Mathlib.Numerals.{add-one}
-use native.Mathlib.Decide.{decLe, ℕ-discrete}
-use borrow.Author.Tests.{eq-eqb, ne-eqb, le-leb, lt-leb}
-use lib.ListN.{length, set, length-map}
-use Rattle.lists.specs.Count.{upFrom, filled}
-use Rattle.lists.proofs.Filling.{filled-set}
+use Rattle.base.proofs.Prelude.{ℕ, zero, suc, _+_, _*_, _/_, _%_, _-_, _≤_, _<_, _≡_, refl, sym, ap, _∙_, List, [], _∷_, _++_, map, map-append, arith, add-one, decLe, ℕ-discrete, eq-eqb, ne-eqb, le-leb, lt-leb, length, set, length-map}
+use Rattle.base.specs.Count.{upFrom, filled}
+use Rattle.base.proofs.Filling.{filled-set}
 use Rattle.entries.specs.Given.{stringCount}
 
 -- ---- By place
@@ -27,14 +20,14 @@ upFrom-last k (suc n) =
     let there : suc k + n ≡ k + suc n = omega arith in
     ap (λ ns. k ∷ ns) (upFrom-last (suc k) n ∙ ap (λ m. upFrom (suc k) n ++ (m ∷ [])) there)
 
-pub stored-none {ℓ} : {A : Type ℓ} (room : ℕ) (z : A) (f : ℕ → A) → filled room z [] ≡ filled room z (map f (upFrom 0 0))
+pub given-none {ℓ} : {A : Type ℓ} (room : ℕ) (z : A) (f : ℕ → A) → filled room z [] ≡ filled room z (map f (upFrom 0 0))
 unfolding upFrom
-stored-none room z f = refl
+given-none room z f = refl
 
 -- one more is stored
-pub stored-more {ℓ} : {A : Type ℓ} (room : ℕ) (z : A) (f : ℕ → A) (i : ℕ) (list : List A) (x : A) → i < room
+pub given-more {ℓ} : {A : Type ℓ} (room : ℕ) (z : A) (f : ℕ → A) (i : ℕ) (list : List A) (x : A) → i < room
     → list ≡ filled room z (map f (upFrom 0 i)) → x ≡ f i → set list i x ≡ filled room z (map f (upFrom 0 (i + 1)))
-stored-more room z f i list x h e same =
+given-more room z f i list x h e same =
     let many : length (map f (upFrom 0 i)) ≡ i = length-map (upFrom 0 i) f ∙ upFrom-length 0 i in
     let here : 0 + i ≡ i = omega arith in
     rw (e, same, add-one i, upFrom-last 0 i, here, map-append f (upFrom 0 i) (i ∷ []))

@@ -1,19 +1,9 @@
 -- Numbers that lack something are refused: a plan whose count is not 1 + 5 n, and a list whose last release lacks a number.
-use Prim.Native.Nat.{ℕ, zero, suc, _+_, _-_, _*_, _/_, _%_, _≤_, _<_, min}
-use mathlib.Core.Path.{_≡_, sym, ap, _∙_}
-use mathlib.Core.List.{List, map}
-use native.Mathlib.Omega.{arith}
-use native.Mathlib.Decide.{decLe, ℕ-discrete}
-use lib.ListN.{length, getD, take, length-map, List·getD-eq-default}
-use lib.Seq.{take-at}
-use Rattle.lists.specs.Count.{upFrom}
-use Rattle.faults.specs.declared.Fault.the-variants.{StringCount}
-use Rattle.faults.specs.declared.Checked.the-variants.{Lawful, Refused}
-use Rattle.rules.specs.declared.Plan.{Plan}
-use Rattle.rules.specs.Release.{releasesOf, noRelease}
-use Rattle.rules.specs.Refusal.{planCheck, countCheck, runCheck}
-use Rattle.laws.proofs.Releases.{runCheck-lawful}
-use Rattle.laws.proofs.ReleaseList.{release-lawful}
+use Rattle.base.proofs.Prelude.{ℕ, zero, suc, _+_, _-_, _*_, _/_, _%_, _≤_, _<_, min, _≡_, sym, ap, _∙_, List, map, arith, decLe, ℕ-discrete, length, getD, take, length-map, List·getD-eq-default, take-at}
+use Rattle.base.specs.Count.{upFrom}
+use Rattle.faults.specs.{declared.Fault.the-variants.StringCount, declared.Checked.the-variants.{Lawful, Refused}}
+use Rattle.rules.specs.{declared.Plan.Plan, Release.{releasesOf, noRelease}, Refusal.{planCheck, countCheck, runCheck}}
+use Rattle.laws.proofs.{Releases.runCheck-lawful, ReleaseList.release-lawful}
 use Rattle.entries.specs.Given.{stringCount, planGiven, releaseCount, releaseFrom, releasesGiven}
 use Rattle.entries.proofs.Giving.{no-fives, too-many, as-many, upFrom-length}
 

@@ -1,16 +1,8 @@
 -- Rows and texts in lent memory: where there is room and where there is none, and that an entry which told a row or a text told what it is.
-use Prim.Native.Nat.{ℕ, _+_, _≤_, _<_}
-use mathlib.Core.Path.{_≡_, refl, sym, ap, _∙_}
-use mathlib.Core.List.{List, _++_}
-use native.Mathlib.Omega.{arith}
-use native.Mathlib.Numerals.{add-one}
-use borrow.Author.Tests.{lt-ltb, le-ltb}
-use lib.ListN.{length, drop, getD, set}
+use Rattle.base.proofs.Prelude.{ℕ, _+_, _≤_, _<_, _≡_, refl, sym, ap, _∙_, List, _++_, arith, add-one, lt-ltb, le-ltb, length, drop, getD, set}
 use lib.Seq.{sets-eq, take-length, paste, paste-suc, length-paste}
 use Rattle.rules.specs.declared.Plan.{Plan}
-use Rattle.entries.specs.declared.told.Row.{Row}
-use Rattle.entries.specs.Given.{planGiven}
-use Rattle.entries.specs.Told.{numbersOf, kindTold, placesTold, lengthTold, pageTold}
+use Rattle.entries.specs.{declared.told.Row.Row, Given.planGiven, Told.{numbersOf, kindTold, placesTold, lengthTold, pageTold}}
 
 -- ---- A row
 

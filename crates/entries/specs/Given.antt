@@ -13,7 +13,7 @@ use mathlib.Core.Bool.{cond, _&&_}
 use mathlib.Core.List.{List, map}
 use lib.Dec.{leb, eqb}
 use lib.ListN.{length, getD}
-use Rattle.lists.specs.Count.{upFrom, filled}
+use Rattle.base.specs.Count.{upFrom, filled}
 use Rattle.days.specs.Days.{day, days}
 use Rattle.rules.specs.declared.BatteryString.{BatteryString}
 use Rattle.rules.specs.declared.Plan.{Plan}

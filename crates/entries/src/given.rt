@@ -2,6 +2,8 @@
 use days::Day;
 use days::Length;
 use rules::BatteryString;
+use rules::NO_RELEASE;
+use rules::NO_STRING;
 use rules::Plan;
 use rules::Release;
 use rules::Releases;
@@ -52,17 +54,9 @@ fn string_from(numbers: &[u32], at: usize) -> BatteryString
 pub(crate) fn plan_given(numbers: &[u32]) -> Plan
     ensures exact { λ r. ⌜ r ≡ planGiven (now (numbers .entry)) ⌝ }
 {
-    let zero = Length(0);
-    let none = BatteryString {
-        t: zero,
-        c: zero,
-        d: zero,
-        x: 0,
-        a: zero,
-    };
     let n = string_count(numbers);
     let run = Length(number_at(numbers, 0));
-    let mut strings = [none; 10];
+    let mut strings = [NO_STRING; 10];
     let mut i: usize = 0;
     while i < n {
         strings[i] = string_from(numbers, 1 + i * 5);
@@ -107,14 +101,9 @@ fn release_from(numbers: &[u32], at: usize) -> Release
 pub(crate) fn releases_given(numbers: &[u32]) -> Releases
     ensures exact { λ r. ⌜ r ≡ releasesGiven (now (numbers .entry)) ⌝ }
 {
-    let none = Release {
-        day: Day(0),
-        place: 0,
-        need: Length(0),
-    };
     let count = release_count(numbers);
     let end = held(count);
-    let mut list = [none; 1000];
+    let mut list = [NO_RELEASE; 1000];
     let mut i: usize = 0;
     while i < end {
         list[i] = release_from(numbers, i * 3);

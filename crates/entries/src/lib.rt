@@ -25,7 +25,7 @@ ghost use Rattle.rules.specs.Refusal.{planCheck, verdictAnswer, setAnswer, sear
 ghost use Rattle.rules.specs.Said.{checkedSays, verdictSays, assignSays, outcomeSays};
 ghost use Rattle.rules.specs.Answer.{answerOf};
 ghost use Rattle.rules.specs.Lines.{linesFor};
-ghost use Rattle.growth.specs.Quick.{quickAnswer};
+ghost use Rattle.demand.specs.Quick.{quickAnswer};
 ghost use Rattle.calendar.specs.Refusals.{dateAnswer, dayAnswer};
 ghost use Rattle.entries.specs.Given.{planGiven, releasesGiven, dateGiven};
 ghost use Rattle.entries.specs.Told.{rowOf, dateRow, dayRow, kindTold, placesTold, lengthTold, pageTold};

@@ -1,15 +1,7 @@
 -- Laws of checks: what a check that finds nothing says, and which check decides.
-use Prim.Native.Nat.{ℕ, _≤_}
-use mathlib.Core.Path.{_≡_, refl, ap}
-use mathlib.Core.Bool.{Bool, true, false}
-use native.Mathlib.Omega.{arith}
-use borrow.Author.Tests.{leb-true, le-leb}
-use lib.Dec.{leb}
-use Rattle.lists.proofs.Lists.{by-bool, and-left, and-right, and-both}
-use Rattle.faults.specs.declared.Fault.{Fault}
-use Rattle.faults.specs.declared.Checked.{Checked}
-use Rattle.faults.specs.declared.Checked.the-variants.{Lawful, Refused}
-use Rattle.faults.specs.Checks.{then, refuseIf, inBounds}
+use Rattle.base.proofs.Prelude.{ℕ, _≤_, _≡_, refl, ap, Bool, true, false, arith, leb-true, le-leb, leb}
+use Rattle.base.proofs.Lists.{by-bool, and-left, and-right, and-both}
+use Rattle.faults.specs.{declared.Fault.Fault, declared.Checked.Checked, declared.Checked.the-variants.{Lawful, Refused}, Checks.{then, refuseIf, orRefused, inBounds}}
 
 -- a refusal is no Lawful
 pub refused-not-lawful : (f : Fault) (at : ℕ) → Refused f at ≡ Lawful → ⊥
@@ -43,6 +35,12 @@ refuseIf-not false f at h = refl
 -- what is lawful does not depend on the place that a fault would be reported at
 pub refuseIf-anywhere : (bad : Bool) (f : Fault) (at elsewhere : ℕ) → refuseIf bad f at ≡ Lawful → refuseIf bad f elsewhere ≡ Lawful
 refuseIf-anywhere bad f at elsewhere h = rw (refuseIf-not bad f at h)
+
+-- a value that no refusal makes comes from a check that found nothing
+pub orRefused-lawful {ℓ} : {A : Type ℓ} (refused : Fault → ℕ → A) (c : Checked) (x y : A) → ((f : Fault) (at : ℕ) → refused f at ≡ y → ⊥)
+    → orRefused refused c x ≡ y → (c ≡ Lawful) × (x ≡ y)
+orRefused-lawful refused Lawful x y none h = (refl, h)
+orRefused-lawful refused (Refused f at) x y none h = absurd (none f at h)
 
 pub inBounds-low : (low v high : ℕ) → inBounds low v high ≡ true → low ≤ v
 inBounds-low low v high h = leb-true low v (and-left (leb low v) (leb v high) h)

@@ -1,11 +1,7 @@
 -- What holds of every refusal that a check can give holds of a chain of checks if it holds of each.
 --     Refusals P c          the fault and the place with which c refuses, if it does, meet P
-use Prim.Native.Nat.{ℕ}
-use mathlib.Core.Bool.{Bool, true, false}
-use Rattle.faults.specs.declared.Fault.{Fault}
-use Rattle.faults.specs.declared.Checked.{Checked}
-use Rattle.faults.specs.declared.Checked.the-variants.{Lawful, Refused}
-use Rattle.faults.specs.Checks.{then, refuseIf}
+use Rattle.base.proofs.Prelude.{ℕ, Bool, true, false}
+use Rattle.faults.specs.{declared.Fault.Fault, declared.Checked.Checked, declared.Checked.the-variants.{Lawful, Refused}, Checks.{then, refuseIf}}
 
 abbrev pub Refusals : (Fault → ℕ → Type 0) → Checked → Type 0
 Refusals P Lawful = Unit {0}

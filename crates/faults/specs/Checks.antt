@@ -2,6 +2,7 @@
 --     faultNumber f         the number that the documents give the fault f
 --     then a b              the first check decides; the second is looked at only where the first finds nothing
 --     refuseIf bad f at     the fault f at `at` where something is bad, nothing otherwise
+--     orRefused refused c x the value x where the check c finds nothing; else what `refused` makes of the fault and its place
 --     inBounds low v high   low ≤ v ≤ high
 use Prim.Native.Nat.{ℕ}
 use mathlib.Core.Bool.{Bool, cond, _&&_}
@@ -33,6 +34,10 @@ then (Refused f at) next = Refused f at
 
 abbrev pub refuseIf : Bool → Fault → ℕ → Checked
 refuseIf bad f at = cond bad (Refused f at) Lawful
+
+abbrev pub orRefused {ℓ} : {A : Type ℓ} → (Fault → ℕ → A) → Checked → A → A
+orRefused refused Lawful x = x
+orRefused refused (Refused f at) x = refused f at
 
 abbrev pub inBounds : ℕ → ℕ → ℕ → Bool
 inBounds low v high = leb low v && leb v high

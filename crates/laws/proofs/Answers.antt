@@ -1,26 +1,12 @@
 -- The answers of the entries: the check decides, and a lawful plan gets the answer of the rules.
-use Prim.Native.Nat.{ℕ, _^_}
-use mathlib.Core.Path.{_≡_, _∙_}
-use lib.Dec.{leb}
-use Rattle.rules.specs.declared.Plan.{Plan}
-use Rattle.faults.specs.declared.Fault.{Fault}
-use Rattle.faults.specs.declared.Fault.the-variants.{OutOfBounds}
-use Rattle.faults.specs.declared.Checked.the-variants.{Lawful, Refused}
+use Rattle.base.proofs.Prelude.{ℕ, _^_, _≡_, _∙_, leb}
+use Rattle.rules.specs.{declared.Plan.Plan, declared.Releases.Releases, Release.releasesOf, Run.runOf, Plan.stringsOf, Verdict.{allPairs, firstBroken, brokenAt, verdictOf}, Search.{withSet, searchOf}, Refusal.{headCheck, stringsCheck, multipleCheck, planCheck, setCheck, runCheck, verdictAnswer, breakAnswer, setAnswer, searchAnswer, runAnswer}, Figures.{figuresOf, noFigures, figuresAnswer}}
+use Rattle.faults.specs.{declared.Fault.Fault, declared.Fault.the-variants.OutOfBounds, declared.Checked.the-variants.{Lawful, Refused}, Checks.{then, refuseIf}}
+use Rattle.faults.proofs.Checks.{then-first, then-second, then-lawful}
 use Rattle.rules.specs.declared.Verdict.the-variants as verdict
 use Rattle.rules.specs.declared.Broken.the-variants as broken
 use Rattle.rules.specs.declared.Assign.the-variants as assign
-use Rattle.rules.specs.declared.Releases.{Releases}
 use Rattle.rules.specs.declared.Outcome.the-variants as outcome
-use Rattle.rules.specs.Release.{releasesOf}
-use Rattle.rules.specs.Run.{runOf}
-use Rattle.rules.specs.Plan.{stringsOf}
-use Rattle.rules.specs.Verdict.{allPairs, firstBroken, brokenAt, verdictOf}
-use Rattle.rules.specs.Search.{withSet, searchOf}
-use Rattle.rules.specs.Refusal.{headCheck, stringsCheck, multipleCheck, planCheck, setCheck}
-use Rattle.faults.specs.Checks.{then, refuseIf}
-use Rattle.faults.proofs.Checks.{then-first, then-second, then-lawful}
-use Rattle.rules.specs.Refusal.{runCheck, verdictAnswer, breakAnswer, setAnswer, searchAnswer, runAnswer}
-use Rattle.rules.specs.Figures.{figuresOf, noFigures, figuresAnswer}
 
 pub verdict-lawful : (p : Plan) → planCheck p ≡ Lawful → verdictAnswer p ≡ verdictOf p
 unfolding verdictAnswer

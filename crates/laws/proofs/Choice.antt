@@ -4,20 +4,9 @@
 --     One ok ahead ss k j         the slot with index j is the one
 --     Choice ok ahead ss k c      c is 0 and nobody passes, or c is the place of the one
 --     Order ahead                 nobody is ahead of himself, and who is ahead of one that is ahead is ahead
-use Prim.Native.Nat.{ℕ, zero, suc, _-_, _≤_, _<_}
-use mathlib.Core.Path.{_≡_, refl, sym, ap, _∙_, subst}
-use mathlib.Core.Logic.{_⊎_, inl, inr}
-use mathlib.Core.Bool.{Bool, true, false}
-use mathlib.Core.List.{List}
-use native.Mathlib.Omega.{arith}
-use native.Mathlib.Decide.{ℕ-discrete}
-use borrow.Author.Tests.{eq-eqb, ne-eqb}
-use lib.Dec.{eqb}
-use lib.ListN.{length, take, length-take}
-use lib.Seq.{getD-take}
-use Rattle.rules.specs.declared.Slot.{Slot}
-use Rattle.rules.specs.Run.{chosen, slotAt, noSlot}
-use Rattle.lists.proofs.Lists.{by-bool, true-not-false}
+use Rattle.base.proofs.Prelude.{ℕ, zero, suc, _-_, _≤_, _<_, _≡_, refl, sym, ap, _∙_, subst, _⊎_, inl, inr, Bool, true, false, List, arith, ℕ-discrete, eq-eqb, ne-eqb, eqb, length, take, length-take, getD-take}
+use Rattle.rules.specs.{declared.Slot.Slot, Run.{chosen, slotAt, noSlot}}
+use Rattle.base.proofs.Lists.{by-bool, true-not-false}
 use Rattle.laws.proofs.Slots.{at, slotAt-suc}
 
 abbrev pub Nobody : (Slot → Bool) → List Slot → ℕ → Type 0
@@ -43,7 +32,7 @@ below-suc P k before last i h =
 -- ---- The next place
 
 module _ (ok : Slot → Bool) (ahead : Slot → Slot → Bool) (ss : List Slot) where
-  pub chosen-none : chosen ok ahead ss 0 ≡ 0
+  chosen-none : chosen ok ahead ss 0 ≡ 0
   unfolding chosen
   chosen-none = refl
 

@@ -1,18 +1,9 @@
 -- Laws of E, of what a string asks, and of the blocking limit. Everything above cites these and not the definitions.
-use Prim.Native.Nat.{ℕ, suc, _+_, _-_, _*_, _≤_, _<_, min}
-use mathlib.Core.Path.{_≡_, sym, ap, _∙_}
-use mathlib.Core.Bool.{_&&_}
-use native.Mathlib.Omega.{arith}
-use native.Mathlib.Decide.{decLe, ℕ-discrete}
-use native.Mathlib.Nat.{mul-one, mul-zero, mul-le-mul}
-use borrow.Author.Tests.{lt-ltb, le-ltb, le-leb, eq-eqb, ne-eqb}
-use lib.Dec.{leb, ltb}
-use Rattle.rules.specs.declared.BatteryString.{BatteryString}
-use Rattle.rules.specs.declared.Plan.{Plan}
-use Rattle.lists.specs.Count.{largest}
-use Rattle.rules.specs.Plan.{stringsOf, dMin, dMax}
-use Rattle.rules.specs.Demand.{movingCost, holdOf, jobs, blockerHold, blockLimit, need}
-use Rattle.lists.proofs.Lists.{by-bool}
+use Rattle.base.proofs.Prelude.{ℕ, suc, _+_, _-_, _*_, _≤_, _<_, min, _≡_, sym, ap, _∙_, _&&_, arith, decLe, ℕ-discrete, mul-zero, mul-le-mul, lt-ltb, le-ltb, le-leb, lt-leb, eq-eqb, ne-eqb, leb, ltb}
+use native.Mathlib.Nat.{mul-one}
+use Rattle.rules.specs.{declared.BatteryString.BatteryString, declared.Plan.Plan, Plan.{stringsOf, dMin, dMax}, Demand.{movingCost, holdOf, jobs, blockerHold, blockLimit, need}}
+use Rattle.base.specs.Count.{largest}
+use Rattle.base.proofs.Lists.{by-bool}
 use Rattle.laws.proofs.Lawful.{PlanString}
 
 -- ---- E, the longest that a job holds the bank
@@ -58,6 +49,11 @@ need-unblocked p l s h =
     ]
 
 -- ---- The blocking limit
+
+-- before the smallest D nothing blocks
+pub blockLimit-early : (p : Plan) (l : ℕ) → l < dMin p → blockLimit p l ≡ 0
+unfolding blockLimit
+blockLimit-early p l h = rw (lt-leb (dMin p) l h)
 
 -- from the largest D on nothing blocks
 pub blockLimit-late : (p : Plan) (l : ℕ) → dMax p ≤ l → blockLimit p l ≡ 0

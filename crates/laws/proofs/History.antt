@@ -1,22 +1,9 @@
 -- The days of a history add up, and a run on which no day is late is clean.
-use Prim.Native.Nat.{ℕ, zero, suc, _+_, _≤_, _<_}
-use mathlib.Core.Path.{_≡_, refl, ap, _∙_}
-use mathlib.Core.Bool.{Bool, cond}
-use mathlib.Core.List.{List, [], _∷_}
-use native.Mathlib.Omega.{arith}
-use borrow.Author.Tests.{lt-ltb, le-ltb, ltb-false, lt-leb, le-leb}
-use lib.Dec.{ltb}
-use lib.ListN.{length, length-append}
+use Rattle.base.proofs.Prelude.{ℕ, zero, suc, _+_, _≤_, _<_, _≡_, refl, ap, _∙_, Bool, cond, List, [], _∷_, arith, lt-ltb, le-ltb, ltb-false, lt-leb, le-leb, ltb, length, length-append}
 use Rattle.days.specs.Days.{day}
-use Rattle.rules.specs.declared.Plan.{Plan}
-use Rattle.rules.specs.declared.Release.{Release}
-use Rattle.rules.specs.declared.Use.{Use}
-use Rattle.rules.specs.declared.Use.the-variants.{Idle, Work, Move}
-use Rattle.rules.specs.declared.Outcome.the-variants.{Clean, Miss}
-use Rattle.lists.specs.Count.{countOf}
-use Rattle.rules.specs.Run.{useOn, history, isWork, isMove, isIdle, daysOf, lateOn, missDay, runOf}
-use Rattle.lists.proofs.Counts.{countOf-append, countOf-one}
-use Rattle.lists.proofs.Least.{leastFrom-none, leastFrom-before, leastFrom-unique}
+use Rattle.rules.specs.{declared.Plan.Plan, declared.Release.Release, declared.Use.Use, declared.Use.the-variants.{Idle, Work, Move}, declared.Outcome.the-variants.{Clean, Miss}, Run.{useOn, history, isWork, isMove, isIdle, daysOf, lateOn, missDay, runOf}}
+use Rattle.base.specs.Count.{countOf}
+use Rattle.base.proofs.{Counts.{countOf-append, countOf-one}, Least.{leastFrom-none, leastFrom-before, leastFrom-unique}}
 
 -- ---- Counts
 
@@ -37,7 +24,7 @@ history-length p rs (suc k) =
 
 -- ---- A day is of one kind
 
-pub one-kind : (u : Use) → cond (isWork u) 1 0 + cond (isMove u) 1 0 + cond (isIdle u) 1 0 ≡ 1
+one-kind : (u : Use) → cond (isWork u) 1 0 + cond (isMove u) 1 0 + cond (isIdle u) 1 0 ≡ 1
 one-kind Idle = refl
 one-kind (Work i k) = refl
 one-kind (Move i k) = refl
@@ -52,7 +39,7 @@ kinds-add-up p rs (suc k) =
     let today = one-kind (useOn p rs k) in
     omega (arith, history-next p rs k isWork, history-next p rs k isMove, history-next p rs k isIdle)
 
-pub run-adds-up : (p : Plan) (rs : List Release) → daysOf p rs isWork .0 + daysOf p rs isMove .0 + daysOf p rs isIdle .0 ≡ p .run .0
+run-adds-up : (p : Plan) (rs : List Release) → daysOf p rs isWork .0 + daysOf p rs isMove .0 + daysOf p rs isIdle .0 ≡ p .run .0
 unfolding daysOf
 run-adds-up p rs = kinds-add-up p rs (p .run .0)
 

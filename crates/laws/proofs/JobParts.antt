@@ -1,16 +1,9 @@
 -- The days of work and of moving that are left in a job, apart: stopping and giving change none of them, and a day on the bank adds none.
 --     workOf job, movingOf job    the days of work and of moving that are left
-use Prim.Native.Nat.{ℕ, _+_, _-_, _≤_}
-use mathlib.Core.Path.{_≡_, refl}
-use native.Mathlib.Omega.{arith}
-use borrow.Author.Tests.{eqb-true}
-use lib.Dec.{eqb, ltb}
-use Rattle.days.specs.declared.Length.{Length}
-use Rattle.days.specs.Days.{days}
-use Rattle.rules.specs.declared.Job.{Job}
-use Rattle.rules.specs.declared.Job.the-variants.{Empty, Waiting, OnBank}
-use Rattle.rules.specs.Run.{left, stopped, charged, seated, spentJob, onOrGone}
-use Rattle.lists.proofs.Lists.{by-bool}
+use Rattle.base.proofs.Prelude.{ℕ, _+_, _-_, _≤_, _≡_, refl, arith, eqb-true, eqb, ltb}
+use Rattle.days.specs.{declared.Length.Length, Days.days}
+use Rattle.rules.specs.{declared.Job.Job, declared.Job.the-variants.{Empty, Waiting, OnBank}, Run.{left, stopped, charged, seated, spentJob, onOrGone}}
+use Rattle.base.proofs.Lists.{by-bool}
 
 abbrev pub workOf : Job → ℕ
 workOf Empty = 0

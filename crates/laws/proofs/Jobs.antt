@@ -1,12 +1,7 @@
 -- Laws of the job count. Everything above cites these and not the definition.
-use Prim.Native.Nat.{ℕ, suc, _+_, _-_, _*_, _/_, _%_, _≤_, _<_}
-use mathlib.Core.Path.{_≡_, ap, _∙_}
-use native.Mathlib.Omega.{arith}
-use native.Mathlib.Decide.{decLe}
-use native.Mathlib.Nat.{div-add-mod', le-div-iff-mul-le, add-mul-div-right, div-mul-le-self, mul-le-mul, le-refl, suc-mul}
-use borrow.Author.Tests.{lt-ltb, le-ltb}
-use Rattle.rules.specs.declared.BatteryString.{BatteryString}
-use Rattle.rules.specs.Demand.{jobs}
+use Rattle.base.proofs.Prelude.{ℕ, suc, _+_, _-_, _*_, _/_, _%_, _≤_, _<_, _≡_, ap, _∙_, arith, decLe, div-add-mod', mul-le-mul, le-refl, suc-mul, lt-ltb, le-ltb}
+use native.Mathlib.Nat.{le-div-iff-mul-le, add-mul-div-right, div-mul-le-self}
+use Rattle.rules.specs.{declared.BatteryString.BatteryString, Demand.jobs}
 
 -- a window shorter than D holds no job
 pub jobs-short : (s : BatteryString) (w : ℕ) → w < s .d .0 → jobs s w ≡ 0

@@ -1,23 +1,9 @@
 -- What the checks of a plan give where they find no fault.
-use Prim.Native.Nat.{ℕ, suc, _%_, _≤_, _<_, zero-le}
-use mathlib.Core.Path.{_≡_}
-use mathlib.Core.Bool.{true, false, not, _&&_}
-use mathlib.Core.List.{List, [], _∷_}
-use native.Mathlib.Omega.{arith}
-use borrow.Author.Tests.{ltb-false, eqb-true, not-false, lt-ltb, le-ltb}
-use lib.Dec.{eqb}
-use Rattle.rules.specs.declared.BatteryString.{BatteryString}
-use Rattle.rules.specs.declared.Plan.{Plan}
-use Rattle.faults.specs.declared.Fault.the-variants.{StringCount, OutOfBounds, MultipleOver}
-use Rattle.faults.specs.declared.Checked.the-variants.{Lawful, Refused}
-use Rattle.rules.specs.Plan.{stringsOf, noString, costLawful, stringLawful, commonMultiple, multipleOf, dMax}
-use Rattle.rules.specs.Demand.{movingCost}
-use Rattle.faults.specs.Checks.{inBounds, then}
-use Rattle.faults.proofs.Checks.{refused-not-lawful, then-first, then-second, refuseIf-not}
-use Rattle.faults.proofs.Checks.{inBounds-low, inBounds-high, inBounds-yes, inBounds-not}
-use Rattle.rules.specs.Refusal.{countCheck, runLengthCheck, headCheck, costCheck, stringsCheck, multipleCheck, planCheck}
-use Rattle.lists.proofs.Lists.{All, all-map, all-of-every, largest-le, by-bool, and-left, and-right}
-use Rattle.lists.proofs.Least.{leastFrom-low, leastFrom-passes, leastFrom-before, leastFrom-unique, leastFrom-none}
+use Rattle.base.proofs.Prelude.{ℕ, suc, _%_, _≤_, _<_, zero-le, _≡_, true, false, not, _&&_, List, [], _∷_, arith, ltb-false, eqb-true, not-false, lt-ltb, le-ltb, eqb}
+use Rattle.rules.specs.{declared.BatteryString.BatteryString, declared.Plan.Plan, Plan.{stringsOf, noString, costLawful, stringLawful, commonMultiple, multipleOf, dMax}, Demand.movingCost, Refusal.{countCheck, runLengthCheck, headCheck, costCheck, stringsCheck, multipleCheck, planCheck}}
+use Rattle.faults.specs.{declared.Fault.the-variants.{StringCount, OutOfBounds, MultipleOver}, declared.Checked.the-variants.{Lawful, Refused}, Checks.{inBounds, then}}
+use Rattle.faults.proofs.Checks.{refused-not-lawful, then-first, then-second, refuseIf-not, inBounds-low, inBounds-high, inBounds-yes, inBounds-not}
+use Rattle.base.proofs.{Lists.{All, all-map, all-of-every, largest-le, by-bool, and-left, and-right}, Least.{leastFrom-low, leastFrom-passes, leastFrom-before, leastFrom-unique, leastFrom-none}}
 pub use Rattle.laws.specs.Lawful.{LawfulString, LawfulPlan, PlanString}
 
 -- ---- n and N
@@ -57,7 +43,7 @@ module _ (at n run : ℕ) where
 -- ---- A moving cost that is said for the whole plan
 
 module _ (at a : ℕ) where
-  pub costCheck-lawful : costCheck at a ≡ Lawful → a ≤ 1000
+  costCheck-lawful : costCheck at a ≡ Lawful → a ≤ 1000
   unfolding costCheck
   costCheck-lawful h = inBounds-high 0 a 1000 (not-false (costLawful a) (refuseIf-not (not (costLawful a)) OutOfBounds at h))
 
@@ -71,7 +57,7 @@ module _ (at a : ℕ) where
 
 -- ---- A string
 
-pub stringLawful-is : (s : BatteryString) → stringLawful s ≡ true → LawfulString s
+stringLawful-is : (s : BatteryString) → stringLawful s ≡ true → LawfulString s
 unfolding stringLawful
 stringLawful-is s h =
     let T = inBounds 1 (s .t .0) 1000 in
@@ -112,7 +98,7 @@ stringLawful-yes s h =
 pub stringLawful-not : (s : BatteryString) → (LawfulString s → ⊥) → stringLawful s ≡ false
 stringLawful-not s out = by-bool (stringLawful s) (λ t. absurd (out (stringLawful-is s t))) (λ e. e)
 
-pub stringsCheck-all : (k : ℕ) (ss : List BatteryString) → stringsCheck k ss ≡ Lawful → All LawfulString ss
+stringsCheck-all : (k : ℕ) (ss : List BatteryString) → stringsCheck k ss ≡ Lawful → All LawfulString ss
 unfolding stringsCheck
 stringsCheck-all k [] h = tt
 stringsCheck-all k (s ∷ ss) h =

@@ -1,14 +1,9 @@
 -- The checks find nothing in a lawful plan, so a lawful plan gets the answers of the rules.
-use Prim.Native.Nat.{ℕ, suc}
-use mathlib.Core.Path.{_≡_, refl, _∙_}
-use mathlib.Core.List.{List, [], _∷_}
-use Rattle.lists.specs.Count.{All}
+use Rattle.base.proofs.Prelude.{ℕ, suc, _≡_, refl, _∙_, List, [], _∷_}
+use Rattle.base.specs.Count.{All}
 use Rattle.faults.specs.declared.Checked.the-variants.{Lawful}
 use Rattle.faults.proofs.Checks.{then-lawful}
-use Rattle.rules.specs.declared.BatteryString.{BatteryString}
-use Rattle.rules.specs.declared.Plan.{Plan}
-use Rattle.rules.specs.Plan.{stringsOf}
-use Rattle.rules.specs.Refusal.{headCheck, stringsCheck, planCheck}
+use Rattle.rules.specs.{declared.BatteryString.BatteryString, declared.Plan.Plan, Plan.stringsOf, Refusal.{headCheck, stringsCheck, planCheck}}
 use Rattle.laws.specs.Lawful.{LawfulString, LawfulPlan}
 use Rattle.laws.proofs.Lawful.{LawfulHead, headCheck-good, stringLawful-yes, multipleCheck-good}
 

@@ -1,17 +1,8 @@
 -- A list in which each release is within the bounds, and keeps its distance to every one before it, is lawful.
-use Prim.Native.Nat.{ℕ, suc, _+_}
-use mathlib.Core.Path.{_≡_, refl}
-use mathlib.Core.Bool.{true, false}
-use mathlib.Core.List.{List, [], _∷_}
-use borrow.Author.Tests.{lt-ltb, le-ltb, eqb-true}
-use lib.Dec.{eqb}
+use Rattle.base.proofs.Prelude.{ℕ, suc, _+_, _≡_, refl, true, false, List, [], _∷_, lt-ltb, le-ltb, eqb-true, eqb}
 use Rattle.faults.proofs.Checks.{inBounds-yes}
-use Rattle.rules.specs.declared.Plan.{Plan}
-use Rattle.rules.specs.declared.Release.{Release}
-use Rattle.rules.specs.Plan.{stringAt}
-use Rattle.rules.specs.Release.{tooClose, outOfOrder, releaseLawful, unlawfulFrom, firstUnlawful}
-use Rattle.lists.proofs.Lists.{All, by-bool}
-use Rattle.lists.proofs.Order.{Rising, all-both, all-of}
+use Rattle.rules.specs.{declared.Plan.Plan, declared.Release.Release, Plan.stringAt, Release.{tooClose, outOfOrder, releaseLawful, unlawfulFrom, firstUnlawful}}
+use Rattle.base.proofs.{Lists.{All, by-bool}, Order.{Rising, all-both, all-of}}
 use Rattle.laws.proofs.ReleaseList.{LawfulRelease, Keeps, Spaced}
 
 module _ (p : Plan) where

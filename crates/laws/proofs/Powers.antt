@@ -1,8 +1,5 @@
 -- The number of permission sets, 2 ^ n for up to ten strings, fits the code's word.
-use Prim.Native.Nat.{ℕ, _*_, _%_, _^_, _≤_, _<_}
-use mathlib.Core.Path.{_≡_, ap, _∙_}
-use native.Mathlib.Omega.{arith}
-use native.Mathlib.Nat.{one-mul, mod-eq-of-lt}
+use Rattle.base.proofs.Prelude.{ℕ, _*_, _%_, _^_, _≤_, _<_, _≡_, ap, _∙_, arith, one-mul, mod-eq-of-lt}
 use lib.Pow.{pow-mono}
 
 pub sets-small : (n : ℕ) → n ≤ 10 → 2 ^ n ≤ 1024

@@ -3,36 +3,11 @@
 --     Numbered k f at       the fault f has a number up to k
 --     Never n f at          it has another number than n
 --     Behind f at           it has a number up to 8, and if that is 3 it stands behind line 1
-use Prim.Native.Nat.{ℕ, zero, suc, _+_, _≤_, _<_}
-use mathlib.Core.Path.{_≡_, refl, ap, _∙_}
-use mathlib.Core.Logic.{_↔_}
-use mathlib.Core.Bool.{Bool, true, false, not, _&&_}
-use mathlib.Core.List.{List, [], _∷_}
-use native.Mathlib.Omega.{arith}
-use lib.Dec.{ltb, eqb}
-use lib.ListN.{length, drop}
-use Rattle.lists.proofs.Lists.{true-not-false}
-use Rattle.faults.specs.declared.Fault.{Fault}
-use Rattle.faults.specs.declared.Fault.the-variants.{TextTooLong, LineMalformed, FrameWrong, StringCount}
-use Rattle.faults.specs.declared.Fault.the-variants.{OutOfBounds, MultipleOver, ReleaseTooMany, ReleaseUnlawful}
-use Rattle.faults.specs.declared.Checked.{Checked}
-use Rattle.faults.specs.declared.Checked.the-variants.{Lawful, Refused}
-use Rattle.faults.specs.Checks.{faultNumber, then, refuseIf, inBounds}
-use Rattle.faults.proofs.Checks.{refused-not-lawful}
-use Rattle.faults.proofs.Refusing.{Refusals, refusals-then, refusals-if, refusals-map}
-use Rattle.rules.specs.declared.BatteryString.{BatteryString}
-use Rattle.rules.specs.declared.Plan.{Plan}
-use Rattle.rules.specs.declared.Release.{Release}
-use Rattle.rules.specs.declared.Releases.{Releases}
-use Rattle.rules.specs.Plan.{stringsOf, costLawful, stringLawful, multipleOf}
-use Rattle.rules.specs.Release.{releasesOf, releaseLawful, firstUnlawful}
-use Rattle.rules.specs.Refusal.{countCheck, runLengthCheck, headCheck, costCheck, stringCheck, multipleCheck, manyCheck}
-use Rattle.rules.specs.Refusal.{stringsCheck, planCheck, releasesCheck, runCheck}
-use Rattle.rules.specs.Layout.{Layout, Frames, frameSize, kindIn, Version}
-use Rattle.rules.specs.Text.{Line, linesOf, wellFormed, frameOf, fieldOf, nIn, runIn, aIn, stringOf, releaseOf, planIn, frameCheck, layoutCheck, versionCheck, headerCheck}
-use Rattle.rules.specs.Text.{stringLineCheck, stringLinesCheck, releaseLineCheck, releaseLinesCheck, bodyCheck, linesCheck, textCheck}
-use Rattle.rules.specs.Text.{lawfulReading, readingIn, framesOf, readingOf}
-use Rattle.rules.specs.Said.{Said, lawful, refused, checkedSays}
+use Rattle.base.proofs.Prelude.{ℕ, zero, suc, _+_, _≤_, _<_, _≡_, refl, ap, _∙_, _↔_, Bool, true, false, not, _&&_, List, [], _∷_, arith, ltb, eqb, length, drop}
+use Rattle.base.proofs.Lists.{true-not-false}
+use Rattle.faults.specs.{declared.Fault.Fault, declared.Fault.the-variants.{TextTooLong, LineMalformed, FrameWrong, StringCount, OutOfBounds, MultipleOver, ReleaseTooMany, ReleaseUnlawful}, declared.Checked.Checked, declared.Checked.the-variants.{Lawful, Refused}, Checks.{faultNumber, then, refuseIf, inBounds}}
+use Rattle.faults.proofs.{Checks.refused-not-lawful, Refusing.{Refusals, refusals-then, refusals-if, refusals-map}}
+use Rattle.rules.specs.{declared.BatteryString.BatteryString, declared.Plan.Plan, declared.Release.Release, declared.Releases.Releases, Plan.{stringsOf, costLawful, stringLawful, multipleOf}, Release.{releasesOf, releaseLawful, firstUnlawful}, Refusal.{countCheck, runLengthCheck, headCheck, costCheck, stringCheck, multipleCheck, manyCheck, stringsCheck, planCheck, releasesCheck, runCheck}, Layout.{Layout, Version, frameSize, kindIn, headerFrame, stringFrame, releaseFrame, Number}, Text.{Line, linesOf, wellFormed, frameOf, fieldOf, nIn, runIn, aIn, stringOf, releaseOf, planIn, frameCheck, layoutCheck, versionCheck, headerCheck, stringLineCheck, stringLinesCheck, releaseLineCheck, releaseLinesCheck, bodyCheck, linesCheck, textCheck, lawfulReading, readingIn, versionOf, readingOf}, Said.{Said, lawful, refused, checkedSays}}
 
 -- ---- What a chain says
 
@@ -48,7 +23,7 @@ lawful-no-refusal n k h =
     omega arith
 
 module _ (n k : ℕ) where
-  pub never-says : (c : Checked) → Refusals (Never n) c → checkedSays c ≡ refused n k → ⊥
+  never-says : (c : Checked) → Refusals (Never n) c → checkedSays c ≡ refused n k → ⊥
   never-says Lawful other h = lawful-no-refusal n k h
   never-says (Refused f at) other h =
       let number : faultNumber f ≡ n = cc in
@@ -121,7 +96,7 @@ runCheck-numbers p rs =
 
 -- ---- Texts: 1 to 8
 
-layout-refuses : (P : Fault → ℕ → Type 0) (k : ℕ) (l : Layout) (line : Line) → P LineMalformed k → P FrameWrong k
+layout-refuses : (P : Fault → ℕ → Type 0) {F : Type 0} (k : ℕ) (l : Layout F) (line : Line) → P LineMalformed k → P FrameWrong k
     → Refusals P (layoutCheck k l line)
 unfolding frameCheck
 layout-refuses P k l line two three =
@@ -140,15 +115,15 @@ Unframed f = (faultNumber f ≤ 8) × (faultNumber f ≡ 3 → ⊥)
 unframed-behind : (f : Fault) (at : ℕ) → Unframed f → Behind f at
 unframed-behind f at h = (h .0, λ three. absurd (h .1 three))
 
-module _ (v : Frames) where
+module _ (v : Version) where
   strings-behind : (header : Line) (k m : ℕ) (lines : List Line) → 2 ≤ k → Refusals Behind (stringLinesCheck v header k m lines)
   unfolding stringLinesCheck stringLineCheck
   strings-behind header k zero lines low = tt
   strings-behind header k (suc m) [] low = (omega arith, λ three. low)
   strings-behind header k (suc m) (line ∷ lines) low =
       refusals-then Behind (stringLineCheck v header k line) (stringLinesCheck v header (suc k) m lines)
-      (refusals-then Behind (layoutCheck k (v .string) line) (stringCheck k (stringOf v header line))
-      (layout-refuses Behind k (v .string) line (omega arith, λ three. low) (omega arith, λ three. low))
+      (refusals-then Behind (layoutCheck k (stringFrame v) line) (stringCheck k (stringOf v header line))
+      (layout-refuses Behind k (stringFrame v) line (omega arith, λ three. low) (omega arith, λ three. low))
       (refusals-if Behind (not (stringLawful (stringOf v header line))) OutOfBounds k (omega arith, λ three. low)))
       (strings-behind header (suc k) m lines (omega arith))
 
@@ -159,8 +134,8 @@ module _ (v : Frames) where
   releases-behind p k j seen (line ∷ lines) low =
       let bad = not (releaseLawful p seen (releaseOf v line)) in
       refusals-then Behind (releaseLineCheck v p k j seen line) (releaseLinesCheck v p (suc k) (suc j) (releaseOf v line ∷ seen) lines)
-      (refusals-then Behind (layoutCheck k (v .release) line) (then (manyCheck k j) (refuseIf bad ReleaseUnlawful k))
-      (layout-refuses Behind k (v .release) line (omega arith, λ three. low) (omega arith, λ three. low))
+      (refusals-then Behind (layoutCheck k (releaseFrame v) line) (then (manyCheck k j) (refuseIf bad ReleaseUnlawful k))
+      (layout-refuses Behind k (releaseFrame v) line (omega arith, λ three. low) (omega arith, λ three. low))
       (refusals-then Behind (manyCheck k j) (refuseIf bad ReleaseUnlawful k)
       (refusals-if Behind (ltb 1000 j) ReleaseTooMany k (omega arith, λ three. low))
       (refusals-if Behind bad ReleaseUnlawful k (omega arith, λ three. low))))
@@ -192,10 +167,10 @@ module _ (v : Frames) where
   header-numbers line =
       let low = Numbered 8 in
       let numbers = then (headCheck 1 (nIn v line) (runIn v line)) (costCheck 1 (aIn v line)) in
-      refusals-then low (layoutCheck 1 (v .header) line) (then (versionCheck v line) numbers)
-      (layout-refuses low 1 (v .header) line (omega arith) (omega arith))
+      refusals-then low (layoutCheck 1 (headerFrame v) line) (then (versionCheck v line) numbers)
+      (layout-refuses low 1 (headerFrame v) line (omega arith) (omega arith))
       (refusals-then low (versionCheck v line) numbers
-      (refusals-if low (not (eqb (fieldOf (v .header) Version line) (v .version))) FrameWrong 1 (omega arith))
+      (refusals-if low (not (eqb (fieldOf (headerFrame v) Number line) (v .number))) FrameWrong 1 (omega arith))
       (refusals-map Behind low (λ f at h. h .0) numbers (numbers-behind line)))
 
   lines-numbers : (lines : List Line) → Refusals (Numbered 8) (linesCheck v lines)
@@ -206,25 +181,25 @@ module _ (v : Frames) where
       refusals-then (Numbered 8) (headerCheck v header) body (header-numbers header)
       (refusals-map Behind (Numbered 8) (λ f at h. h .0) body (body-behind header (planIn v (header ∷ lines)) lines))
 
-  pub textCheck-numbers : (text : List ℕ) → Refusals (Numbered 8) (textCheck v text)
+  textCheck-numbers : (text : List ℕ) → Refusals (Numbered 8) (textCheck v text)
   unfolding textCheck
   textCheck-numbers text =
       refusals-then (Numbered 8) (refuseIf (ltb 65536 (length text)) TextTooLong 0) (linesCheck v (linesOf text))
       (refusals-if (Numbered 8) (ltb 65536 (length text)) TextTooLong 0 (omega arith)) (lines-numbers (linesOf text))
 
-reading-check : (v : Frames) (c : Checked) (lines : List Line) → lawfulReading v c lines .checked ≡ c
+reading-check : (v : Version) (c : Checked) (lines : List Line) → lawfulReading v c lines .checked ≡ c
 unfolding lawfulReading
 reading-check v Lawful lines = refl
 reading-check v (Refused f at) lines = refl
 
 -- a reading is refused by what its text is refused by
-pub reading-is-checked : (v : Frames) (text : List ℕ) → readingIn v text .checked ≡ textCheck v text
+pub reading-is-checked : (v : Version) (text : List ℕ) → readingIn v text .checked ≡ textCheck v text
 unfolding readingIn
 reading-is-checked v text = reading-check v (textCheck v text) (linesOf text)
 
-pub reading-numbers : (v : Frames) (text : List ℕ) → Refusals (Numbered 8) (readingIn v text .checked)
+pub reading-numbers : (v : Version) (text : List ℕ) → Refusals (Numbered 8) (readingIn v text .checked)
 reading-numbers v text = rw (reading-is-checked v text) (textCheck-numbers v text)
 
 pub read-numbers : (text : List ℕ) → Refusals (Numbered 8) (readingOf text .checked)
 unfolding readingOf
-read-numbers text = reading-numbers (framesOf (linesOf text)) text
+read-numbers text = reading-numbers (versionOf (linesOf text)) text

@@ -1,25 +1,11 @@
 -- What a lawful release list gives: each release is within the bounds, and two of one place are at least T days apart.
 --     str p j               the string with index j: the string of place j + 1
 --     Released rs j t       a release of the list is of the place with index j and of day t
-use Prim.Native.Nat.{ℕ, zero, suc, _+_, _-_, _≤_, _<_}
-use mathlib.Core.Path.{_≡_, sym, ap, _∙_}
-use mathlib.Core.Bool.{true, false, not, _&&_}
-use mathlib.Core.List.{List, [], _∷_}
-use native.Mathlib.Omega.{arith}
-use native.Mathlib.Decide.{decLe, ℕ-discrete}
-use native.Mathlib.Nat.{le-refl, not-suc-le-zero, le-of-suc-le-suc}
-use borrow.Author.Tests.{ltb-true, ltb-false, eqb-false, not-true}
-use lib.Dec.{ltb, eqb}
-use lib.ListN.{length, getD, List·getD-eq-default}
-use Rattle.rules.specs.declared.BatteryString.{BatteryString}
-use Rattle.rules.specs.declared.Plan.{Plan}
-use Rattle.rules.specs.declared.Release.{Release}
-use Rattle.rules.specs.Plan.{stringsOf, stringAt, noString}
+use Rattle.base.proofs.Prelude.{ℕ, zero, suc, _+_, _-_, _≤_, _<_, _≡_, sym, ap, _∙_, true, false, not, _&&_, List, [], _∷_, arith, decLe, ℕ-discrete, le-refl, not-suc-le-zero, le-of-suc-le-suc, ltb-true, ltb-false, eqb-false, not-true, ltb, eqb, length, getD, List·getD-eq-default}
+use Rattle.rules.specs.{declared.BatteryString.BatteryString, declared.Plan.Plan, declared.Release.Release, Plan.{stringsOf, stringAt, noString}, Release.{noRelease, tooClose, outOfOrder, releaseLawful, unlawfulFrom, firstUnlawful}}
 use Rattle.faults.specs.Checks.{inBounds}
 use Rattle.faults.proofs.Checks.{inBounds-low, inBounds-high}
-use Rattle.rules.specs.Release.{noRelease, tooClose, outOfOrder, releaseLawful, unlawfulFrom, firstUnlawful}
-use Rattle.lists.proofs.Order.{all-both}
-use Rattle.lists.proofs.Lists.{All, all-map, by-bool, and-left, and-right}
+use Rattle.base.proofs.{Order.all-both, Lists.{All, all-map, by-bool, and-left, and-right}}
 
 abbrev pub str : Plan → ℕ → BatteryString
 str p j = getD (stringsOf p) j noString
@@ -80,7 +66,7 @@ apart-all p t r (q ∷ seen) c h =
     ))
     (λ e. ((λ s. absurd (eqb-false _ _ e s)), apart-all p t r seen (c .1) (rw e at h)))
 
-pub releaseLawful-is : (p : Plan) (seen : List Release) (r : Release) → Chain p seen → releaseLawful p seen r ≡ true
+releaseLawful-is : (p : Plan) (seen : List Release) (r : Release) → Chain p seen → releaseLawful p seen r ≡ true
     → LawfulRelease p r × All (Keeps p r) seen
 unfolding releaseLawful
 releaseLawful-is p seen r c h =
@@ -158,7 +144,7 @@ pub release-string : (p : Plan) (rs : List Release) (j m : ℕ) → getD rs m no
 release-string p rs j m e = ap (stringAt p) e ∙ stringAt-suc p j
 
 module _ (p : Plan) (rs : List Release) (lawful : firstUnlawful p rs ≡ 0) where
-  pub list-spaced : Spaced p [] rs
+  list-spaced : Spaced p [] rs
   unfolding firstUnlawful
   list-spaced = unlawfulFrom-spaced p [] 1 rs (omega arith) tt lawful
 

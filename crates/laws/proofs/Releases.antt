@@ -1,21 +1,9 @@
 -- Laws of the check of a release list, and what it gives where it finds no fault.
-use Prim.Native.Nat.{ℕ, suc, _+_, _≤_, _<_}
-use mathlib.Core.List.{List, [], _∷_}
-use lib.ListN.{length}
-use mathlib.Core.Path.{_≡_}
-use native.Mathlib.Omega.{arith}
-use lib.Dec.{ltb}
-use borrow.Author.Tests.{lt-ltb, le-ltb, ltb-false}
-use Rattle.rules.specs.declared.Plan.{Plan}
-use Rattle.rules.specs.declared.Release.{Release}
-use Rattle.rules.specs.declared.Releases.{Releases}
-use Rattle.faults.specs.declared.Fault.the-variants.{ReleaseTooMany, ReleaseUnlawful}
-use Rattle.faults.specs.declared.Checked.the-variants.{Lawful, Refused}
-use Rattle.rules.specs.Release.{releasesOf, releaseLawful, unlawfulFrom, firstUnlawful}
-use Rattle.rules.specs.Refusal.{planCheck, releasesCheck, runCheck}
-use Rattle.faults.specs.Checks.{then, refuseIf}
+use Rattle.base.proofs.Prelude.{ℕ, suc, _+_, _≤_, _<_, List, [], _∷_, length, _≡_, arith, ltb, lt-ltb, le-ltb, ltb-false}
+use Rattle.rules.specs.{declared.Plan.Plan, declared.Release.Release, declared.Releases.Releases, Release.{releasesOf, releaseLawful, unlawfulFrom, firstUnlawful}, Refusal.{planCheck, releasesCheck, runCheck}}
+use Rattle.faults.specs.{declared.Fault.the-variants.{ReleaseTooMany, ReleaseUnlawful}, declared.Checked.the-variants.{Lawful, Refused}, Checks.{then, refuseIf}}
 use Rattle.faults.proofs.Checks.{then-first, then-second, refuseIf-not}
-use Rattle.lists.proofs.Lists.{by-bool}
+use Rattle.base.proofs.Lists.{by-bool}
 use Rattle.laws.proofs.Lawful.{planCheck-lawful}
 pub use Rattle.laws.specs.Lawful.{LawfulRun}
 
@@ -47,7 +35,7 @@ runCheck-lawful p rs h =
     }
 
 -- the place that a check names lies in the list
-pub unlawfulFrom-le : (p : Plan) (seen : List Release) (k : ℕ) (rs : List Release) → unlawfulFrom p seen k rs ≤ k + length rs
+unlawfulFrom-le : (p : Plan) (seen : List Release) (k : ℕ) (rs : List Release) → unlawfulFrom p seen k rs ≤ k + length rs
 unfolding unlawfulFrom
 unlawfulFrom-le p seen k [] = omega arith
 unlawfulFrom-le p seen k (r ∷ rs) =

@@ -1,17 +1,12 @@
 -- What an answer says determines the answer: one case each.
-use Prim.Native.Nat.{ℕ}
-use mathlib.Core.Path.{_≡_, refl, ap}
-use native.Mathlib.Omega.{arith}
+use Rattle.base.proofs.Prelude.{ℕ, _≡_, refl, ap, arith}
 use Rattle.days.specs.Days.{day, days}
 use Rattle.faults.specs.declared.Checked.{Checked}
+use Rattle.rules.specs.{declared.Verdict.Verdict, declared.Assign.Assign, declared.Outcome.Outcome, Said.{lawful, overload, fail, pass, takers, none, miss, clean, checkedSays, verdictSays, assignSays, outcomeSays}}
 use Rattle.faults.specs.declared.Checked.the-variants as checked
-use Rattle.rules.specs.declared.Verdict.{Verdict}
 use Rattle.rules.specs.declared.Verdict.the-variants as verdict
-use Rattle.rules.specs.declared.Assign.{Assign}
 use Rattle.rules.specs.declared.Assign.the-variants as assign
-use Rattle.rules.specs.declared.Outcome.{Outcome}
 use Rattle.rules.specs.declared.Outcome.the-variants as outcome
-use Rattle.rules.specs.Said.{lawful, overload, fail, pass, takers, none, miss, clean, checkedSays, verdictSays, assignSays, outcomeSays}
 
 never : _≡_ {A = ℕ} 0 1 → ⊥
 never z = omega arith

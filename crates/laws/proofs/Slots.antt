@@ -1,20 +1,9 @@
 -- Laws of slots by place: a slot by index, a job made another, the slot of a release, and the first n slots of an array.
 --     at ss j               the slot with index j: the slot of place j + 1
-use Prim.Native.Nat.{ℕ, suc, _+_, _-_, _≤_, _<_}
-use mathlib.Core.Path.{_≡_, refl, ap}
-use mathlib.Core.Logic.{_≢_}
-use mathlib.Core.List.{List}
-use native.Mathlib.Omega.{arith}
-use lib.ListN.{length, getD, take, set, length-set}
-use lib.Seq.{getD-set-same, getD-set-other, getD-take, take-set-lt}
+use Rattle.base.proofs.Prelude.{ℕ, suc, _+_, _-_, _≤_, _<_, _≡_, refl, ap, _≢_, List, arith, length, getD, take, set, length-set, getD-set-same, getD-set-other, getD-take}
+use lib.Seq.{take-set-lt}
 use Rattle.days.specs.Days.{day, days}
-use Rattle.rules.specs.declared.Plan.{Plan}
-use Rattle.rules.specs.declared.Release.{Release}
-use Rattle.rules.specs.declared.Slot.{Slot}
-use Rattle.rules.specs.declared.Job.{Job}
-use Rattle.rules.specs.declared.Job.the-variants.{Waiting}
-use Rattle.rules.specs.Plan.{stringAt}
-use Rattle.rules.specs.Run.{noSlot, slotAt, putJob, withJob, newSlot, charged}
+use Rattle.rules.specs.{declared.Plan.Plan, declared.Release.Release, declared.Slot.Slot, declared.Job.Job, declared.Job.the-variants.Waiting, Plan.stringAt, Run.{noSlot, slotAt, putJob, withJob, newSlot, charged}}
 
 abbrev pub at : List Slot → ℕ → Slot
 at ss j = getD ss j noSlot

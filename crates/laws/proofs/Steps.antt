@@ -1,13 +1,6 @@
 -- Laws of the steps of a day: each step by its cases, and the places that they name lie among the slots.
-use Prim.Native.Nat.{ℕ, _≤_}
-use mathlib.Core.Path.{_≡_}
-use mathlib.Core.List.{List}
-use borrow.Author.Tests.{eq-eqb, ne-eqb}
-use lib.ListN.{length}
-use Rattle.rules.specs.declared.Plan.{Plan}
-use Rattle.rules.specs.declared.Slot.{Slot}
-use Rattle.rules.specs.declared.Use.the-variants.{Idle}
-use Rattle.rules.specs.Run.{slotAt, withJob, onBank, waits, noneAhead, mayTake, dueBefore, goesFirst, holder, payer, stop, charge, taken, nextUp, seated, given, usedFor, useOf, spentJob, spent}
+use Rattle.base.proofs.Prelude.{ℕ, _≤_, _≡_, List, eq-eqb, ne-eqb, length}
+use Rattle.rules.specs.{declared.Plan.Plan, declared.Slot.Slot, declared.Use.the-variants.Idle, Run.{slotAt, withJob, onBank, waits, noneAhead, mayTake, dueBefore, goesFirst, holder, payer, stop, charge, taken, nextUp, seated, given, usedFor, useOf, spentJob, spent}}
 use Rattle.laws.proofs.Choice.{chosen-le}
 
 -- ---- The cases of each step

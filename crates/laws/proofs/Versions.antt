@@ -1,33 +1,16 @@
 -- The versions of the plan file (document 02, W-207): which are read, and which moving costs they give. The strings of a lawful text are
--- those that its string lines write, in either version.
-use Prim.Native.Nat.{ℕ, zero, suc, _≤_}
-use mathlib.Core.Path.{_≡_, refl, ap, _∙_}
-use mathlib.Core.Bool.{true, _&&_}
-use mathlib.Core.List.{List, [], _∷_, map}
-use native.Mathlib.Omega.{arith}
-use borrow.Author.Tests.{eq-eqb, ne-eqb, le-ltb}
-use lib.Dec.{ltb, eqb}
-use lib.ListN.{length, take, length-map}
-use lib.Seq.{take-at}
+-- those that its string lines write, in every version.
+use Rattle.base.proofs.Prelude.{ℕ, zero, suc, _≤_, _≡_, refl, ap, _∙_, true, _&&_, List, [], _∷_, map, arith, eq-eqb, ne-eqb, lt-ltb, le-ltb, ltb, eqb, length, take, length-map, take-at}
 use Rattle.days.specs.Days.{days}
-use Rattle.faults.specs.declared.Fault.the-variants.{TextTooLong, FrameWrong}
-use Rattle.faults.specs.declared.Checked.{Checked}
-use Rattle.faults.specs.declared.Checked.the-variants.{Lawful, Refused}
-use Rattle.faults.specs.Checks.{refuseIf}
+use Rattle.faults.specs.{declared.Fault.the-variants.{TextTooLong, FrameWrong}, declared.Checked.Checked, declared.Checked.the-variants.{Lawful, Refused}, Checks.refuseIf}
 use Rattle.faults.proofs.Checks.{refused-not-lawful, then-first, then-second}
-use Rattle.lists.specs.Count.{All, any}
-use Rattle.lists.proofs.Lists.{by-bool}
-use Rattle.lists.proofs.Order.{all-of, all-mapped}
-use Rattle.rules.specs.declared.BatteryString.{BatteryString}
-use Rattle.rules.specs.Plan.{stringsOf}
-use Rattle.rules.specs.Layout.{Frames, kindIn, versionIn, hasField, fieldAmong, fieldIn, version01, version02, framesFor, Moving}
-use Rattle.rules.specs.Text.{Line, linesOf, wellFormed, frameOf, fieldOf, nIn, aIn, costOf, stringOf, planIn, frameCheck, versionCheck}
-use Rattle.rules.specs.Text.{headerCheck, stringLineCheck, stringLinesCheck, bodyCheck, linesCheck, textCheck}
-use Rattle.rules.specs.Text.{lawfulReading, readingIn, framesOf, readingOf}
+use Rattle.base.specs.Count.{All}
+use Rattle.base.proofs.{Lists.by-bool, Order.{all-of, all-mapped}}
+use Rattle.rules.specs.{declared.BatteryString.BatteryString, Plan.stringsOf, Layout.{Version, kindIn, versionIn, hasField, fieldAmong, fieldIn, version01, version02, heldTo, stringFrame, Common, Own}, Text.{Line, linesOf, wellFormed, frameOf, fieldOf, nIn, aIn, costOf, stringOf, planIn, frameCheck, versionCheck, headerCheck, stringLineCheck, stringLinesCheck, bodyCheck, linesCheck, textCheck, lawfulReading, readingIn, versionOf, readingOf}}
 
 -- ---- The strings of a lawful text
 
-module _ (v : Frames) (header : Line) where
+module _ (v : Version) (header : Line) where
   pub strings-many : (k m : ℕ) (lines : List Line) → stringLinesCheck v header k m lines ≡ Lawful → length (take m lines) ≡ m
   unfolding stringLinesCheck
   strings-many k zero lines h = refl
@@ -50,50 +33,51 @@ module _ (v : Frames) (header : Line) where
 
 -- ---- Moving costs
 
--- version 01: the single cost goes to every string
-pub cost-01 : (header line : Line) → stringOf version01 header line .a ≡ days (aIn version01 header)
-unfolding stringOf costOf hasField any
-cost-01 header line = refl
+module _ (v : Version) (header : Line) where
+  -- where the header says a cost, it goes to every string, as in version 01
+  cost-for-all : (line : Line) → 1 ≤ v .header Common → stringOf v header line .a ≡ days (aIn v header)
+  unfolding stringOf costOf hasField
+  cost-for-all line some = rw (lt-ltb 0 (v .header Common) some)
 
--- version 02: the string line says it
-pub cost-02 : (header line : Line) → stringOf version02 header line .a ≡ days (fieldOf (version02 .string) Moving line)
-unfolding stringOf costOf hasField any
-cost-02 header line = refl
+  -- else the string line says it, as in version 02
+  cost-of-its-own : (line : Line) → v .header Common ≤ 0 → stringOf v header line .a ≡ days (fieldOf (stringFrame v) Own line)
+  unfolding stringOf costOf hasField
+  cost-of-its-own line none = rw (le-ltb 0 (v .header Common) none)
 
--- a lawful version 01 text reads as a plan in which every string has the cost that its header says
-pub one-cost : (header : Line) (lines : List Line) → linesCheck version01 (header ∷ lines) ≡ Lawful
-    → All (λ s. s .a ≡ days (aIn version01 header)) (stringsOf (planIn version01 (header ∷ lines)))
-one-cost header lines h =
-    let Same : BatteryString → Type 0 = λ s. s .a ≡ days (aIn version01 header) in
-    let written = take (nIn version01 header) lines in
-    let said = stringOf version01 header in
-    rw (strings-are version01 header lines h)
-    (all-mapped Same said written (all-of (λ line. Same (said line)) (cost-01 header) written))
+  -- a lawful text whose header says a cost reads as a plan in which every string has it
+  pub one-cost : (lines : List Line) → 1 ≤ v .header Common → linesCheck v (header ∷ lines) ≡ Lawful
+      → All (λ s. s .a ≡ days (aIn v header)) (stringsOf (planIn v (header ∷ lines)))
+  one-cost lines some h =
+      let Same : BatteryString → Type 0 = λ s. s .a ≡ days (aIn v header) in
+      let written = take (nIn v header) lines in
+      let said = stringOf v header in
+      rw (strings-are v header lines h)
+      (all-mapped Same said written (all-of (λ line. Same (said line)) (λ line. cost-for-all line some) written))
 
 -- ---- Which version a text is held to
 
 module _ (header : Line) (lines : List Line) where
-  pub held-to-02 : versionIn (frameOf header) ≡ 2 → framesOf (header ∷ lines) ≡ version02
-  unfolding framesOf framesFor
+  held-to-02 : versionIn (frameOf header) ≡ 2 → versionOf (header ∷ lines) ≡ version02
+  unfolding versionOf heldTo
   held-to-02 h = rw (eq-eqb (versionIn (frameOf header)) 2 h)
 
-  pub held-to-01 : (versionIn (frameOf header) ≡ 2 → ⊥) → framesOf (header ∷ lines) ≡ version01
-  unfolding framesOf framesFor
+  held-to-01 : (versionIn (frameOf header) ≡ 2 → ⊥) → versionOf (header ∷ lines) ≡ version01
+  unfolding versionOf heldTo
   held-to-01 h = rw (ne-eqb (versionIn (frameOf header)) 2 h)
 
 -- a reading that is lawful was found so
-pub reading-checked : (v : Frames) (c : Checked) (lines : List Line) → lawfulReading v c lines .checked ≡ Lawful → c ≡ Lawful
+pub reading-checked : (v : Version) (c : Checked) (lines : List Line) → lawfulReading v c lines .checked ≡ Lawful → c ≡ Lawful
 unfolding lawfulReading
 reading-checked v Lawful lines h = refl
 reading-checked v (Refused f at) lines h = h
 
-pub lines-checked : (v : Frames) (text : List ℕ) → readingIn v text .checked ≡ Lawful → linesCheck v (linesOf text) ≡ Lawful
+pub lines-checked : (v : Version) (text : List ℕ) → readingIn v text .checked ≡ Lawful → linesCheck v (linesOf text) ≡ Lawful
 unfolding readingIn textCheck
 lines-checked v text h =
     then-second (refuseIf (ltb 65536 (length text)) TextTooLong 0) (linesCheck v (linesOf text))
     (reading-checked v (textCheck v text) (linesOf text) h)
 
-pub reading-plan : (v : Frames) (text : List ℕ) → readingIn v text .checked ≡ Lawful → readingIn v text .plan ≡ planIn v (linesOf text)
+pub reading-plan : (v : Version) (text : List ℕ) → readingIn v text .checked ≡ Lawful → readingIn v text .plan ≡ planIn v (linesOf text)
 unfolding readingIn lawfulReading
 reading-plan v text h = rw (reading-checked v (textCheck v text) (linesOf text) h)
 
@@ -103,10 +87,10 @@ module _ (text : List ℕ) (header : Line) (lines : List Line) (said : linesOf t
       → All (λ s. s .a ≡ days (aIn version01 header)) (stringsOf (readingOf text .plan))
   unfolding readingOf
   version01-one-cost one h =
-      let held : framesOf (linesOf text) ≡ version01 = ap framesOf said ∙ held-to-01 header lines (λ two. omega arith) in
+      let held : versionOf (linesOf text) ≡ version01 = ap versionOf said ∙ held-to-01 header lines (λ two. omega arith) in
       let lawful : readingIn version01 text .checked ≡ Lawful = rw held at h in
       let found : linesCheck version01 (header ∷ lines) ≡ Lawful = rw said at (lines-checked version01 text lawful) in
-      rw (held, reading-plan version01 text lawful, said) (one-cost header lines found)
+      rw (held, reading-plan version01 text lawful, said) (one-cost version01 header lines (omega arith) found)
 
   -- any version but 01 and 02 is 3 at line 1, whatever the length of its header
   pub other-version : length text ≤ 65536 → wellFormed header ≡ true → (versionIn (frameOf header) ≡ 1 → ⊥)
@@ -115,7 +99,7 @@ module _ (text : List ℕ) (header : Line) (lines : List Line) (said : linesOf t
       readingOf readingIn textCheck linesCheck headerCheck frameCheck versionCheck lawfulReading fieldOf fieldIn fieldAmong
   other-version short good not-1 not-2 =
       let frame = frameOf header in
-      let held : framesOf (linesOf text) ≡ version01 = ap framesOf said ∙ held-to-01 header lines not-2 in
+      let held : versionOf (linesOf text) ≡ version01 = ap versionOf said ∙ held-to-01 header lines not-2 in
       by-bool (eqb (length frame) 9 && eqb (kindIn frame) 1)
       (λ t. rw (held, said, le-ltb 65536 (length text) short, good, t, ne-eqb (versionIn frame) 1 not-1))
       (λ e. rw (held, said, le-ltb 65536 (length text) short, good, e))

@@ -13,7 +13,7 @@ use Rattle.rules.specs.declared.Releases.{Releases}
 use Rattle.rules.specs.Plan.{stringsOf, commonMultiple, multipleOf}
 use Rattle.rules.specs.Demand.{movingCost}
 use Rattle.rules.specs.Release.{releasesOf, firstUnlawful}
-use Rattle.lists.specs.Count.{All}
+use Rattle.base.specs.Count.{All}
 
 pub record LawfulString (s : BatteryString) : Type 0 where
   pub tPos : 1 ≤ s .t .0

@@ -1,130 +1,187 @@
--- The versions that the code knows: where their fields stand, and how long their lines are.
-use Prim.Native.Nat.{ℕ, _*_, _≤_, _<_}
-use mathlib.Core.Path.{_≡_, refl, ap}
-use native.Mathlib.Omega.{arith}
-use native.Mathlib.Nat.{mul-le-mul}
-use lib.Dec.{eqb}
-use Rattle.lists.specs.Count.{any}
-use Rattle.lists.proofs.Lists.{by-bool}
-use Rattle.rules.specs.Layout.{Frames, lineSize, hasField, version01, version02, framesFor}
-use Rattle.rules.specs.Layout.{Version, Count, Moving, Run, X, T, C, D}
-use Rattle.rules.specs.Text.{Line, aIn, fieldOf, costOf}
-use Rattle.layouts.specs.declared.Field.{Field}
-use Rattle.layouts.specs.declared.Layout.{Layout}
+-- The versions that the code knows: where their fields stand, and how long their lines are. A further version has its row among the
+-- definitions' `versions`, and one more `omega` in `all-sound`.
+use Rattle.base.proofs.Prelude.{ℕ, _+_, _*_, _%_, _≤_, _<_, _≡_, refl, ap, _∙_, List, [], _∷_, arith, mul-le-mul, lt-ltb, le-ltb, eqb}
+use Rattle.base.specs.Count.{All}
+use Rattle.base.proofs.Lists.{by-bool}
+use Rattle.rules.specs.{Layout.{Version, lineSize, hasField, versions, laterVersions, version01, versionAmong, heldTo, headerFrame, stringFrame, releaseFrame, Number, Count, Common, Run, X, T, C, D, Own, Place, Day, Need}, Text.{Line, aIn, fieldOf, costOf}}
+use Rattle.layouts.specs.{declared.Field.Field, declared.Layout.Layout, inner.Versions.{fieldFor, layoutFor, codeOf, meantBy, Known, Sound}}
 use Rattle.layouts.specs.declared.Version as code
-use Rattle.layouts.specs.Versions.{sizeIn, fieldFor, layoutFor, framesBy, Known}
 
--- what holds of both versions holds of the frames for any number
-pub by-version : (P : Frames → Type 0) → P version01 → P version02 → (k : ℕ) → P (framesFor k)
-unfolding framesFor
-by-version P old new k = by-bool (eqb k 2) (λ t. rw t new) (λ e. rw e old)
+-- what holds of every version holds of the one that a number is held to
+pub by-version : (P : Version → Type 0) → All P versions → (k : ℕ) → P (heldTo k)
+unfolding heldTo
+by-version P all k = among laterVersions (all .1)
+  where
+    among : (vs : List Version) → All P vs → P (versionAmong k vs)
+    among [] h = all .0
+    among (v ∷ vs) h = by-bool (eqb k (v .number)) (λ t. rw t (h .0)) (λ e. rw e (among vs (h .1)))
 
--- the frames for a version's own number are its own
-pub number-again : (k : ℕ) → framesFor (framesFor k .version) ≡ framesFor k
-unfolding framesFor
-number-again k = by-version (λ v. framesFor (v .version) ≡ v) refl refl k
+-- a version is the one that its own number is held to
+pub number-again : (k : ℕ) → heldTo (heldTo k .number) ≡ heldTo k
+unfolding heldTo
+number-again k = by-version (λ v. heldTo (v .number) ≡ v) (refl, (refl, tt)) k
 
--- ---- What all versions have in the same place
+all-sound : All Sound versions
+all-sound = (omega arith, (omega arith, tt))
 
 module _ (k : ℕ) where
-  pub version-place : record { at = 1; size = 1 } ≡ fieldFor (framesFor k .header) Version
-  version-place = by-version (λ v. record { at = 1; size = 1 } ≡ fieldFor (v .header) Version) refl refl k
+  sound : Sound (heldTo k)
+  sound = by-version Sound all-sound k
 
-  pub count-place : record { at = 2; size = 1 } ≡ fieldFor (framesFor k .header) Count
-  count-place = by-version (λ v. record { at = 2; size = 1 } ≡ fieldFor (v .header) Count) refl refl k
+  pub number-small : heldTo k .number < 256
+  number-small = sound .0
 
-  pub x-place : record { at = 1; size = 1 } ≡ fieldFor (framesFor k .string) X
-  x-place = by-version (λ v. record { at = 1; size = 1 } ≡ fieldFor (v .string) X) refl refl k
+  -- ---- What all versions have alike
 
-  pub t-place : record { at = 2; size = 2 } ≡ fieldFor (framesFor k .string) T
-  t-place = by-version (λ v. record { at = 2; size = 2 } ≡ fieldFor (v .string) T) refl refl k
+  pub number-size : heldTo k .header Number ≡ 1
+  number-size = sound .1
 
-  pub c-place : record { at = 4; size = 2 } ≡ fieldFor (framesFor k .string) C
-  c-place = by-version (λ v. record { at = 4; size = 2 } ≡ fieldFor (v .string) C) refl refl k
+  pub count-size : heldTo k .header Count ≡ 1
+  count-size = sound .2
 
-  pub d-place : record { at = 6; size = 2 } ≡ fieldFor (framesFor k .string) D
-  d-place = by-version (λ v. record { at = 6; size = 2 } ≡ fieldFor (v .string) D) refl refl k
+  pub run-size : heldTo k .header Run ≡ 4
+  run-size = sound .3
 
-  pub same-release : framesFor k .release ≡ version01 .release
-  same-release = by-version (λ v. v .release ≡ version01 .release) refl refl k
+  pub x-size : heldTo k .string X ≡ 1
+  x-size = sound .4
 
-  -- ---- Sizes
+  pub t-size : heldTo k .string T ≡ 2
+  t-size = sound .5
 
-  pub header-short : lineSize (framesFor k .header) ≤ 19
-  header-short = by-version (λ v. lineSize (v .header) ≤ 19) (omega arith) (omega arith) k
+  pub c-size : heldTo k .string C ≡ 2
+  c-size = sound .6
 
-  pub string-short : lineSize (framesFor k .string) ≤ 21
-  string-short = by-version (λ v. lineSize (v .string) ≤ 21) (omega arith) (omega arith) k
+  pub d-size : heldTo k .string D ≡ 2
+  d-size = sound .7
 
-  -- no field takes more than four bytes
-  small-common : sizeIn (framesFor k .header) Moving ≤ 4
-  small-common = by-version (λ v. sizeIn (v .header) Moving ≤ 4) (omega arith) (omega arith) k
+  pub place-size : heldTo k .release Place ≡ 1
+  place-size = sound .8
 
-  small-run : sizeIn (framesFor k .header) Run ≤ 4
-  small-run = by-version (λ v. sizeIn (v .header) Run ≤ 4) (omega arith) (omega arith) k
+  pub day-size : heldTo k .release Day ≡ 4
+  day-size = sound .9
 
-  small-own : sizeIn (framesFor k .string) Moving ≤ 4
-  small-own = by-version (λ v. sizeIn (v .string) Moving ≤ 4) (omega arith) (omega arith) k
+  pub need-size : heldTo k .release Need ≡ 2
+  need-size = sound .10
 
-  -- ---- Which frame says the moving cost
+  -- ---- Where it stands
 
-  module _ (header line : Line) where
-    pub cost-common : 0 < sizeIn (framesFor k .header) Moving → costOf (framesFor k) header line ≡ aIn (framesFor k) header
-    unfolding costOf hasField any
-    cost-common =
-        by-version (λ v. 0 < sizeIn (v .header) Moving → costOf v header line ≡ aIn v header) (λ h. refl) (λ h. absurd (omega arith)) k
+  pub number-place : record { at = 1; size = 1 } ≡ fieldFor (headerFrame (heldTo k)) Number
+  number-place = rw number-size
 
-    pub cost-own : sizeIn (framesFor k .header) Moving ≤ 0
-        → costOf (framesFor k) header line ≡ fieldOf (framesFor k .string) Moving line
-    unfolding costOf hasField any
-    cost-own =
-        by-version (λ v. sizeIn (v .header) Moving ≤ 0 → costOf v header line ≡ fieldOf (v .string) Moving line)
-        (λ h. absurd (omega arith))
-        (λ h. refl) k
+  pub count-place : record { at = 2; size = 1 } ≡ fieldFor (headerFrame (heldTo k)) Count
+  count-place = rw (number-size, count-size)
 
--- at most ten lines of at most 21 bytes
-pub ten-short : (i step : ℕ) → i ≤ 10 → step ≤ 21 → i * step ≤ 210
+  pub x-place : record { at = 1; size = 1 } ≡ fieldFor (stringFrame (heldTo k)) X
+  x-place = rw x-size
+
+  pub t-place : record { at = 2; size = 2 } ≡ fieldFor (stringFrame (heldTo k)) T
+  t-place = rw (x-size, t-size)
+
+  pub c-place : record { at = 4; size = 2 } ≡ fieldFor (stringFrame (heldTo k)) C
+  c-place = rw (x-size, t-size, c-size)
+
+  pub d-place : record { at = 6; size = 2 } ≡ fieldFor (stringFrame (heldTo k)) D
+  d-place = rw (x-size, t-size, c-size, d-size)
+
+  pub place-place : record { at = 1; size = 1 } ≡ fieldFor (releaseFrame (heldTo k)) Place
+  place-place = rw place-size
+
+  pub day-place : record { at = 2; size = 4 } ≡ fieldFor (releaseFrame (heldTo k)) Day
+  day-place = rw (place-size, day-size)
+
+  pub need-place : record { at = 6; size = 2 } ≡ fieldFor (releaseFrame (heldTo k)) Need
+  need-place = rw (place-size, day-size, need-size)
+
+  -- ---- What they have not
+
+  -- the moving cost has two bytes, in one of the two frames
+  pub cost-sizes : (heldTo k .header Common + heldTo k .string Own ≡ 2) × (heldTo k .header Common % 2 ≡ 0)
+  cost-sizes = (sound .11, sound .12)
+
+  pub header-short : lineSize (headerFrame (heldTo k)) ≤ 60
+  header-short = sound .13
+
+  pub string-short : lineSize (stringFrame (heldTo k)) ≤ 60
+  string-short = sound .14
+
+  pub release-short : lineSize (releaseFrame (heldTo k)) ≤ 60
+  release-short = sound .15
+
+-- ---- Which frame says the moving cost
+
+module _ (v : Version) (header line : Line) where
+  pub cost-common : 0 < v .header Common → costOf v header line ≡ aIn v header
+  unfolding costOf hasField
+  cost-common h = rw (lt-ltb 0 (v .header Common) h)
+
+  pub cost-own : v .header Common ≤ 0 → costOf v header line ≡ fieldOf (stringFrame v) Own line
+  unfolding costOf hasField
+  cost-own h = rw (le-ltb 0 (v .header Common) h)
+
+-- at most ten lines of at most 60 bytes, and a thousand
+pub ten-short : (i step : ℕ) → i ≤ 10 → step ≤ 60 → i * step ≤ 600
 ten-short i step few short = mul-le-mul few short
+
+pub thousand-short : (i step : ℕ) → i ≤ 1000 → step ≤ 60 → i * step ≤ 60000
+thousand-short i step few short = mul-le-mul few short
 
 -- ---- A version that is known
 
 module _ (version : code.Version) (known : Known version) where
-  pub number-known : version .number ≡ framesBy version .version
+  pub number-known : version .number ≡ meantBy version .number
   number-known = ap (λ (w : code.Version). w .number) known
 
-  pub header-known : version .header ≡ layoutFor (framesBy version .header)
+  pub header-known : version .header ≡ layoutFor (headerFrame (meantBy version))
   header-known = ap (λ (w : code.Version). w .header) known
 
-  pub string-known : version .string ≡ layoutFor (framesBy version .string)
+  pub string-known : version .string ≡ layoutFor (stringFrame (meantBy version))
   string-known = ap (λ (w : code.Version). w .string) known
 
-  pub common-known : version .common ≡ fieldFor (framesBy version .header) Moving
+  pub release-known : version .release ≡ layoutFor (releaseFrame (meantBy version))
+  release-known = ap (λ (w : code.Version). w .release) known
+
+  pub common-known : version .common ≡ fieldFor (headerFrame (meantBy version)) Common
   common-known = ap (λ (w : code.Version). w .common) known
 
-  pub run-known : version .run ≡ fieldFor (framesBy version .header) Run
+  pub run-known : version .run ≡ fieldFor (headerFrame (meantBy version)) Run
   run-known = ap (λ (w : code.Version). w .run) known
 
-  pub own-known : version .own ≡ fieldFor (framesBy version .string) Moving
+  pub own-known : version .own ≡ fieldFor (stringFrame (meantBy version)) Own
   own-known = ap (λ (w : code.Version). w .own) known
 
+  pub common-size : version .common .size ≡ meantBy version .header Common
+  common-size = ap (λ (f : Field). f .size) common-known
+
+  pub common-small : version .common .size ≤ 4
+  common-small = omega (arith, common-size, cost-sizes (version .number))
+
+  pub run-small : version .run .size ≤ 4
+  run-small = omega (arith, ap (λ (f : Field). f .size) run-known, run-size (version .number))
+
+  pub own-small : version .own .size ≤ 4
+  own-small = omega (arith, ap (λ (f : Field). f .size) own-known, cost-sizes (version .number))
+
   -- the lines' lengths
-  pub header-line : version .header .line ≡ lineSize (framesBy version .header)
+  pub header-line : version .header .line ≡ lineSize (headerFrame (meantBy version))
   header-line = ap (λ (l : Layout). l .line) header-known
 
-  pub string-line : version .string .line ≡ lineSize (framesBy version .string)
+  pub string-line : version .string .line ≡ lineSize (stringFrame (meantBy version))
   string-line = ap (λ (l : Layout). l .line) string-known
 
-  pub common-size : version .common .size ≤ 4
-  common-size = omega (arith, ap (λ (f : Field). f .size) common-known, small-common (version .number))
+  pub release-line : version .release .line ≡ lineSize (releaseFrame (meantBy version))
+  release-line = ap (λ (l : Layout). l .line) release-known
 
-  pub run-size : version .run .size ≤ 4
-  run-size = omega (arith, ap (λ (f : Field). f .size) run-known, small-run (version .number))
+  pub header-line-short : version .header .line ≤ 60
+  header-line-short = omega (arith, header-line, header-short (version .number))
 
-  pub own-size : version .own .size ≤ 4
-  own-size = omega (arith, ap (λ (f : Field). f .size) own-known, small-own (version .number))
-
-  pub string-line-short : version .string .line ≤ 21
+  pub string-line-short : version .string .line ≤ 60
   string-line-short = omega (arith, string-line, string-short (version .number))
 
-  pub header-line-short : version .header .line ≤ 19
-  header-line-short = omega (arith, header-line, header-short (version .number))
+  pub release-line-short : version .release .line ≤ 60
+  release-line-short = omega (arith, release-line, release-short (version .number))
+
+-- the code's version for a number is known
+pub held-known : (version : code.Version) (k : ℕ) → version ≡ codeOf (heldTo k) → Known version × (meantBy version ≡ heldTo k)
+held-known version k is =
+    let same : meantBy version ≡ heldTo k = ap (λ (w : code.Version). heldTo (w .number)) is ∙ number-again k in
+    (rw same is, same)

@@ -1,5 +1,8 @@
 // The layouts of the plan file, in bytes: version 01, document 01's, and version 02 (document 02, W-207). A frame starts with its kind,
 // and a field starts where the one before it ends. In the text two digits write a byte, and a line ends by its 0a.
+ghost use mathlib.Core.Path.{_≡_};
+ghost use Rattle.rules.specs.Layout.{heldTo};
+ghost use Rattle.layouts.specs.inner.Versions.{codeOf};
 
 // A field: the bytes that stand ahead of it in its frame, and its own.
 pub struct Field {
@@ -14,8 +17,8 @@ pub struct Layout {
     pub line: usize,
 }
 
-// A version: its number, and what other versions have in another place. `common` is the moving cost that the header says for every
-// string, `own` the one that a string frame says. A field that a frame does not have stands behind the others and takes no byte.
+// A version: its number, its three frames, and the fields that other versions have in another place. `common` is the moving cost that
+// the header says for every string, `own` the one that a string frame says. A field that a frame does not have takes no byte.
 pub struct Version {
     pub number: u32,
     pub header: Layout,
@@ -23,18 +26,19 @@ pub struct Version {
     pub run: Field,
     pub string: Layout,
     pub own: Field,
+    pub release: Layout,
 }
 
 pub const KIND: Field = Field { at: 0, size: 1 };
 
 // The header of any version: version, n.
-pub const HEADER_VERSION: Field = Field {
+pub const HEADER_NUMBER: Field = Field {
     at: KIND.size,
     size: 1,
 };
 
 pub const HEADER_COUNT: Field = Field {
-    at: HEADER_VERSION.at + HEADER_VERSION.size,
+    at: HEADER_NUMBER.at + HEADER_NUMBER.size,
     size: 1,
 };
 
@@ -79,82 +83,98 @@ pub const RELEASE_NEED: Field = Field {
     size: 2,
 };
 
-const RELEASE_SIZE: usize = RELEASE_NEED.at + RELEASE_NEED.size;
-
-pub const RELEASE_LINE: usize = RELEASE_SIZE * 2 + 1;
-
-pub const RELEASE: Layout = Layout {
-    kind: 3,
-    size: RELEASE_SIZE,
-    line: RELEASE_LINE,
-};
+const RELEASE_KIND: u32 = 3;
 
 // Version 01: the header goes on with A, N. Its string frames say no moving cost.
-const OLD_MOVING: Field = Field {
+const COMMON_01: Field = Field {
     at: HEADER_COUNT.at + HEADER_COUNT.size,
     size: 2,
 };
 
-const OLD_RUN: Field = Field {
-    at: OLD_MOVING.at + OLD_MOVING.size,
+const RUN_01: Field = Field {
+    at: COMMON_01.at + COMMON_01.size,
     size: 4,
 };
 
-const OLD_HEADER_SIZE: usize = OLD_RUN.at + OLD_RUN.size;
+const HEADER_SIZE_01: usize = RUN_01.at + RUN_01.size;
 
-const OLD_STRING_SIZE: usize = STRING_D.at + STRING_D.size;
+const OWN_01: Field = Field {
+    at: STRING_D.at + STRING_D.size,
+    size: 0,
+};
 
-pub const OLD: Version = Version {
+const STRING_SIZE_01: usize = OWN_01.at + OWN_01.size;
+
+const RELEASE_SIZE_01: usize = RELEASE_NEED.at + RELEASE_NEED.size;
+
+const RELEASE_FRAME_01: Layout = Layout {
+    kind: RELEASE_KIND,
+    size: RELEASE_SIZE_01,
+    line: RELEASE_SIZE_01 * 2 + 1,
+};
+
+pub const VERSION_01: Version = Version {
     number: 1,
     header: Layout {
         kind: HEADER_KIND,
-        size: OLD_HEADER_SIZE,
-        line: OLD_HEADER_SIZE * 2 + 1,
+        size: HEADER_SIZE_01,
+        line: HEADER_SIZE_01 * 2 + 1,
     },
-    common: OLD_MOVING,
-    run: OLD_RUN,
+    common: COMMON_01,
+    run: RUN_01,
     string: Layout {
         kind: STRING_KIND,
-        size: OLD_STRING_SIZE,
-        line: OLD_STRING_SIZE * 2 + 1,
+        size: STRING_SIZE_01,
+        line: STRING_SIZE_01 * 2 + 1,
     },
-    own: Field {
-        at: OLD_STRING_SIZE,
-        size: 0,
-    },
+    own: OWN_01,
+    release: RELEASE_FRAME_01,
 };
 
 // Version 02: the header goes on with N and says no moving cost. A string frame says its own after D.
-const NEW_RUN: Field = Field {
+const COMMON_02: Field = Field {
     at: HEADER_COUNT.at + HEADER_COUNT.size,
+    size: 0,
+};
+
+const RUN_02: Field = Field {
+    at: COMMON_02.at + COMMON_02.size,
     size: 4,
 };
 
-const NEW_HEADER_SIZE: usize = NEW_RUN.at + NEW_RUN.size;
+const HEADER_SIZE_02: usize = RUN_02.at + RUN_02.size;
 
-const NEW_MOVING: Field = Field {
+const OWN_02: Field = Field {
     at: STRING_D.at + STRING_D.size,
     size: 2,
 };
 
-const NEW_STRING_SIZE: usize = NEW_MOVING.at + NEW_MOVING.size;
+const STRING_SIZE_02: usize = OWN_02.at + OWN_02.size;
 
-pub const NEW: Version = Version {
+pub const VERSION_02: Version = Version {
     number: 2,
     header: Layout {
         kind: HEADER_KIND,
-        size: NEW_HEADER_SIZE,
-        line: NEW_HEADER_SIZE * 2 + 1,
+        size: HEADER_SIZE_02,
+        line: HEADER_SIZE_02 * 2 + 1,
     },
-    common: Field {
-        at: NEW_HEADER_SIZE,
-        size: 0,
-    },
-    run: NEW_RUN,
+    common: COMMON_02,
+    run: RUN_02,
     string: Layout {
         kind: STRING_KIND,
-        size: NEW_STRING_SIZE,
-        line: NEW_STRING_SIZE * 2 + 1,
+        size: STRING_SIZE_02,
+        line: STRING_SIZE_02 * 2 + 1,
     },
-    own: NEW_MOVING,
+    own: OWN_02,
+    release: RELEASE_FRAME_01,
 };
+
+// The version that a header which names the number is held to: 01 where none has it, which refuses it.
+pub fn held_to(number: u32) -> Version
+    ensures exact { λ r. ⌜ r ≡ codeOf (heldTo number) ⌝ }
+{
+    if number == VERSION_02.number {
+        return VERSION_02;
+    }
+    VERSION_01
+}

@@ -1,19 +1,15 @@
 -- Pages that grow: a page holds exactly one text, and what is appended stands behind it.
-use Prim.Native.Nat.{ℕ, _+_, _-_, _≤_, _<_}
-use mathlib.Core.Path.{_≡_, sym, ap, _∙_}
-use mathlib.Core.List.{List, [], _∷_, _++_, append-assoc}
-use native.Mathlib.Omega.{arith}
-use native.Mathlib.Numerals.{add-one}
-use lib.ListN.{length, getD, take, set, replicate, length-append}
-use lib.Seq.{take-suc, take-append-seam, length-take-le}
-use Rattle.lists.specs.Count.{filled}
-use Rattle.lines.specs.declared.Page.{Page}
-use Rattle.lines.specs.Pages.{pageOf, textOf, Written}
-use Rattle.lists.proofs.Filling.{filled-set}
+use Rattle.base.proofs.Prelude.{ℕ, _+_, _-_, _≤_, _<_, _≡_, sym, ap, _∙_, List, [], _∷_, _++_, append-assoc, arith, add-one, length, getD, take, set, replicate, length-append, take-suc, take-append-seam, length-take-le}
+use Rattle.base.specs.Count.{filled}
+use Rattle.lines.specs.{declared.Page.Page, Pages.{pageOf, textOf, Written}}
+use Rattle.base.proofs.Filling.{filled-set}
 
 pub textOf-pageOf : (text : List ℕ) → textOf (pageOf text) ≡ text
 unfolding textOf pageOf
 textOf-pageOf text = take-append-seam text (replicate (256 - length text) 0)
+
+pub text-is : (page : Page) (text : List ℕ) → page ≡ pageOf text → textOf page ≡ text
+text-is page text e = ap textOf e ∙ textOf-pageOf text
 
 pub written : (page : Page) (text : List ℕ) → page ≡ pageOf text → Written page
 unfolding Written
@@ -39,18 +35,7 @@ within page text e =
 -- what a page holds, once more is appended
 pub grown : (page next : Page) (text more : List ℕ) → page ≡ pageOf text → next ≡ pageOf (textOf page ++ more)
     → next ≡ pageOf (text ++ more)
-grown page next text more e f = f ∙ ap (λ t. pageOf (t ++ more)) (ap textOf e ∙ textOf-pageOf text)
-
--- the same behind a part of a line: a word alone, and a word and its number
-pub behind : (page next : Page) (text part word : List ℕ) → page ≡ pageOf (text ++ part) → next ≡ pageOf (textOf page ++ word)
-    → next ≡ pageOf (text ++ (part ++ word))
-behind page next text part word e f = grown page next (text ++ part) word e f ∙ ap pageOf (append-assoc text part word)
-
-pub behind-both : (page next : Page) (text part word number : List ℕ) → page ≡ pageOf (text ++ part)
-    → next ≡ pageOf (textOf page ++ (word ++ number))
-    → next ≡ pageOf (text ++ (part ++ word ++ number))
-behind-both page next text part word number e f =
-    behind page next text part (word ++ number) e f ∙ ap (λ line. pageOf (text ++ line)) (sym (append-assoc part word number))
+grown page next text more e f = f ∙ ap (λ t. pageOf (t ++ more)) (text-is page text e)
 
 pub len-more : (page next : Page) (text word : List ℕ) → page ≡ pageOf text → next ≡ pageOf (textOf page ++ word)
     → next .len ≡ page .len + length word

@@ -1,3 +1,3 @@
 pub mod Digits
 pub mod Growing
-pub mod DateLines
+pub mod Filled

@@ -1,11 +1,12 @@
 -- The lines of the calendar (document 02, W-203), as bytes. Each ends by one byte 0a.
 --     weekdayName w         the first three letters of the weekday's name
---     weekdayEnd k          a space, the weekday of day k, and the line's end
---     dateLine text         for a date's text: its day number and weekday, as 366 Mon; or the refusal
+--     numberedLine d        a date's day number and weekday, as 366 Mon
+--     dateLine text         for a date's text: its day number and weekday; or the refusal
 --     dayLine k             for a day number: its date and weekday, as 2001-01-01 Mon; or the refusal
 use Prim.Native.Nat.{ℕ}
-use mathlib.Core.List.{List, _++_}
-use Rattle.rules.specs.Lines.{bytesOf, decimal, refusedLine}
+use mathlib.Core.List.{List, [], _∷_}
+use Rattle.rules.specs.Lines.{bytesOf, decimal, worded, refusedLine}
+use Rattle.calendar.specs.declared.Date.{Date}
 use Rattle.calendar.specs.declared.Weekday.{Weekday}
 use Rattle.calendar.specs.declared.Weekday.the-variants.{Saturday, Sunday, Monday, Tuesday, Wednesday, Thursday, Friday}
 use Rattle.calendar.specs.declared.WhichDate.{WhichDate}
@@ -24,21 +25,21 @@ weekdayName Wednesday = bytesOf "Wed"
 weekdayName Thursday = bytesOf "Thu"
 weekdayName Friday = bytesOf "Fri"
 
-unfoldable pub weekdayEnd : ℕ → List ℕ
-weekdayEnd k = bytesOf " " ++ weekdayName (weekdayOf k) ++ bytesOf "\n"
+unfoldable pub numberedLine : Date → List ℕ
+numberedLine d = worded "# #\n" (decimal (dayNumber d) ∷ weekdayName (weekdayOf (dayNumber d)) ∷ [])
 
 -- of a date that was read
 unfoldable pub dateLineFor : WhichDate → List ℕ
-dateLineFor (which-date.Is d) = decimal (dayNumber d) ++ weekdayEnd (dayNumber d)
+dateLineFor (which-date.Is d) = numberedLine d
 dateLineFor (which-date.Refused f at) = refusedLine f at
 
 unfoldable pub dateLine : List ℕ → List ℕ
 dateLine text = dateLineFor (dateReading text)
 
--- of the date of day k
-unfoldable pub dayLineFor : WhichDate → List ℕ
-dayLineFor (which-date.Is d) = dateText d ++ weekdayEnd (dayNumber d)
-dayLineFor (which-date.Refused f at) = refusedLine f at
+-- of day k and its date
+unfoldable pub dayLineFor : ℕ → WhichDate → List ℕ
+dayLineFor k (which-date.Is d) = worded "# #\n" (dateText d ∷ weekdayName (weekdayOf k) ∷ [])
+dayLineFor k (which-date.Refused f at) = refusedLine f at
 
 unfoldable pub dayLine : ℕ → List ℕ
-dayLine k = dayLineFor (dateAnswer k)
+dayLine k = dayLineFor k (dateAnswer k)

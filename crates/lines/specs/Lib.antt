@@ -1,3 +1,4 @@
 pub mod Pages
 pub mod Dates
 pub mod Shown
+pub mod inner

@@ -6,7 +6,7 @@ use Prim.Native.Nat.{ℕ}
 use mathlib.Core.Path.{_≡_}
 use mathlib.Core.List.{List}
 use lib.ListN.{length, take}
-use Rattle.lists.specs.Count.{filled}
+use Rattle.base.specs.Count.{filled}
 use Rattle.lines.specs.declared.Page.{Page}
 
 unfoldable pub pageOf : List ℕ → Page

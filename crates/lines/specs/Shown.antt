@@ -1,40 +1,31 @@
 -- The lines of a plan that is shown, in decimal words, as bytes. Each ends by one byte 0a. Letters are document 01's.
 --     planLine n run        plan strings n run N
+--     permission x          whether a string's jobs may take the bank
 --     stringLine i s e      string i may take T t C c D d moving a E e; `may not take` where X of s is not 1. i is its place, from 1
 --     loadLine h load       H h load l of h
 --     releaseLine k r       release k day t string i need w; k is its place in the list, from 1
 use Prim.Native.Nat.{ℕ}
 use mathlib.Core.Bool.{cond}
-use mathlib.Core.List.{List, _++_}
+use mathlib.Core.List.{List, [], _∷_}
 use lib.Dec.{eqb}
 use Rattle.rules.specs.declared.BatteryString.{BatteryString}
 use Rattle.rules.specs.declared.Release.{Release}
-use Rattle.rules.specs.Lines.{bytesOf, decimal}
+use Rattle.rules.specs.Lines.{bytesOf, decimal, worded}
 
 unfoldable pub planLine : ℕ → ℕ → List ℕ
-planLine n run = bytesOf "plan strings " ++ decimal n ++ bytesOf " run " ++ decimal run ++ bytesOf "\n"
+planLine n run = worded "plan strings # run #\n" (decimal n ∷ decimal run ∷ [])
 
 unfoldable pub permission : ℕ → List ℕ
-permission x = cond (eqb x 1) (bytesOf " may take") (bytesOf " may not take")
-
-unfoldable pub lengths : BatteryString → ℕ → List ℕ
-lengths s e =
-    bytesOf " T " ++ decimal (s .t .0)
-    ++ bytesOf " C " ++ decimal (s .c .0)
-    ++ bytesOf " D " ++ decimal (s .d .0)
-    ++ bytesOf " moving " ++ decimal (s .a .0)
-    ++ bytesOf " E " ++ decimal e
+permission x = cond (eqb x 1) (bytesOf "may take") (bytesOf "may not take")
 
 unfoldable pub stringLine : ℕ → BatteryString → ℕ → List ℕ
-stringLine i s e = bytesOf "string " ++ decimal i ++ permission (s .x) ++ lengths s e ++ bytesOf "\n"
+stringLine i s e =
+    worded "string # # T # C # D # moving # E #\n"
+    (decimal i ∷ permission (s .x) ∷ decimal (s .t .0) ∷ decimal (s .c .0) ∷ decimal (s .d .0) ∷ decimal (s .a .0) ∷ decimal e ∷ [])
 
 unfoldable pub loadLine : ℕ → ℕ → List ℕ
-loadLine h load = bytesOf "H " ++ decimal h ++ bytesOf " load " ++ decimal load ++ bytesOf " of " ++ decimal h ++ bytesOf "\n"
+loadLine h load = worded "H # load # of #\n" (decimal h ∷ decimal load ∷ decimal h ∷ [])
 
 unfoldable pub releaseLine : ℕ → Release → List ℕ
 releaseLine k r =
-    bytesOf "release " ++ decimal k
-    ++ bytesOf " day " ++ decimal (r .day .0)
-    ++ bytesOf " string " ++ decimal (r .place)
-    ++ bytesOf " need " ++ decimal (r .need .0)
-    ++ bytesOf "\n"
+    worded "release # day # string # need #\n" (decimal k ∷ decimal (r .day .0) ∷ decimal (r .place) ∷ decimal (r .need .0) ∷ [])

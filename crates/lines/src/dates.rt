@@ -1,84 +1,42 @@
 // The lines of the calendar: the day and the weekday of a date, the date and the weekday of a day.
 use super::Page;
-use super::pages::append;
-use super::pages::append_number;
-use super::pages::blank;
-use super::parts::refused_line;
+use super::templates::lone_line;
 use calendar::Date;
-use calendar::Weekday;
 use calendar::WhichDate;
 use calendar::WhichDay;
-use calendar::WhichWeekday;
 use calendar::date_read;
-use calendar::date_text;
 use days::Day;
+use faults::Fault;
+use faults::fault_number;
 ghost use mathlib.Core.Path.{_≡_};
 ghost use mathlib.Core.Bool.{true};
-ghost use mathlib.Core.List.{_++_};
-ghost use Prim.Native.Nat.{_+_, _≤_};
+ghost use Prim.Native.Nat.{_≤_};
 ghost use lib.ListN.{length};
-ghost use Rattle.rules.specs.Lines.{bytesOf, decimal};
+ghost use Rattle.rules.specs.Lines.{refusedLine};
 ghost use Rattle.calendar.specs.Dates.{dateExists};
-ghost use Rattle.calendar.specs.Numbers.{dayNumber};
-ghost use Rattle.calendar.specs.Texts.{dateText};
-ghost use Rattle.lines.specs.Pages.{pageOf, textOf, Written};
-ghost use Rattle.lines.specs.Dates.{weekdayName, weekdayEnd, dateLine, dayLine};
+ghost use Rattle.lines.specs.Pages.{pageOf};
+ghost use Rattle.lines.specs.Dates.{numberedLine, dateLine, dayLine};
 
-// A space and the weekday's name.
-fn append_weekday(page: Page, weekday: Weekday) -> Page
-    requires { ⌜ Written page ⌝ }
-    requires { ⌜ page .len + 4 ≤ 256 ⌝ }
-    ensures exact { λ r. ⌜ r ≡ pageOf (textOf page ++ (bytesOf " " ++ weekdayName weekday)) ⌝ }
+// A refusal on a page of its own.
+pub(crate) fn refused(fault: Fault, at: usize) -> Page
+    ensures exact { λ r. ⌜ r ≡ pageOf (refusedLine fault at) ⌝ }
+    ensures within { λ r. ⌜ r .len ≤ length (r .bytes) ⌝ }
 {
-    match weekday {
-        Weekday::Saturday => append(page, b" Sat"),
-        Weekday::Sunday => append(page, b" Sun"),
-        Weekday::Monday => append(page, b" Mon"),
-        Weekday::Tuesday => append(page, b" Tue"),
-        Weekday::Wednesday => append(page, b" Wed"),
-        Weekday::Thursday => append(page, b" Thu"),
-        Weekday::Friday => append(page, b" Fri"),
-    }
+    let numbers = [fault_number(fault) as u64, at as u64];
+    lone_line(b"refused # line #\n", &numbers)
 }
 
-// The weekday of a date that exists, and the line's end.
-fn append_end(page: Page, d: Date) -> Page
-    requires { ⌜ Written page ⌝ }
-    requires { ⌜ page .len + 5 ≤ 256 ⌝ }
+// The day number and the weekday of a date that exists.
+fn numbered_line(d: Date) -> Page
     requires { ⌜ dateExists d ≡ true ⌝ }
-    ensures exact { λ r. ⌜ r ≡ pageOf (textOf page ++ weekdayEnd (dayNumber d)) ⌝ }
-{
-    let weekday = d.weekday();
-    match weekday {
-        WhichWeekday::Is(w) => append(append_weekday(page, w), b"\n"),
-        WhichWeekday::Refused { fault: _, at: _ } => page,
-    }
-}
-
-// The day number of a date that exists.
-fn append_day(page: Page, d: Date) -> Page
-    requires { ⌜ Written page ⌝ }
-    requires { ⌜ page .len + 20 ≤ 256 ⌝ }
-    requires { ⌜ dateExists d ≡ true ⌝ }
-    ensures exact { λ r. ⌜ r ≡ pageOf (textOf page ++ decimal (dayNumber d)) ⌝ }
+    ensures exact { λ r. ⌜ r ≡ pageOf (numberedLine d) ⌝ }
+    ensures within { λ r. ⌜ r .len ≤ length (r .bytes) ⌝ }
 {
     let day = d.day_number();
     match day {
-        WhichDay::Is(k) => append_number(page, k.0 as u64),
-        WhichDay::Refused { fault: _, at: _ } => page,
+        WhichDay::Is(k) => lone_line(b"# %\n", &[k.0 as u64, k.0 as u64]),
+        WhichDay::Refused { fault, at } => refused(fault, at),
     }
-}
-
-// A date that exists.
-fn append_date(page: Page, d: Date) -> Page
-    requires { ⌜ Written page ⌝ }
-    requires { ⌜ page .len + 10 ≤ 256 ⌝ }
-    requires { ⌜ dateExists d ≡ true ⌝ }
-    ensures exact { λ r. ⌜ r ≡ pageOf (textOf page ++ dateText d) ⌝ }
-{
-    let text = date_text(d);
-    let bytes = text.bytes;
-    append(page, &bytes)
 }
 
 // The day number and the weekday of a date that is given as a text.
@@ -89,8 +47,8 @@ pub fn date_line(text: &[u8]) -> Page
 {
     let date = date_read(text);
     match date {
-        WhichDate::Is(d) => append_end(append_day(blank(), d), d),
-        WhichDate::Refused { fault, at } => refused_line(blank(), fault, at),
+        WhichDate::Is(d) => numbered_line(d),
+        WhichDate::Refused { fault, at } => refused(fault, at),
     }
 }
 
@@ -101,7 +59,7 @@ pub fn day_line(day: Day) -> Page
 {
     let date = Date::from_day(day);
     match date {
-        WhichDate::Is(d) => append_end(append_date(blank(), d), d),
-        WhichDate::Refused { fault, at } => refused_line(blank(), fault, at),
+        WhichDate::Is(_) => lone_line(b"@ %\n", &[day.0 as u64, day.0 as u64]),
+        WhichDate::Refused { fault, at } => refused(fault, at),
     }
 }

@@ -3,13 +3,14 @@ mod dates;
 mod pages;
 mod parts;
 mod shown;
+mod templates;
 
 pub use dates::date_line;
 pub use dates::day_line;
+use dates::refused;
 pub use pages::blank;
 use parts::assign_line;
 use parts::outcome_line;
-use parts::refused_line;
 use parts::verdict_line;
 use rules::Answer;
 use rules::Verdict;
@@ -35,7 +36,7 @@ pub fn written(a: Answer) -> Page
     ensures within { λ r. ⌜ r .len ≤ length (r .bytes) ⌝ }
 {
     match a {
-        Answer::Refused { fault, at } => refused_line(blank(), fault, at),
+        Answer::Refused { fault, at } => refused(fault, at),
         Answer::Answered {
             verdict,
             assign,

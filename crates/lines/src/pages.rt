@@ -54,23 +54,3 @@ pub(crate) fn append_number(page: Page, n: u64) -> Page
     digits[at] = 48 + rest as u8;
     append(page, &digits[at..])
 }
-
-// A word and a count of days, of pairs or of a set.
-pub(crate) fn append_count(page: Page, word: &[u8], n: u32) -> Page
-    requires { ⌜ Written page ⌝ }
-    requires { ⌜ page .len + length (now word) + 20 ≤ 256 ⌝ }
-    ensures exact { λ r. ⌜ r ≡ pageOf (textOf page ++ (now (word .entry) ++ decimal n)) ⌝ }
-    ensures short { λ r. ⌜ r .len ≤ page .len + length (now (word .entry)) + 10 ⌝ }
-{
-    append_number(append(page, word), n as u64)
-}
-
-// A word and a line or a place.
-pub(crate) fn append_place(page: Page, word: &[u8], n: usize) -> Page
-    requires { ⌜ Written page ⌝ }
-    requires { ⌜ page .len + length (now word) + 20 ≤ 256 ⌝ }
-    ensures exact { λ r. ⌜ r ≡ pageOf (textOf page ++ (now (word .entry) ++ decimal n)) ⌝ }
-    ensures short { λ r. ⌜ r .len ≤ page .len + length (now (word .entry)) + 20 ⌝ }
-{
-    append_number(append(page, word), n as u64)
-}

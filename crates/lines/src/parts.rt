@@ -1,10 +1,6 @@
-// One function for each kind of line. A line has at most 88 bytes, so three lines fit a page.
+// One function for each kind of line of an answer. A line has at most 92 bytes, so three lines fit a page.
 use super::Page;
-use super::pages::append;
-use super::pages::append_count;
-use super::pages::append_place;
-use days::Day;
-use days::Length;
+use super::templates::fill_in;
 use faults::Fault;
 use faults::fault_number;
 use rules::Assign;
@@ -18,89 +14,73 @@ ghost use Rattle.lines.specs.Pages.{pageOf, textOf, Written};
 
 pub(crate) fn refused_line(page: Page, fault: Fault, at: usize) -> Page
     requires { ⌜ Written page ⌝ }
-    requires { ⌜ page .len + 88 ≤ 256 ⌝ }
+    requires { ⌜ page .len + 57 ≤ 256 ⌝ }
     ensures exact { λ r. ⌜ r ≡ pageOf (textOf page ++ refusedLine fault at) ⌝ }
-    ensures short { λ r. ⌜ r .len ≤ page .len + 60 ⌝ }
+    ensures short { λ r. ⌜ r .len ≤ page .len + 57 ⌝ }
 {
-    let number = append_count(page, b"refused ", fault_number(fault));
-    let line = append_place(number, b" line ", at);
-    append(line, b"\n")
-}
-
-fn fail_line(page: Page, interval: Length, blocking: Length, demand: Length, pairs: u32) -> Page
-    requires { ⌜ Written page ⌝ }
-    requires { ⌜ page .len + 100 ≤ 256 ⌝ }
-    ensures exact { λ r. ⌜ r ≡ pageOf (textOf page ++ verdictLine (Verdict.Fail interval blocking demand pairs)) ⌝ }
-    ensures short { λ r. ⌜ r .len ≤ page .len + 88 ⌝ }
-{
-    let first = append_count(page, b"verdict fail interval ", interval.0);
-    let second = append_count(first, b" blocking ", blocking.0);
-    let third = append_count(second, b" demand ", demand.0);
-    let fourth = append_count(third, b" pairs ", pairs);
-    append(fourth, b"\n")
+    let numbers = [fault_number(fault) as u64, at as u64];
+    fill_in(page, b"refused # line #\n", &numbers)
 }
 
 pub(crate) fn verdict_line(page: Page, v: Verdict) -> Page
     requires { ⌜ Written page ⌝ }
-    requires { ⌜ page .len + 100 ≤ 256 ⌝ }
+    requires { ⌜ page .len + 132 ≤ 256 ⌝ }
     ensures exact { λ r. ⌜ r ≡ pageOf (textOf page ++ verdictLine v) ⌝ }
-    ensures short { λ r. ⌜ r .len ≤ page .len + 88 ⌝ }
+    ensures short { λ r. ⌜ r .len ≤ page .len + 92 ⌝ }
 {
     match v {
         Verdict::Refused { fault, at } => refused_line(page, fault, at),
-        Verdict::Overload => append(page, b"verdict overload\n"),
+        Verdict::Overload => fill_in(page, b"verdict overload\n", &[]),
         Verdict::Fail {
             interval,
             blocking,
             demand,
             pairs,
-        } => fail_line(page, interval, blocking, demand, pairs),
-        Verdict::Pass { pairs } => append(append_count(page, b"verdict pass pairs ", pairs), b"\n"),
+        } => {
+            let numbers = [
+                interval.0 as u64,
+                blocking.0 as u64,
+                demand.0 as u64,
+                pairs as u64,
+            ];
+            fill_in(
+                page,
+                b"verdict fail interval # blocking # demand # pairs #\n",
+                &numbers,
+            )
+        }
+        Verdict::Pass { pairs } => fill_in(page, b"verdict pass pairs #\n", &[pairs as u64]),
     }
 }
 
 pub(crate) fn assign_line(page: Page, a: Assign) -> Page
     requires { ⌜ Written page ⌝ }
-    requires { ⌜ page .len + 88 ≤ 256 ⌝ }
+    requires { ⌜ page .len + 57 ≤ 256 ⌝ }
     ensures exact { λ r. ⌜ r ≡ pageOf (textOf page ++ assignLine a) ⌝ }
-    ensures short { λ r. ⌜ r .len ≤ page .len + 60 ⌝ }
+    ensures short { λ r. ⌜ r .len ≤ page .len + 57 ⌝ }
 {
     match a {
         Assign::Refused { fault, at } => refused_line(page, fault, at),
-        Assign::Takers { set } => append(append_count(page, b"assign ", set), b"\n"),
-        Assign::Nobody => append(page, b"assign none\n"),
+        Assign::Takers { set } => fill_in(page, b"assign #\n", &[set as u64]),
+        Assign::Nobody => fill_in(page, b"assign none\n", &[]),
     }
-}
-
-fn miss_line(page: Page, day: Day, place: usize) -> Page
-    requires { ⌜ Written page ⌝ }
-    requires { ⌜ page .len + 88 ≤ 256 ⌝ }
-    ensures exact { λ r. ⌜ r ≡ pageOf (textOf page ++ outcomeLine (Outcome.Miss day place)) ⌝ }
-{
-    let first = append_count(page, b"run miss day ", day.0);
-    let second = append_place(first, b" place ", place);
-    append(second, b"\n")
-}
-
-fn clean_line(page: Page, work: Length, moving: Length, idle: Length) -> Page
-    requires { ⌜ Written page ⌝ }
-    requires { ⌜ page .len + 88 ≤ 256 ⌝ }
-    ensures exact { λ r. ⌜ r ≡ pageOf (textOf page ++ outcomeLine (Outcome.Clean work moving idle)) ⌝ }
-{
-    let first = append_count(page, b"run clean work ", work.0);
-    let second = append_count(first, b" move ", moving.0);
-    let third = append_count(second, b" idle ", idle.0);
-    append(third, b"\n")
 }
 
 pub(crate) fn outcome_line(page: Page, o: Outcome) -> Page
     requires { ⌜ Written page ⌝ }
-    requires { ⌜ page .len + 88 ≤ 256 ⌝ }
+    requires { ⌜ page .len + 91 ≤ 256 ⌝ }
     ensures exact { λ r. ⌜ r ≡ pageOf (textOf page ++ outcomeLine o) ⌝ }
 {
     match o {
         Outcome::Refused { fault, at } => refused_line(page, fault, at),
-        Outcome::Miss { day, place } => miss_line(page, day, place),
-        Outcome::Clean { work, moving, idle } => clean_line(page, work, moving, idle),
+        Outcome::Miss { day, place } => fill_in(
+            page,
+            b"run miss day # place #\n",
+            &[day.0 as u64, place as u64],
+        ),
+        Outcome::Clean { work, moving, idle } => {
+            let numbers = [work.0 as u64, moving.0 as u64, idle.0 as u64];
+            fill_in(page, b"run clean work # move # idle #\n", &numbers)
+        }
     }
 }

@@ -1,31 +1,20 @@
 -- What the reader, the search for releases and the writer answer is what `miss` is to answer.
-use Prim.Native.Nat.{ℕ}
-use mathlib.Core.Path.{_≡_, sym, ap, _∙_}
-use mathlib.Core.List.{List}
+use Rattle.base.proofs.Prelude.{ℕ, _≡_, sym, ap, _∙_, List}
 use Rattle.days.specs.declared.Length.{Length}
 use Rattle.faults.specs.declared.Fault.{Fault}
+use Rattle.rules.specs.{declared.Plan.Plan, declared.Releases.Releases, declared.Reading.Reading, Layout.version02, Text.readingOf, Plan.withRun}
+use Rattle.writing.specs.{declared.Saved.Saved, Saved.{savedAnswer, savedPage}}
+use Rattle.tries.specs.{declared.Shown.Shown, Tries.missingAnswer}
+use Rattle.missed.specs.{declared.Missed.Missed, declared.Missed.the-variants.{Refused, Passes, NoneFound, TooMany}, Missed.{asSaved, putAnswer, putPage, missedAnswer, missedPage}}
 use Rattle.faults.specs.declared.Checked.the-variants as checked
-use Rattle.rules.specs.declared.Plan.{Plan}
-use Rattle.rules.specs.declared.Releases.{Releases}
-use Rattle.rules.specs.declared.Reading.{Reading}
-use Rattle.rules.specs.Layout.{version02}
-use Rattle.rules.specs.Text.{readingOf}
-use Rattle.writing.specs.declared.Saved.{Saved}
-use Rattle.writing.specs.Saved.{savedAnswer, savedPage}
-use Rattle.missing.specs.Missing.{withRun}
 use Rattle.tries.specs.declared.Missing.the-variants as missing
-use Rattle.tries.specs.declared.Shown.{Shown}
-use Rattle.tries.specs.Tries.{missingAnswer}
-use Rattle.missed.specs.declared.Missed.{Missed}
-use Rattle.missed.specs.declared.Missed.the-variants.{Refused, Passes, NoneFound, TooMany}
-use Rattle.missed.specs.Missed.{asSaved, putAnswer, putPage, missedAnswer, missedPage}
 
 -- ---- The list, written
 
 module _ (p longer : Plan) (run : Length) (rs : Releases) (page : List ℕ) (at : ℕ) (made : longer ≡ withRun p (run .0)) where
-  pub shown : (said wrote : Saved) → wrote ≡ said → wrote ≡ savedAnswer version02 longer rs page at
+  pub as-shown : (said wrote : Saved) → wrote ≡ said → wrote ≡ savedAnswer version02 longer rs page at
       → asSaved said ≡ asSaved (savedAnswer version02 (withRun p (run .0)) rs page at)
-  shown said wrote is answers = ap asSaved (sym is ∙ answers ∙ ap (λ q. savedAnswer version02 q rs page at) made)
+  as-shown said wrote is answers = ap asSaved (sym is ∙ answers ∙ ap (λ q. savedAnswer version02 q rs page at) made)
 
   pub shown-page : (after : List ℕ) → after ≡ savedPage version02 longer rs page at
       → after ≡ savedPage version02 (withRun p (run .0)) rs page at
@@ -77,19 +66,19 @@ module _ (p : Plan) (m : Shown) (page : List ℕ) (at : ℕ) (found : m ≡ miss
 -- ---- What was read
 
 module _ (text page : List ℕ) (at : ℕ) (r : Reading) (read : r ≡ readingOf text) where
-  pub read-refused : (f : Fault) (k : ℕ) → r .checked ≡ checked.Refused f k
+  pub put-when-refused : (f : Fault) (k : ℕ) → r .checked ≡ checked.Refused f k
       → (Refused f k ≡ missedAnswer text page at) × (page ≡ missedPage text page at)
   unfolding missedAnswer missedPage
-  read-refused f k h =
+  put-when-refused f k h =
       let is : readingOf text .checked ≡ checked.Refused f k = ap (λ s. s .checked) (sym read) ∙ h in
       (rw is, rw is)
 
-  pub read-lawful : (m : Missed) (after : List ℕ) → r .checked ≡ checked.Lawful
+  pub put-when-lawful : (m : Missed) (after : List ℕ) → r .checked ≡ checked.Lawful
       → m ≡ putAnswer (r .plan) (missingAnswer (r .plan) .releases) page at (missingAnswer (r .plan) .missing)
       → after ≡ putPage (r .plan) (missingAnswer (r .plan) .releases) page at (missingAnswer (r .plan) .missing)
       → (m ≡ missedAnswer text page at) × (after ≡ missedPage text page at)
   unfolding missedAnswer missedPage
-  read-lawful m after h said left =
+  put-when-lawful m after h said left =
       let is : readingOf text .checked ≡ checked.Lawful = ap (λ s. s .checked) (sym read) ∙ h in (
         rw is (said ∙ ap (λ s. putAnswer (s .plan) (missingAnswer (s .plan) .releases) page at (missingAnswer (s .plan) .missing)) read),
         rw is (left ∙ ap (λ s. putPage (s .plan) (missingAnswer (s .plan) .releases) page at (missingAnswer (s .plan) .missing)) read),

@@ -6,59 +6,26 @@
 --                  than 1,000 releases
 --     Text         what was written is the text of the same plan, with N raised, and of releases over which it misses
 -- But for Text, no byte of the page is another.
-use Prim.Native.Nat.{ℕ, _-_, _≤_, _<_}
-use mathlib.Core.Path.{_≡_, refl, sym, ap, _∙_, subst}
-use mathlib.Core.Logic.{_⊎_, inl, inr, _↔_}
-use mathlib.Core.Bool.{true, false}
-use mathlib.Core.List.{List}
-use native.Mathlib.Omega.{arith}
-use lib.ListN.{length, take, drop, length-append, length-replicate, length-take}
-use lib.Seq.{take-all}
-use Rattle.days.specs.declared.Day.{Day}
-use Rattle.days.specs.declared.Length.{Length}
-use Rattle.lists.proofs.Lists.{by-bool}
-use Rattle.faults.specs.declared.Fault.{Fault}
-use Rattle.faults.specs.declared.Fault.the-variants.{NoRoom}
+use Rattle.base.proofs.Prelude.{ℕ, _-_, _≤_, _<_, _≡_, refl, sym, ap, _∙_, subst, _⊎_, inl, inr, _↔_, true, false, List, arith, length, take, drop, length-append, length-replicate, length-take, take-all}
+use Rattle.days.specs.{declared.Day.Day, declared.Length.Length}
+use Rattle.base.proofs.Lists.{by-bool}
+use Rattle.faults.specs.{declared.Fault.Fault, declared.Fault.the-variants.NoRoom, Checks.faultNumber}
+use Rattle.faults.proofs.{Checks.{by-checked, then-first}, Refusing.Refusals}
+use Rattle.rules.specs.{declared.Plan.Plan, declared.Releases.Releases, declared.Reading.Reading, declared.Outcome.the-variants.Miss, Demand.Passes, Release.noRelease, Refusal.{planCheck, releasesCheck, runCheck, verdictAnswer, searchAnswer, runAnswer}, declared.Answer.the-variants.Answered, Answer.{answered, answerOf}, Layout.version02, Text.{linesOf, versionOf, readingOf}, Said.refused-with, Plan.withRun}
+use Rattle.laws.proofs.{Lawful.planCheck-lawful, Answers.{verdict-lawful, search-lawful}, RefusedBy.{Numbered, read-numbers}}
+use Rattle.writing.specs.Saved.{savedText, noRoom, writableCheck, saveCheck, savedAnswer, savedPage}
+use Rattle.writing.proofs.Saving.{writable-own}
+use Rattle.roundtrip.specs.OneText.{trimmedPlan, trimmedReleases}
+use Rattle.roundtrip.proofs.{ReadLawful.read-lawful, As02.{read-trimmed, ten-places}, InPage.reading-the-page}
+use Rattle.exact.specs.Missing.{freely}
+use Rattle.exact.proofs.AnyRun.{verdict-run, search-run}
+use Rattle.tries.specs.{declared.Missing.Missing, Tries.missingAnswer, Shown.MissesOverMany}
+use Rattle.tries.proofs.{Found.packed-holds, Meaning.{answer-refused, answer-passes-rule, answer-found, found-answers, answer-none-rule, answer-none-free, answer-many-rule, answer-many}}
+use Rattle.missed.specs.{declared.Missed.Missed, declared.Missed.the-variants.{Refused, NoneFound, TooMany, Text}, Missed.{asSaved, putAnswer, putPage, missedAnswer, missedPage}, ShowsMiss.ShowsMiss, Said.missedSays}
 use Rattle.faults.specs.declared.Checked.the-variants as checked
-use Rattle.faults.specs.Checks.{faultNumber}
-use Rattle.faults.proofs.Checks.{by-checked, then-first}
-use Rattle.faults.proofs.Refusing.{Refusals}
-use Rattle.rules.specs.declared.Plan.{Plan}
-use Rattle.rules.specs.declared.Releases.{Releases}
-use Rattle.rules.specs.declared.Reading.{Reading}
-use Rattle.rules.specs.declared.Outcome.the-variants.{Miss}
-use Rattle.rules.specs.Demand.{Passes}
-use Rattle.rules.specs.Release.{noRelease}
-use Rattle.rules.specs.Refusal.{planCheck, releasesCheck, runCheck, verdictAnswer, searchAnswer, runAnswer}
-use Rattle.rules.specs.declared.Answer.the-variants.{Answered}
-use Rattle.rules.specs.Answer.{answered, answerOf}
-use Rattle.rules.specs.Layout.{version02}
-use Rattle.rules.specs.Text.{linesOf, framesOf, readingOf}
-use Rattle.laws.proofs.Lawful.{planCheck-lawful}
-use Rattle.laws.proofs.Answers.{verdict-lawful, search-lawful}
-use Rattle.laws.proofs.RefusedBy.{Numbered, read-numbers}
-use Rattle.rules.specs.Said.{refused-with}
 use Rattle.writing.specs.declared.Saved.the-variants as saved
-use Rattle.writing.specs.Saved.{savedText, noRoom, saveCheck, savedAnswer, savedPage}
-use Rattle.onetext.specs.OneText.{blankPlan, blankReleases}
-use Rattle.onetext.proofs.ReadLawful.{read-lawful}
-use Rattle.onetext.proofs.OldAsNew.{read-blank, ten}
-use Rattle.onetext.proofs.InPage.{reading-the-page}
-use Rattle.missing.specs.Missing.{freely, withRun}
-use Rattle.missing.proofs.AnyRun.{verdict-run, search-run}
-use Rattle.tries.specs.declared.Missing.{Missing}
 use Rattle.tries.specs.declared.Missing.the-variants as answer
-use Rattle.tries.specs.Tries.{missingAnswer}
-use Rattle.tries.proofs.Found.{packed-holds}
-use Rattle.tries.specs.Shown.{MissesOverMany}
-use Rattle.tries.proofs.Meaning.{answer-refused, answer-passes-rule, answer-found, found-answers, answer-none-rule, answer-none-free}
-use Rattle.tries.proofs.Meaning.{answer-many-rule, answer-many}
-use Rattle.missed.specs.declared.Missed.{Missed}
-use Rattle.missed.specs.declared.Missed.the-variants.{Refused, NoneFound, TooMany, Text}
 use Rattle.missed.specs.declared.Missed.the-variants as missed
-use Rattle.missed.specs.Missed.{asSaved, putAnswer, putPage, missedAnswer, missedPage}
-use Rattle.missed.specs.ShowsMiss.{ShowsMiss}
-use Rattle.missed.specs.Said.{missedSays}
 
 -- the five answers, told apart by a number
 abbrev kindOf : Missed → ℕ
@@ -99,18 +66,21 @@ module _ (p : Plan) (n : Length) (is : missingAnswer p .missing ≡ answer.Found
   same-search h = search-lawful longer found-plan ∙ search-run p (n .0) ∙ sym (search-lawful p h)
 
   -- so only the room can be wanting
+  found-writable : writableCheck version02 longer rs ≡ checked.Lawful
+  found-writable = writable-own version02 longer rs (omega arith) found-lawful
+
   found-fits : (page : List ℕ) (at : ℕ) → noRoom page at (savedText version02 longer rs) ≡ false
       → savedAnswer version02 longer rs page at ≡ saved.Text (length (savedText version02 longer rs))
   unfolding savedAnswer saveCheck
-  found-fits page at fits = rw (found-lawful, fits)
+  found-fits page at fits = rw (found-writable, fits)
 
   found-full : (page : List ℕ) (at : ℕ) → noRoom page at (savedText version02 longer rs) ≡ true
       → (savedAnswer version02 longer rs page at ≡ saved.Refused NoRoom 0) × (savedPage version02 longer rs page at ≡ page)
   unfolding savedAnswer savedPage saveCheck
-  found-full page at full = (rw (found-lawful, full), rw (found-lawful, full))
+  found-full page at full = (rw (found-writable, full), rw (found-writable, full))
 
   -- the list is as it reads back
-  list-blank : blankReleases rs ≡ rs
+  list-blank : trimmedReleases rs ≡ rs
   list-blank =
       let shows = answer-found p n is .1 in
       let list = shows .list in
@@ -129,11 +99,11 @@ module _ (p : Plan) (n : Length) (is : missingAnswer p .missing ≡ answer.Found
 
 -- a plan that was read has nothing behind its strings
 plan-blank : (text : List ℕ) → readingOf text .checked ≡ checked.Lawful
-    → (blankPlan (readingOf text .plan) ≡ readingOf text .plan) × (length (readingOf text .plan .strings) ≡ 10)
+    → (trimmedPlan (readingOf text .plan) ≡ readingOf text .plan) × (length (readingOf text .plan .strings) ≡ 10)
 unfolding readingOf
 plan-blank text h =
-    let v = framesOf (linesOf text) in
-    (ap (λ (r : Reading). r .plan) (read-blank v text h), ten v text h)
+    let v = versionOf (linesOf text) in
+    (ap (λ (r : Reading). r .plan) (read-trimmed v text h), ten-places v text h)
 
 -- ---- How an answer comes about
 
@@ -338,8 +308,8 @@ module _ (text page : List ℕ) (at : ℕ) where
   -- ---- Text
 
   -- what stands in the page from `at` on
-  abbrev pub written : ℕ → List ℕ
-  written len = take len (drop at (missedPage text page at))
+  abbrev pub writtenIn : ℕ → List ℕ
+  writtenIn len = take len (drop at (missedPage text page at))
 
   module _ (lawful : readingOf text .checked ≡ checked.Lawful) (n : Length) (len : ℕ) (is : missingAnswer p .missing ≡ answer.Found n)
       (wrote : savedAnswer version02 (withRun p (n .0)) (missingAnswer p .releases) page at ≡ saved.Text len)
@@ -349,18 +319,18 @@ module _ (text page : List ℕ) (at : ℕ) where
       reads = record { checked = checked.Lawful; plan = withRun p (n .0); releases = missingAnswer p .releases }
 
       -- reading it gives the plan with its N and the list
-      written-reads : readingOf (written len) ≡ reads
+      written-reads : readingOf (writtenIn len) ≡ reads
       written-reads =
           let blank = plan-blank text lawful in
           let list = list-blank p n is in
           ap (λ after. readingOf (take len (drop at after))) (says .1)
           ∙ reading-the-page (withRun p (n .0)) (missingAnswer p .releases) page at len wrote (blank .1) (list-long p n is)
-          ∙ ap (λ q. record { checked = checked.Lawful; plan = withRun q (n .0); releases = blankReleases (missingAnswer p .releases) })
+          ∙ ap (λ q. record { checked = checked.Lawful; plan = withRun q (n .0); releases = trimmedReleases (missingAnswer p .releases) })
           (blank .0)
           ∙ ap (λ rs. record { checked = checked.Lawful; plan = withRun p (n .0); releases = rs }) list
 
       written-desk : (t : Day) (place : ℕ) → runAnswer (withRun p (n .0)) (missingAnswer p .releases) ≡ Miss t place
-          → answerOf (written len) ≡ Answered (verdictAnswer p) (searchAnswer p) (Miss t place)
+          → answerOf (writtenIn len) ≡ Answered (verdictAnswer p) (searchAnswer p) (Miss t place)
       unfolding answerOf answered
       written-desk t place misses =
           let checks = plan-lawful lawful in
@@ -370,7 +340,7 @@ module _ (text page : List ℕ) (at : ℕ) where
           ∙ ap (λ a. Answered (verdictAnswer p) a (runAnswer (withRun p (n .0)) (missingAnswer p .releases))) (same-search p n is checks)
           ∙ ap (Answered (verdictAnswer p) (searchAnswer p)) misses
 
-      written-misses : ShowsMiss text (written len)
+      written-misses : ShowsMiss text (writtenIn len)
       written-misses =
           let miss = found-answers p n is in
           record {
@@ -385,7 +355,7 @@ module _ (text page : List ℕ) (at : ℕ) where
             desk = written-desk (miss .0) (miss .1) (miss .3);
           }
 
-  pub missed-text : (len : ℕ) → missedAnswer text page at ≡ Text len → ShowsMiss text (written len)
+  pub missed-text : (len : ℕ) → missedAnswer text page at ≡ Text len → ShowsMiss text (writtenIn len)
   missed-text len h =
       by-missed
       (λ f k e says. absurd (omega (arith, same-kind _ _ _ says h)))

@@ -15,7 +15,7 @@ use Rattle.rules.specs.Text.{readingOf}
 use Rattle.writing.specs.declared.Saved.{Saved}
 use Rattle.writing.specs.declared.Saved.the-variants as saved
 use Rattle.writing.specs.Saved.{onPage, savedAnswer, savedPage}
-use Rattle.missing.specs.Missing.{withRun}
+use Rattle.rules.specs.Plan.{withRun}
 use Rattle.tries.specs.declared.Missing.{Missing}
 use Rattle.tries.specs.declared.Missing.the-variants as missing
 use Rattle.tries.specs.Tries.{missingAnswer}

@@ -11,7 +11,7 @@ use Rattle.rules.specs.declared.Answer.the-variants.{Answered}
 use Rattle.rules.specs.Answer.{answerOf}
 use Rattle.rules.specs.Refusal.{verdictAnswer, searchAnswer, runAnswer}
 use Rattle.rules.specs.Text.{readingOf}
-use Rattle.missing.specs.Missing.{withRun}
+use Rattle.rules.specs.Plan.{withRun}
 
 pub record ShowsMiss (text new : List ℕ) : Type 0 where
   pub lawful : readingOf new .checked ≡ Lawful

@@ -9,7 +9,7 @@ use writing::Saved;
 ghost use mathlib.Core.Path.{_≡_};
 ghost use Rattle.rules.specs.Layout.{version02};
 ghost use Rattle.writing.specs.Saved.{savedAnswer, savedPage};
-ghost use Rattle.missing.specs.Missing.{withRun};
+ghost use Rattle.rules.specs.Plan.{withRun};
 ghost use Rattle.tries.specs.Tries.{missingAnswer};
 ghost use Rattle.missed.specs.Missed.{asSaved, putAnswer, putPage, missedAnswer, missedPage};
 
@@ -23,21 +23,12 @@ pub enum Missed {
     Text { length: usize },
 }
 
-// The plan with a run of another length.
-fn with_run(p: Plan, run: Length) -> Plan
-    ensures exact { λ r. ⌜ r ≡ withRun p (run .0) ⌝ }
-{
-    let n = p.n;
-    let strings = p.strings;
-    Plan { n, run, strings }
-}
-
 // The plan with N raised and the list, written into the page; 9 with 0 where there is no room.
 fn show(p: Plan, run: Length, releases: Releases, page: &mut [u8], at: usize) -> Missed
     ensures exact { λ r. ⌜ r ≡ asSaved (savedAnswer version02 (withRun p (run .0)) releases (now (page .entry)) at) ⌝ }
     ensures page { λ r. ⌜ now (page .exit) ≡ savedPage version02 (withRun p (run .0)) releases (now (page .entry)) at ⌝ }
 {
-    let longer = with_run(p, run);
+    let longer = p.with_run(run);
     let saved = writing::write(longer, releases, page, at);
     match saved {
         Saved::Text { length } => Missed::Text { length },

@@ -1,38 +1,14 @@
 -- The calendar's promises, of what the code answered (document 02, W-203 and W-206).
-use Prim.Native.Nat.{ℕ, _<_}
-use mathlib.Core.Path.{_≡_, sym, ap, _∙_}
-use mathlib.Core.Logic.{_↔_}
-use contract.Lifetimes.{Lfts}
-use mathlib.Core.Bool.{true, false}
-use mathlib.Core.List.{map}
-use lib.ListN.{length, take, drop}
-use lib.Seq.{take-at, drop-at}
-use Rattle.days.specs.declared.Day.{Day}
-use Rattle.days.specs.Days.{day}
-use Rattle.lists.specs.Count.{All}
+use Rattle.base.proofs.Prelude.{ℕ, _<_, _≡_, sym, ap, _∙_, _↔_, true, false, map, length, take, drop, take-at, drop-at}
+use Rattle.days.specs.{declared.Day.Day, Days.day}
+use Rattle.base.specs.Count.{All}
 use Rattle.faults.specs.declared.Fault.{Fault}
-use Rattle.calendar.specs.declared.Date.{Date}
-use Rattle.calendar.specs.declared.YearlyDate.{YearlyDate}
-use Rattle.calendar.specs.declared.DateText.{DateText}
-use Rattle.calendar.specs.declared.WhichDate.{WhichDate}
+use Rattle.calendar.specs.{declared.Date.Date, declared.YearlyDate.YearlyDate, declared.DateText.DateText, declared.WhichDate.WhichDate, declared.WhichDay.WhichDay, declared.Weekday.the-variants.Saturday, declared.WhichWeekday.WhichWeekday, declared.Listed.Listed, Dates.dateExists, Numbers.{dateOf, lastDay}, Refusals.{dayAnswer, weekdayAnswer}, Yearly.{years, noEdition, leapDay, onLeapDay, yearlyDays, gaps, YearGap, LeapGap}, Said.{refused, dateSays, daySays, weekdaySays, listedSays}}
+use Rattle.calendar.proofs.{Answers.{day-and-back, date-and-back, epoch-answers, date-ten-exactly, day-ten-exactly, weekday-ten-exactly, noSuch, eleven-exactly, ten-exactly, nine-exactly, listed-front, listed-exists, refused-kept, answers-agree}, Gaps.{edition-2-gaps, edition-1-leap-gaps, edition-2-every-year}, Texts.dateWriting-is, RoundTrip.{date-read-exists, date-written-back}}
 use Rattle.calendar.specs.declared.WhichDate.the-variants as which-date
-use Rattle.calendar.specs.declared.WhichDay.{WhichDay}
 use Rattle.calendar.specs.declared.WhichDay.the-variants as which-day
-use Rattle.calendar.specs.declared.Weekday.the-variants.{Saturday}
-use Rattle.calendar.specs.declared.WhichWeekday.{WhichWeekday}
 use Rattle.calendar.specs.declared.WhichWeekday.the-variants as which-weekday
-use Rattle.calendar.specs.declared.Listed.{Listed}
 use Rattle.calendar.specs.declared.Listed.the-variants as listed
-use Rattle.calendar.specs.Dates.{dateExists}
-use Rattle.calendar.specs.Numbers.{dateOf, lastDay}
-use Rattle.calendar.specs.Refusals.{dayAnswer, weekdayAnswer}
-use Rattle.calendar.specs.Yearly.{years, noEdition, leapDay, onLeapDay, yearlyDays, gaps, YearGap, LeapGap}
-use Rattle.calendar.specs.Said.{refused, dateSays, daySays, weekdaySays, listedSays}
-use Rattle.calendar.proofs.Answers.{day-and-back, date-and-back, epoch-answers, date-ten-exactly, day-ten-exactly, weekday-ten-exactly}
-use Rattle.calendar.proofs.Answers.{noSuch, eleven-exactly, ten-exactly, nine-exactly, listed-front, listed-exists, refused-kept, answers-agree}
-use Rattle.calendar.proofs.Gaps.{edition-2-gaps, edition-1-leap-gaps, edition-2-every-year}
-use Rattle.calendar.proofs.Texts.{dateWriting-is}
-use Rattle.calendar.proofs.RoundTrip.{date-read-exists, date-written-back}
 use Rattle.calendar.proofs.Date.first.Reads as Date-first
 use Rattle.calendar.proofs.Date.from_day.Reads as Date-from-day
 use Rattle.calendar.proofs.Date.day_number.Reads as Date-day-number
@@ -40,6 +16,7 @@ use Rattle.calendar.proofs.Date.weekday.Reads as Date-weekday
 use Rattle.calendar.proofs.date_read.Reads as date-read
 use Rattle.calendar.proofs.date_text.Reads as date-text
 use Rattle.calendar.proofs.yearly.Reads as yearly
+use contract.Lifetimes.{Lfts}
 
 -- ---- Both ways
 

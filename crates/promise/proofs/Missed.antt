@@ -1,29 +1,17 @@
 -- The releases that miss, of what `miss` answered. Its arguments are the text, the page and the place; what it wrote is what stands in the
 -- page from the place on.
-use Prim.Native.Nat.{ℕ}
-use mathlib.Core.Path.{_≡_, refl, sym, ap, _∙_, subst}
-use mathlib.Core.Logic.{_⊎_, inl, inr, _↔_}
-use mathlib.Core.List.{List}
-use native.Mathlib.Omega.{arith}
-use lib.ListN.{take, drop}
-use contract.Lifetimes.{Lfts}
-use Rattle.faults.specs.declared.Fault.{Fault}
-use Rattle.faults.specs.declared.Fault.the-variants.{NoRoom}
-use Rattle.faults.specs.declared.Checked.{Checked}
+use Rattle.base.proofs.Prelude.{ℕ, _≡_, refl, sym, ap, _∙_, subst, _⊎_, inl, inr, _↔_, List, arith, take, drop}
+use Rattle.faults.specs.{declared.Fault.Fault, declared.Fault.the-variants.NoRoom, declared.Checked.Checked}
+use Rattle.rules.specs.{Answer.{answered, answerOf}, Demand.Passes, Text.readingOf}
+use Rattle.exact.specs.Missing.{freely}
+use Rattle.tries.specs.Shown.{MissesOverMany}
+use Rattle.missed.specs.{declared.Missed.Missed, declared.Missed.the-variants.{Refused, NoneFound, TooMany, Text}, ShowsMiss.ShowsMiss}
+use Rattle.missed.proofs.OfText.{missed-refuses, missed-refused, missed-passes, missed-none, missed-none-free, missed-text, missed-keeps, missed-many, missed-many-list}
 use Rattle.faults.specs.declared.Checked.the-variants as checked
 use Rattle.rules.specs.declared.Answer.the-variants as answer
-use Rattle.rules.specs.Answer.{answered, answerOf}
-use Rattle.rules.specs.Demand.{Passes}
-use Rattle.rules.specs.Text.{readingOf}
-use Rattle.missing.specs.Missing.{freely}
-use Rattle.tries.specs.Shown.{MissesOverMany}
-use Rattle.missed.specs.declared.Missed.{Missed}
-use Rattle.missed.specs.declared.Missed.the-variants.{Refused, NoneFound, TooMany, Text}
 use Rattle.missed.specs.declared.Missed.the-variants as missed
-use Rattle.missed.specs.ShowsMiss.{ShowsMiss}
-use Rattle.missed.proofs.OfText.{missed-refuses, missed-refused, missed-passes, missed-none, missed-none-free, missed-text, missed-keeps}
-use Rattle.missed.proofs.OfText.{missed-many, missed-many-list}
 use Rattle.missed.proofs.miss.Reads as miss
+use contract.Lifetimes.{Lfts}
 
 -- ---- What the desk refuses
 

@@ -1,35 +1,19 @@
 -- Where moving is free the code's answers are exact: what it said fail or overload of has a list on which its run says miss, by the day
 -- after the interval; for a fail at the pair that it names, for an overload at H with no blocking. `Learnt` is what a function's contract
 -- says of its answer.
-use Prim.Native.Nat.{ℕ, _+_, _≤_, _<_, zero-le}
-use mathlib.Core.Path.{_≡_, refl, sym, _∙_, subst}
-use native.Mathlib.Omega.{arith}
-use contract.Lifetimes.{Lfts}
+use Rattle.base.proofs.Prelude.{ℕ, _+_, _≤_, _<_, zero-le, _≡_, refl, sym, _∙_, subst, arith}
 use Rattle.days.specs.declared.Length.{Length}
-use Rattle.faults.specs.declared.Checked.{Checked}
-use Rattle.faults.specs.declared.Checked.the-variants.{Lawful, Refused}
-use Rattle.rules.specs.declared.Plan.{Plan}
-use Rattle.rules.specs.declared.Releases.{Releases}
-use Rattle.rules.specs.declared.Verdict.{Verdict}
+use Rattle.faults.specs.{declared.Checked.Checked, declared.Checked.the-variants.{Lawful, Refused}}
+use Rattle.rules.specs.{declared.Plan.Plan, declared.Releases.Releases, declared.Verdict.Verdict, declared.Outcome.Outcome, Plan.{multipleOf, withRun}, Demand.{blockLimit, demand}, Release.releasesOf, Verdict.verdictOf, Refusal.{onVerdict, planCheck, runCheck, verdictAnswer}}
+use Rattle.laws.proofs.{Lawful.{LawfulPlan, planCheck-lawful}, LawfulChecked.lawful-checked, Answers.run-lawful, Releases.releasesCheck-good}
+use Rattle.demand.proofs.{Verdict.{fail-names, overload-exactly}, Range.overload-at-period}
+use Rattle.exact.specs.Missing.{missing, MissesBy, FreeMoving}
+use Rattle.exact.proofs.{Freely.{free-demand, free-limit}, Exact.{withRun-lawful, break-misses}}
+use Rattle.promise.specs.SaysMiss.{SaysMiss}
 use Rattle.rules.specs.declared.Verdict.the-variants as verdict-is
-use Rattle.rules.specs.declared.Outcome.{Outcome}
-use Rattle.rules.specs.Plan.{multipleOf}
-use Rattle.rules.specs.Demand.{blockLimit, demand}
-use Rattle.rules.specs.Release.{releasesOf}
-use Rattle.rules.specs.Verdict.{verdictOf}
-use Rattle.rules.specs.Refusal.{onVerdict, planCheck, runCheck, verdictAnswer}
-use Rattle.laws.proofs.Lawful.{LawfulPlan, planCheck-lawful}
-use Rattle.laws.proofs.LawfulChecked.{lawful-checked}
-use Rattle.laws.proofs.Answers.{run-lawful}
-use Rattle.laws.proofs.Releases.{releasesCheck-good}
-use Rattle.horizon.proofs.Verdict.{fail-names, overload-exactly}
-use Rattle.horizon.proofs.Range.{overload-at-period}
-use Rattle.missing.specs.Missing.{withRun, missing, MissesBy, FreeMoving}
-use Rattle.missing.proofs.Freely.{free-demand, free-limit}
-use Rattle.missing.proofs.Exact.{withRun-lawful, break-misses}
 use Rattle.verdict.proofs.verdict.Reads as verdict
 use Rattle.run.proofs.run.Reads as run
-use Rattle.promise.specs.SaysMiss.{SaysMiss}
+use contract.Lifetimes.{Lfts}
 
 -- ---- A lawful list that misses, run by the code
 

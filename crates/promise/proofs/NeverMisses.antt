@@ -1,54 +1,29 @@
 -- Demand 3 of the code's own answers: what said pass cannot say miss, and each job has had its days. `Learnt` is what a function's
 -- contract says of its
 -- answer. By numbers; with a permission set; with the set that the search found; and for a text.
-use Prim.Native.Nat.{ℕ, _+_, _≤_}
-use mathlib.Core.Path.{_≡_, refl, sym, ap, _∙_}
-use mathlib.Core.Bool.{true}
-use mathlib.Core.List.{List}
-use native.Mathlib.Omega.{arith}
-use native.Mathlib.Nat.{le-refl}
-use lib.ListN.{length}
-use contract.Lifetimes.{Lfts}
+use Rattle.base.proofs.Prelude.{ℕ, _+_, _≤_, _≡_, refl, sym, ap, _∙_, true, List, arith, le-refl, length}
 use Rattle.days.specs.Days.{day}
-use Rattle.faults.specs.declared.Fault.{Fault}
-use Rattle.faults.specs.declared.Checked.{Checked}
-use Rattle.faults.specs.declared.Checked.the-variants as checked
-use Rattle.rules.specs.declared.Plan.{Plan}
-use Rattle.rules.specs.declared.Releases.{Releases}
-use Rattle.rules.specs.declared.Verdict.{Verdict}
-use Rattle.rules.specs.declared.Verdict.the-variants as verdict-is
-use Rattle.rules.specs.declared.Assign.{Assign}
-use Rattle.rules.specs.declared.Outcome.{Outcome}
-use Rattle.rules.specs.declared.Outcome.the-variants as outcome-is
-use Rattle.rules.specs.declared.Answer.{Answer}
-use Rattle.rules.specs.declared.Answer.the-variants as answer-is
-use Rattle.rules.specs.Demand.{Passes}
-use Rattle.rules.specs.Verdict.{verdictOf, isPass}
-use Rattle.rules.specs.Search.{withSet}
-use Rattle.rules.specs.Release.{releasesOf}
-use Rattle.rules.specs.Run.{daysOf, isWork, isMove, isIdle}
-use Rattle.rules.specs.Refusal.{onVerdict, planCheck, setCheck, runCheck, verdictAnswer, searchAnswer, runAnswer}
-use Rattle.rules.specs.Text.{readingOf}
-use Rattle.rules.specs.Answer.{answered, answerOf}
-use Rattle.rules.specs.Said.{pass, takers, miss, clean, verdictSays, assignSays, outcomeSays}
+use Rattle.faults.specs.{declared.Fault.Fault, declared.Checked.Checked}
+use Rattle.rules.specs.{declared.Plan.Plan, declared.Releases.Releases, declared.Verdict.Verdict, declared.Assign.Assign, declared.Outcome.Outcome, declared.Answer.Answer, Demand.Passes, Verdict.{verdictOf, isPass}, Search.withSet, Release.releasesOf, Run.{daysOf, isWork, isMove, isIdle}, Refusal.{onVerdict, planCheck, setCheck, runCheck, verdictAnswer, searchAnswer, runAnswer}, Text.readingOf, Answer.{answered, answerOf}, Said.{pass, takers, miss, clean, verdictSays, assignSays, outcomeSays}}
 use Rattle.laws.specs.Lawful.{LawfulRun}
-use Rattle.laws.proofs.Lawful.{planCheck-lawful}
-use Rattle.laws.proofs.Answers.{run-refused}
-use Rattle.laws.proofs.Says.{says-pass, says-takers, says-miss}
-use Rattle.laws.proofs.Releases.{runCheck-lawful}
-use Rattle.horizon.proofs.Verdict.{passes-of-pass}
-use Rattle.sets.specs.BestSet.{BestSet}
+use Rattle.laws.proofs.{Lawful.planCheck-lawful, Answers.run-refused, Says.{says-pass, says-takers, says-miss}, Releases.runCheck-lawful}
+use Rattle.demand.proofs.Verdict.{passes-of-pass}
+use Rattle.demand.specs.BestSet.{BestSet}
 use Rattle.sound.specs.Served.{released, dueOf, Served}
-use Rattle.sound.proofs.CleanAnswer.{never-misses}
-use Rattle.sound.proofs.Served.{served}
+use Rattle.sound.proofs.{CleanAnswer.never-misses, Served.served}
+use Rattle.promise.specs.NeverMiss.{NeverMiss}
+use Rattle.roundtrip.proofs.ReadLawful.{read-lawful}
+use Rattle.promise.proofs.UserWords.{search-finds, verdict-with-is}
+use Rattle.faults.specs.declared.Checked.the-variants as checked
+use Rattle.rules.specs.declared.Verdict.the-variants as verdict-is
+use Rattle.rules.specs.declared.Outcome.the-variants as outcome-is
+use Rattle.rules.specs.declared.Answer.the-variants as answer-is
 use Rattle.verdict.proofs.verdict.Reads as verdict
 use Rattle.verdict.proofs.verdict_with.Reads as verdict-with
 use Rattle.verdict.proofs.search.Reads as search-takers
 use Rattle.run.proofs.run.Reads as run
 use Rattle.answers.proofs.answer.Reads as answer
-use Rattle.promise.specs.NeverMiss.{NeverMiss}
-use Rattle.onetext.proofs.ReadLawful.{read-lawful}
-use Rattle.promise.proofs.UserWords.{search-finds, verdict-with-is}
+use contract.Lifetimes.{Lfts}
 
 -- ---- A verdict that says pass means the rule at every interval
 
@@ -134,17 +109,18 @@ refused-not-answered f at v a o h =
     omega arith
 
 -- an answer with three lines comes of a reading that is lawful, and each line is that entry's
-pub record Parts (text : List ℕ) (v : Verdict) (a : Assign) (o : Outcome) : Type 0 where
+pub record AnswerParts (text : List ℕ) (v : Verdict) (a : Assign) (o : Outcome) : Type 0 where
   pub lawful : readingOf text .checked ≡ checked.Lawful
   pub verdict-is : verdictAnswer (readingOf text .plan) ≡ v
   pub assign-is : searchAnswer (readingOf text .plan) ≡ a
   pub outcome-is : runAnswer (readingOf text .plan) (readingOf text .releases) ≡ o
 
-pub answered-parts : (text : List ℕ) (v : Verdict) (a : Assign) (o : Outcome) → answerOf text ≡ answer-is.Answered v a o → Parts text v a o
+pub answered-parts : (text : List ℕ) (v : Verdict) (a : Assign) (o : Outcome)
+    → answerOf text ≡ answer-is.Answered v a o → AnswerParts text v a o
 unfolding answerOf answered
 answered-parts text v a o h = go (readingOf text .checked) refl
   where
-    go : (c : Checked) → readingOf text .checked ≡ c → Parts text v a o
+    go : (c : Checked) → readingOf text .checked ≡ c → AnswerParts text v a o
     go checked.Lawful e =
         let same = sym (ap (λ c. answered c (readingOf text)) e) ∙ h in
         record { lawful = e; verdict-is = cc; assign-is = cc; outcome-is = cc }
@@ -154,20 +130,20 @@ answered-parts text v a o h = go (readingOf text .checked) refl
 module _ (κs : Lfts 1) (lent : _) (e : _) (r : Answer) (answered-is : answer.Learnt κs lent r e) (v : Verdict) (a : Assign) (o : Outcome)
     (three : r ≡ answer-is.Answered v a o) (k : ℕ) (said : verdictSays v ≡ pass k) where
   -- what the text writes
-  abbrev pub planOf : Plan
-  planOf = readingOf (lent .0 .now) .plan
+  abbrev pub planGivenFor : Plan
+  planGivenFor = readingOf (lent .0 .now) .plan
 
-  abbrev pub listOf : Releases
-  listOf = readingOf (lent .0 .now) .releases
+  abbrev pub listGiven : Releases
+  listGiven = readingOf (lent .0 .now) .releases
 
-  parts : Parts (lent .0 .now) v a o
+  parts : AnswerParts (lent .0 .now) v a o
   parts = answered-parts (lent .0 .now) v a o (sym (answered-is .0) ∙ three)
 
-  file-rule : Passes planOf
-  file-rule = pass-means planOf k (ap verdictSays (parts .verdict-is) ∙ said)
+  file-rule : Passes planGivenFor
+  file-rule = pass-means planGivenFor k (ap verdictSays (parts .verdict-is) ∙ said)
 
-  run-is : LawfulRun planOf listOf
-  run-is = runCheck-lawful planOf listOf (read-lawful (lent .0 .now) (parts .lawful))
+  run-is : LawfulRun planGivenFor listGiven
+  run-is = runCheck-lawful planGivenFor listGiven (read-lawful (lent .0 .now) (parts .lawful))
 
   -- its third line says clean
   pub file-never-misses : (w : ℕ) × ((m : ℕ) × ((i : ℕ) × (outcomeSays o ≡ clean w m i)))
@@ -177,13 +153,13 @@ module _ (κs : Lfts 1) (lent : _) (e : _) (r : Answer) (answered-is : answer.Le
       _,
       (
         _,
-        ap outcomeSays (sym (parts .outcome-is) ∙ never-misses planOf listOf (read-lawful (lent .0 .now) (parts .lawful))
+        ap outcomeSays (sym (parts .outcome-is) ∙ never-misses planGivenFor listGiven (read-lawful (lent .0 .now) (parts .lawful))
             file-rule),
       ),
     ),
   )
 
   -- and each of its releases has had all its work, and any moving it caused, before its deadline
-  pub file-served : (i d : ℕ) → 1 ≤ i → i ≤ length (releasesOf listOf) → dueOf planOf (released (releasesOf listOf) i) ≤ d
-      → Served planOf (releasesOf listOf) i d
-  file-served i d low high due = served planOf (releasesOf listOf) (run-is .plan) (run-is .none-bad) file-rule i d low high due
+  pub file-served : (i d : ℕ) → 1 ≤ i → i ≤ length (releasesOf listGiven) → dueOf planGivenFor (released (releasesOf listGiven) i) ≤ d
+      → Served planGivenFor (releasesOf listGiven) i d
+  file-served i d low high due = served planGivenFor (releasesOf listGiven) (run-is .plan) (run-is .none-bad) file-rule i d low high due

@@ -3,31 +3,16 @@
 -- the `ensures` clauses of a function say of its result, so a clause that is weakened or gone is refused here. The test command asks for a
 -- line to each.
 --     κs the lifetimes of what is lent; a the arguments; e, f what holds at the return; r, s two results
-use mathlib.Core.Path.{_≡_, sym, _∙_}
-use contract.Lifetimes.{Lfts}
-use Rattle.days.specs.declared.Later.{Later}
-use Rattle.days.specs.declared.Gap.{Gap}
-use mathlib.Core.Bool.{Bool}
-use Prim.Native.Nat.{ℕ}
+use Rattle.base.proofs.Prelude.{_≡_, sym, _∙_, Bool, ℕ, List}
+use Rattle.days.specs.{declared.Later.Later, declared.Gap.Gap, declared.Length.Length}
 use Rattle.faults.specs.declared.Checked.{Checked}
-use Rattle.rules.specs.declared.Reading.{Reading}
-use Rattle.rules.specs.declared.Verdict.{Verdict}
-use Rattle.rules.specs.declared.Broken.{Broken}
-use Rattle.rules.specs.declared.Assign.{Assign}
-use Rattle.rules.specs.declared.Outcome.{Outcome}
-use Rattle.rules.specs.declared.Figures.{Figures}
+use Rattle.rules.specs.{declared.Reading.Reading, declared.Verdict.Verdict, declared.Broken.Broken, declared.Assign.Assign, declared.Outcome.Outcome, declared.Figures.Figures, declared.Answer.Answer, declared.Job.Job, declared.Slot.Slot, declared.Use.Use, declared.Plan.Plan}
 use Rattle.lines.specs.declared.Page.{Page}
-use Rattle.calendar.specs.declared.Date.{Date}
-use Rattle.calendar.specs.declared.WhichDate.{WhichDate}
-use Rattle.calendar.specs.declared.WhichDay.{WhichDay}
-use Rattle.calendar.specs.declared.WhichWeekday.{WhichWeekday}
-use Rattle.calendar.specs.declared.WhichYearly.{WhichYearly}
-use Rattle.calendar.specs.declared.WhichEdition.{WhichEdition}
-use Rattle.calendar.specs.declared.Listed.{Listed}
-use Rattle.calendar.specs.declared.DateText.{DateText}
-use Rattle.calendar.specs.declared.YearlyText.{YearlyText}
-use Rattle.rules.specs.declared.Answer.{Answer}
+use Rattle.calendar.specs.{declared.Date.Date, declared.WhichDate.WhichDate, declared.WhichDay.WhichDay, declared.WhichWeekday.WhichWeekday, declared.WhichYearly.WhichYearly, declared.WhichEdition.WhichEdition, declared.Listed.Listed, declared.DateText.DateText, declared.YearlyText.YearlyText}
 use Rattle.missed.specs.declared.Missed.{Missed}
+use Rattle.layouts.specs.declared.Version.{Version}
+use Rattle.writing.specs.declared.Saved.{Saved}
+use Rattle.tries.specs.declared.Shown.{Shown}
 use Rattle.days.proofs.Day.plus.Reads as Day-plus
 use Rattle.days.proofs.Day.since.Reads as Day-since
 use Rattle.days.proofs.Day.before.Reads as Day-before
@@ -44,12 +29,8 @@ use Rattle.calendar.proofs.date_text.Reads as date-text
 use Rattle.calendar.proofs.yearly_read.Reads as yearly-read
 use Rattle.calendar.proofs.edition_read.Reads as edition-read
 use Rattle.calendar.proofs.yearly_text.Reads as yearly-text
-use mathlib.Core.List.{List}
-use Rattle.days.specs.declared.Length.{Length}
-use Rattle.rules.specs.declared.Job.{Job}
-use Rattle.rules.specs.declared.Slot.{Slot}
-use Rattle.rules.specs.declared.Use.{Use}
 use Rattle.rules.proofs.Plan.moving_cost.Reads as Plan-moving-cost
+use Rattle.rules.proofs.Plan.with_run.Reads as Plan-with-run
 use Rattle.slots.proofs.chosen_place.Reads as chosen-place
 use Rattle.slots.proofs.stopped_job.Reads as stopped-job
 use Rattle.slots.proofs.seated_job.Reads as seated-job
@@ -65,14 +46,14 @@ use Rattle.bounds.proofs.multiple_check.Reads as multiple-check
 use Rattle.bounds.proofs.plan_check.Reads as plan-check
 use Rattle.bounds.proofs.set_check.Reads as set-check
 use Rattle.bounds.proofs.run_check.Reads as run-check
+use Rattle.layouts.proofs.held_to.Reads as held-to
 use Rattle.reading.proofs.read.Reads as read
-use Rattle.reading.proofs.read_old.Reads as read-old
-use Rattle.reading.proofs.read_new.Reads as read-new
-use Rattle.writing.specs.declared.Saved.{Saved}
+use Rattle.reading.proofs.read_01.Reads as read-01
+use Rattle.reading.proofs.read_02.Reads as read-02
 use Rattle.writing.proofs.write.Reads as write
-use Rattle.writing.proofs.write_old.Reads as write-old
-use Rattle.turning.proofs.to_new.Reads as to-new
-use Rattle.turning.proofs.to_old.Reads as to-old
+use Rattle.writing.proofs.write_01.Reads as write-01
+use Rattle.turning.proofs.to_02.Reads as to-02
+use Rattle.turning.proofs.to_01.Reads as to-01
 use Rattle.missed.proofs.miss.Reads as miss
 use Rattle.verdict.proofs.verdict.Reads as verdict
 use Rattle.verdict.proofs.verdict_with.Reads as verdict-with
@@ -82,7 +63,6 @@ use Rattle.verdict.proofs.first_break.Reads as first-break
 use Rattle.verdict.proofs.search.Reads as search-takers
 use Rattle.verdict.proofs.figures.Reads as figures
 use Rattle.run.proofs.run.Reads as run
-use Rattle.tries.specs.declared.Shown.{Shown}
 use Rattle.tries.proofs.releases_that_miss.Reads as releases-that-miss
 use Rattle.lines.proofs.written.Reads as written
 use Rattle.lines.proofs.verdict_written.Reads as verdict-written
@@ -108,6 +88,7 @@ use Rattle.entries.proofs.desk_run.Reads as desk-run
 use Rattle.entries.proofs.desk_answer.Reads as desk-answer
 use Rattle.entries.proofs.desk_date.Reads as desk-date
 use Rattle.entries.proofs.desk_day.Reads as desk-day
+use contract.Lifetimes.{Lfts}
 
 -- days
 pub one-Day-plus : (κs : Lfts 0) (a : _) (e f : _) (r s : Later) → Day-plus.Learnt κs a r e → Day-plus.Learnt κs a s f → r ≡ s
@@ -174,6 +155,9 @@ pub one-Plan-moving-cost : (κs : Lfts 0) (a : _) (e f : _) (r s : Length) → P
     → Plan-moving-cost.Learnt κs a s f → r ≡ s
 one-Plan-moving-cost κs a e f r s h k = h ∙ sym k
 
+pub one-Plan-with-run : (κs : Lfts 0) (a : _) (e f : _) (r s : Plan) → Plan-with-run.Learnt κs a r e → Plan-with-run.Learnt κs a s f → r ≡ s
+one-Plan-with-run κs a e f r s h k = h ∙ sym k
+
 -- slots
 pub one-chosen-place : (κs : Lfts 0) (a : _) (e f : _) (r s : ℕ) → chosen-place.Learnt κs a r e → chosen-place.Learnt κs a s f → r ≡ s
 one-chosen-place κs a e f r s h k = h ∙ sym k
@@ -227,31 +211,35 @@ pub one-read : (κs : Lfts 1) (a : _) (e f : _) (r s : Reading) → read.Learnt 
     → (r ≡ s) × (e .0 .now ≡ f .0 .now)
 one-read κs a e f r s h k = (h .0 ∙ sym (k .0), h .1 ∙ sym (k .1))
 
-pub one-read-old : (κs : Lfts 1) (a : _) (e f : _) (r s : Reading) → read-old.Learnt κs a r e → read-old.Learnt κs a s f
+pub one-read-01 : (κs : Lfts 1) (a : _) (e f : _) (r s : Reading) → read-01.Learnt κs a r e → read-01.Learnt κs a s f
     → (r ≡ s) × (e .0 .now ≡ f .0 .now)
-one-read-old κs a e f r s h k = (h .0 ∙ sym (k .0), h .1 ∙ sym (k .1))
+one-read-01 κs a e f r s h k = (h .0 ∙ sym (k .0), h .1 ∙ sym (k .1))
 
-pub one-read-new : (κs : Lfts 1) (a : _) (e f : _) (r s : Reading) → read-new.Learnt κs a r e → read-new.Learnt κs a s f
+pub one-read-02 : (κs : Lfts 1) (a : _) (e f : _) (r s : Reading) → read-02.Learnt κs a r e → read-02.Learnt κs a s f
     → (r ≡ s) × (e .0 .now ≡ f .0 .now)
-one-read-new κs a e f r s h k = (h .0 ∙ sym (k .0), h .1 ∙ sym (k .1))
+one-read-02 κs a e f r s h k = (h .0 ∙ sym (k .0), h .1 ∙ sym (k .1))
+
+-- layouts
+pub one-held-to : (κs : Lfts 0) (a : _) (e f : _) (r s : Version) → held-to.Learnt κs a r e → held-to.Learnt κs a s f → r ≡ s
+one-held-to κs a e f r s h k = h ∙ sym k
 
 -- writing: the page is lent
 pub one-write : (κs : Lfts 1) (a : _) (e f : _) (r s : Saved) → write.Learnt κs a r e → write.Learnt κs a s f
     → (r ≡ s) × (e .1 .1 .0 .now ≡ f .1 .1 .0 .now)
 one-write κs a e f r s h k = (h .0 ∙ sym (k .0), h .1 ∙ sym (k .1))
 
-pub one-write-old : (κs : Lfts 1) (a : _) (e f : _) (r s : Saved) → write-old.Learnt κs a r e → write-old.Learnt κs a s f
+pub one-write-01 : (κs : Lfts 1) (a : _) (e f : _) (r s : Saved) → write-01.Learnt κs a r e → write-01.Learnt κs a s f
     → (r ≡ s) × (e .1 .1 .0 .now ≡ f .1 .1 .0 .now)
-one-write-old κs a e f r s h k = (h .0 ∙ sym (k .0), h .1 ∙ sym (k .1))
+one-write-01 κs a e f r s h k = (h .0 ∙ sym (k .0), h .1 ∙ sym (k .1))
 
 -- turning: the text and the page are lent
-pub one-to-new : (κs : Lfts 2) (a : _) (e f : _) (r s : Saved) → to-new.Learnt κs a r e → to-new.Learnt κs a s f
+pub one-to-02 : (κs : Lfts 2) (a : _) (e f : _) (r s : Saved) → to-02.Learnt κs a r e → to-02.Learnt κs a s f
     → (r ≡ s) × (e .1 .0 .now ≡ f .1 .0 .now) × (e .0 .now ≡ f .0 .now)
-one-to-new κs a e f r s h k = (h .0 ∙ sym (k .0), h .1 .0 ∙ sym (k .1 .0), h .1 .1 ∙ sym (k .1 .1))
+one-to-02 κs a e f r s h k = (h .0 ∙ sym (k .0), h .1 .0 ∙ sym (k .1 .0), h .1 .1 ∙ sym (k .1 .1))
 
-pub one-to-old : (κs : Lfts 2) (a : _) (e f : _) (r s : Saved) → to-old.Learnt κs a r e → to-old.Learnt κs a s f
+pub one-to-01 : (κs : Lfts 2) (a : _) (e f : _) (r s : Saved) → to-01.Learnt κs a r e → to-01.Learnt κs a s f
     → (r ≡ s) × (e .1 .0 .now ≡ f .1 .0 .now) × (e .0 .now ≡ f .0 .now)
-one-to-old κs a e f r s h k = (h .0 ∙ sym (k .0), h .1 .0 ∙ sym (k .1 .0), h .1 .1 ∙ sym (k .1 .1))
+one-to-01 κs a e f r s h k = (h .0 ∙ sym (k .0), h .1 .0 ∙ sym (k .1 .0), h .1 .1 ∙ sym (k .1 .1))
 
 -- missed: the same are lent
 pub one-miss : (κs : Lfts 2) (a : _) (e f : _) (r s : Missed) → miss.Learnt κs a r e → miss.Learnt κs a s f

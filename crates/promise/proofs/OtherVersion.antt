@@ -1,28 +1,11 @@
 -- A reader of one version gives 3 at line 1 exactly for a text whose first line is no header of that version, and so exactly for the lawful
 -- files of the other version.
-use Prim.Native.Nat.{ℕ, _≤_}
-use mathlib.Core.Path.{_≡_, refl, sym, ap, _∙_}
-use mathlib.Core.Logic.{_↔_}
-use mathlib.Core.Bool.{Bool, true, false, not, _&&_}
-use mathlib.Core.List.{List, [], _∷_}
-use native.Mathlib.Omega.{arith}
-use borrow.Author.Tests.{ltb-false, le-ltb, eqb-true, ne-eqb}
-use lib.Dec.{ltb, eqb}
-use lib.ListN.{length}
-use Rattle.lists.proofs.Lists.{true-not-false, and-right}
-use Rattle.faults.specs.declared.Fault.the-variants.{TextTooLong, LineMalformed, FrameWrong}
-use Rattle.faults.specs.declared.Checked.{Checked}
-use Rattle.faults.specs.declared.Checked.the-variants.{Lawful, Refused}
-use Rattle.faults.specs.Checks.{faultNumber, then, refuseIf}
-use Rattle.faults.proofs.Checks.{refused-not-lawful, then-first, then-second, refuseIf-not}
-use Rattle.faults.proofs.Refusing.{Refusals, refusals-then, refusals-if}
-use Rattle.rules.specs.Layout.{Frames, frameSize, kindIn, fieldAmong, fieldIn, version01, version02, Version}
-use Rattle.rules.specs.Refusal.{headCheck, costCheck}
-use Rattle.rules.specs.Text.{Line, linesOf, wellFormed, frameOf, fieldOf, nIn, runIn, aIn, planIn, frameCheck, layoutCheck, versionCheck}
-use Rattle.rules.specs.Text.{headerCheck, bodyCheck, linesCheck, textCheck, readingIn}
-use Rattle.rules.specs.Said.{refused, checkedSays}
-use Rattle.laws.proofs.Versions.{lines-checked}
-use Rattle.laws.proofs.RefusedBy.{Never, Behind, lawful-no-refusal, second-says, body-behind, numbers-behind, reading-is-checked}
+use Rattle.base.proofs.Prelude.{ℕ, _≤_, _≡_, refl, sym, ap, _∙_, _↔_, Bool, true, false, not, _&&_, List, [], _∷_, arith, ltb-false, le-ltb, eqb-true, ne-eqb, ltb, eqb, length}
+use Rattle.base.proofs.Lists.{true-not-false, and-right}
+use Rattle.faults.specs.{declared.Fault.the-variants.{TextTooLong, LineMalformed, FrameWrong}, declared.Checked.Checked, declared.Checked.the-variants.{Lawful, Refused}, Checks.{faultNumber, then, refuseIf}}
+use Rattle.faults.proofs.{Checks.{refused-not-lawful, then-first, then-second, refuseIf-not}, Refusing.{Refusals, refusals-then, refusals-if}}
+use Rattle.rules.specs.{Layout.{Version, frameSize, kindIn, fieldAmong, fieldIn, headerFrame, version01, version02, Number}, Refusal.{headCheck, costCheck}, Text.{Line, linesOf, wellFormed, frameOf, fieldOf, nIn, runIn, aIn, planIn, frameCheck, layoutCheck, versionCheck, headerCheck, bodyCheck, linesCheck, textCheck, readingIn}, Said.{refused, checkedSays}}
+use Rattle.laws.proofs.{Versions.lines-checked, RefusedBy.{Never, Behind, lawful-no-refusal, second-says, body-behind, numbers-behind, reading-is-checked}}
 use Rattle.promise.specs.OtherVersion.{headed, NoHeader}
 
 not-three : (c : Checked) → Refusals Behind c → checkedSays c ≡ refused 3 1 → ⊥
@@ -53,14 +36,14 @@ by-tests true true true numbers body h k = (
   λ is. absurd (true-not-false (is .1)),
 )
 
-module _ (v : Frames) where
+module _ (v : Version) where
   lines-three : (lines : List Line) → (checkedSays (linesCheck v lines) ≡ refused 3 1) ↔ NoHeader v lines
   unfolding linesCheck headerCheck frameCheck versionCheck headed
   lines-three [] = (λ h. tt, λ h. refl)
   lines-three (header ∷ lines) =
       by-tests (wellFormed header)
-      (eqb (length (frameOf header)) (frameSize (v .header)) && eqb (kindIn (frameOf header)) (v .header .kind))
-      (eqb (fieldOf (v .header) Version header) (v .version))
+      (eqb (length (frameOf header)) (frameSize (headerFrame v)) && eqb (kindIn (frameOf header)) (headerFrame v .kind))
+      (eqb (fieldOf (headerFrame v) Number header) (v .number))
       (then (headCheck 1 (nIn v header) (runIn v header)) (costCheck 1 (aIn v header)))
       (bodyCheck v header (planIn v (header ∷ lines)) lines)
       (numbers-behind v header) (body-behind v header (planIn v (header ∷ lines)) lines)
@@ -92,7 +75,7 @@ module _ (v : Frames) where
 -- ---- The lawful files of the other version
 
 -- a lawful text is no longer than a text may be, and its first line writes a header that names its version
-module _ (v : Frames) (text : List ℕ) (h : readingIn v text .checked ≡ Lawful) where
+module _ (v : Version) (text : List ℕ) (h : readingIn v text .checked ≡ Lawful) where
   lawful-short : length text ≤ 65536
   unfolding textCheck
   lawful-short =
@@ -100,18 +83,18 @@ module _ (v : Frames) (text : List ℕ) (h : readingIn v text .checked ≡ Lawfu
       (refuseIf-not _ TextTooLong 0
       (then-first (refuseIf (ltb 65536 (length text)) TextTooLong 0) (linesCheck v (linesOf text)) (sym (reading-is-checked v text) ∙ h)))
 
-abbrev Named : Frames → List Line → Type 0
+abbrev Named : Version → List Line → Type 0
 Named v [] = ⊥
-Named v (line ∷ lines) = (wellFormed line ≡ true) × (fieldOf (v .header) Version line ≡ v .version)
+Named v (line ∷ lines) = (wellFormed line ≡ true) × (fieldOf (headerFrame v) Number line ≡ v .number)
 
-lawful-named : (v : Frames) (lines : List Line) → linesCheck v lines ≡ Lawful → Named v lines
+lawful-named : (v : Version) (lines : List Line) → linesCheck v lines ≡ Lawful → Named v lines
 unfolding linesCheck headerCheck frameCheck versionCheck
 lawful-named v [] h = refused-not-lawful FrameWrong 1 h
 lawful-named v (header ∷ lines) h =
     let good = not (wellFormed header) in
     let head = then-first (headerCheck v header) _ h in
-    let layout = then-first (layoutCheck 1 (v .header) header) _ head in
-    let rest = then-second (layoutCheck 1 (v .header) header) _ head in (
+    let layout = then-first (layoutCheck 1 (headerFrame v) header) _ head in
+    let rest = then-second (layoutCheck 1 (headerFrame v) header) _ head in (
       not-bad (wellFormed header) (refuseIf-not _ LineMalformed 1 (then-first (refuseIf good LineMalformed 1) _ layout)),
       eqb-true _ _ (not-bad _ (refuseIf-not _ FrameWrong 1 (then-first (versionCheck v header) _ rest))),
     )
@@ -120,16 +103,16 @@ lawful-named v (header ∷ lines) h =
     not-bad true e = refl
     not-bad false e = absurd (true-not-false e)
 
-module _ (v w : Frames) (same : (line : Line) → fieldOf (w .header) Version line ≡ fieldOf (v .header) Version line)
-    (other : v .version ≡ w .version → ⊥) where
+module _ (v w : Version) (same : (line : Line) → fieldOf (headerFrame w) Number line ≡ fieldOf (headerFrame v) Number line)
+    (other : v .number ≡ w .number → ⊥) where
   named-elsewhere : (lines : List Line) → Named v lines → NoHeader w lines
   unfolding headed
   named-elsewhere [] h = absurd h
   named-elsewhere (line ∷ lines) h = (
     h .0,
-    no-and (eqb (length (frameOf line)) (frameSize (w .header)) && eqb (kindIn (frameOf line)) (w .header .kind))
-        (eqb (fieldOf (w .header) Version line) (w .version))
-        (ne-eqb (fieldOf (w .header) Version line) (w .version) (λ is. other (sym (h .1) ∙ sym (same line) ∙ is))),
+    no-and (eqb (length (frameOf line)) (frameSize (headerFrame w)) && eqb (kindIn (frameOf line)) (headerFrame w .kind))
+        (eqb (fieldOf (headerFrame w) Number line) (w .number))
+        (ne-eqb (fieldOf (headerFrame w) Number line) (w .number) (λ is. other (sym (h .1) ∙ sym (same line) ∙ is))),
   )
     where
       no-and : (a b : Bool) → b ≡ false → a && b ≡ false
@@ -142,7 +125,7 @@ module _ (v w : Frames) (same : (line : Line) → fieldOf (w .header) Version li
       (lawful-short v text h, named-elsewhere (linesOf text) (lawful-named v (linesOf text) (lines-checked v text h)))
 
 -- both versions have their number in the second byte
-version-byte : (line : Line) → fieldOf (version01 .header) Version line ≡ fieldOf (version02 .header) Version line
+version-byte : (line : Line) → fieldOf (headerFrame version01) Number line ≡ fieldOf (headerFrame version02) Number line
 unfolding fieldOf fieldIn fieldAmong
 version-byte line = refl
 

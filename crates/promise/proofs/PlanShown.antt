@@ -1,18 +1,12 @@
 -- A plan shown: the lines that the code gave for the plan, for each place and for each release, put together, are the whole text.
-use Prim.Native.Nat.{ℕ}
-use mathlib.Core.Path.{_≡_, refl, ap, _∙_}
-use mathlib.Core.List.{List, [], _∷_, _++_, flatMap}
-use contract.Lifetimes.{Lfts}
-use Rattle.lists.specs.Count.{upFrom}
+use Rattle.base.proofs.Prelude.{ℕ, _≡_, refl, ap, _∙_, List, [], _∷_, _++_}
+use mathlib.Core.List.{flatMap}
+use Rattle.base.specs.Count.{upFrom}
 use Rattle.faults.specs.declared.Checked.the-variants.{Lawful}
 use Rattle.faults.proofs.Checks.{then-first}
-use Rattle.rules.specs.declared.Plan.{Plan}
-use Rattle.rules.specs.declared.Releases.{Releases}
-use Rattle.rules.specs.Refusal.{planCheck, releasesCheck, runCheck}
-use Rattle.rules.specs.Text.{readingOf}
-use Rattle.onetext.proofs.ReadLawful.{read-lawful}
-use Rattle.lines.specs.declared.Page.{Page}
-use Rattle.lines.specs.Pages.{pageOf, textOf}
+use Rattle.rules.specs.{declared.Plan.Plan, declared.Releases.Releases, Refusal.{planCheck, releasesCheck, runCheck}, Text.readingOf}
+use Rattle.roundtrip.proofs.ReadLawful.{read-lawful}
+use Rattle.lines.specs.{declared.Page.Page, Pages.{pageOf, textOf}}
 use Rattle.lines.proofs.Growing.{textOf-pageOf}
 use Rattle.showing.specs.Shown.{planShown, stringShown, loadShown, releaseShown, shownText}
 use Rattle.showing.proofs.Whole.{shown-whole}
@@ -20,6 +14,7 @@ use Rattle.showing.proofs.plan_shown.Reads as plan-shown
 use Rattle.showing.proofs.string_shown.Reads as string-shown
 use Rattle.showing.proofs.load_shown.Reads as load-shown
 use Rattle.showing.proofs.release_shown.Reads as release-shown
+use contract.Lifetimes.{Lfts}
 
 text-is : (page : Page) (text : List ℕ) → page ≡ pageOf text → textOf page ≡ text
 text-is page text e = ap textOf e ∙ textOf-pageOf text

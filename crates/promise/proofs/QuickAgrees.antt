@@ -1,15 +1,13 @@
 -- Both engines of the code agree on every plan, refused ones too: apart from the pair count the quick verdict's answer is the verdict's.
-use Prim.Native.Nat.{ℕ}
-use mathlib.Core.Path.{_≡_, sym, ap, _∙_}
-use contract.Lifetimes.{Lfts}
-use Rattle.rules.specs.declared.Plan.{Plan}
-use Rattle.rules.specs.declared.Verdict.{Verdict}
-use Rattle.growth.specs.Quick.{apartFromPairs}
-use Rattle.growth.proofs.Agreeing.{quick-answer-agrees, quick-set-answer-agrees}
+use Rattle.base.proofs.Prelude.{ℕ, _≡_, sym, ap, _∙_}
+use Rattle.rules.specs.{declared.Plan.Plan, declared.Verdict.Verdict}
+use Rattle.demand.specs.Quick.{apartFromPairs}
+use Rattle.demand.proofs.Agreeing.{quick-answer-agrees, quick-set-answer-agrees}
 use Rattle.verdict.proofs.verdict.Reads as verdict
 use Rattle.verdict.proofs.verdict_with.Reads as verdict-with
 use Rattle.verdict.proofs.quick.Reads as quick
 use Rattle.verdict.proofs.quick_with.Reads as quick-with
+use contract.Lifetimes.{Lfts}
 
 pub quick-as-verdict :
     (κs : Lfts 0) (p : Plan) (e f : _) (r s : Verdict) → quick.Learnt κs (p, tt) r e → verdict.Learnt κs (p, tt) s f

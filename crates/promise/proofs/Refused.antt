@@ -1,52 +1,40 @@
 -- Which number is given exactly when, of what the code answered: 9 and 12 of what writes a text, 3 at line 1 of what reads one version; and
 -- a page keeps every byte where the text is refused.
 --     κs the lifetimes of what is lent; a the arguments; e what holds at the return; r the answer
-use Prim.Native.Nat.{ℕ, _≤_}
-use mathlib.Core.Path.{_≡_, refl, sym, ap, _∙_}
-use mathlib.Core.Logic.{_↔_}
-use mathlib.Core.Bool.{Bool, true, _&&_}
-use mathlib.Core.List.{List}
-use native.Mathlib.Omega.{arith}
-use borrow.Author.Tests.{leb-true, le-leb}
-use lib.Dec.{leb}
-use lib.ListN.{length}
-use contract.Lifetimes.{Lfts}
+use Rattle.base.proofs.Prelude.{ℕ, _≤_, _≡_, refl, sym, ap, _∙_, _↔_, Bool, true, _&&_, List, arith, leb, length}
 use Rattle.days.specs.declared.Length.{Length}
-use Rattle.lists.specs.Count.{any}
-use Rattle.faults.specs.declared.Fault.the-variants.{NoRoom, CostsDiffer}
-use Rattle.faults.specs.declared.Checked.{Checked}
-use Rattle.faults.specs.declared.Checked.the-variants.{Lawful, Refused}
-use Rattle.faults.specs.Checks.{faultNumber, then, refuseIf}
+use Rattle.faults.specs.{declared.Fault.the-variants.{NoRoom, CostsDiffer}, declared.Checked.Checked, declared.Checked.the-variants.{Lawful, Refused}, Checks.{faultNumber, then, refuseIf, orRefused}}
 use Rattle.faults.proofs.Refusing.{Refusals, refusals-then, refusals-if}
-use Rattle.rules.specs.declared.Reading.{Reading}
-use Rattle.rules.specs.Layout.{hasField, version01, version02, Moving}
-use Rattle.rules.specs.Refusal.{runCheck}
-use Rattle.rules.specs.Text.{linesOf, readingIn, readingOf}
-use Rattle.rules.specs.Said.{refused, checkedSays, refused-with}
-use Rattle.laws.proofs.RefusedBy.{Numbered, Never, never-above, lawful-no-refusal, if-says, first-says, second-says}
-use Rattle.laws.proofs.RefusedBy.{runCheck-numbers, reading-numbers}
-use Rattle.writing.specs.declared.Saved.{Saved}
-use Rattle.writing.specs.Saved.{noRoom, onSaved, onPage, savedText, saveCheck, savedAnswer, savedPage, firstOther, costsCheck}
-use Rattle.writing.specs.Saved.{oldCheck, oldAnswer, oldPage}
-use Rattle.writing.specs.Said.{savedSays}
-use Rattle.turning.specs.Turned.{lineOf, alikeCheck, turnedText, turnCheck, turnedAnswer, turnedPage}
-use Rattle.tries.specs.declared.Missing.the-variants as missing
+use Rattle.rules.specs.{declared.Reading.Reading, Layout.{hasField, headerFrame, version01, version02, Common}, Refusal.runCheck, Text.{linesOf, readingIn, readingOf}, Said.{refused, checkedSays, refused-with}, Plan.withRun}
+use Rattle.laws.proofs.RefusedBy.{Numbered, Never, never-above, lawful-no-refusal, if-says, first-says, second-says, runCheck-numbers, reading-numbers}
+use Rattle.writing.specs.{declared.Saved.Saved, Saved.{noRoom, onPage, savedText, writableCheck, saveCheck, savedAnswer, savedPage, firstOther, alikeCheck}, Said.savedSays}
+use Rattle.turning.specs.Turned.{lineOf, turnedText, turnCheck, turnedAnswer, turnedPage}
 use Rattle.tries.specs.Tries.{missingAnswer}
-use Rattle.missing.specs.Missing.{withRun}
-use Rattle.missed.specs.declared.Missed.{Missed}
-use Rattle.missed.specs.Said.{missedSays}
+use Rattle.missed.specs.{declared.Missed.Missed, Said.missedSays}
 use Rattle.missed.proofs.OfText.{missed-nine}
-use Rattle.reading.proofs.read_old.Reads as read-old
-use Rattle.reading.proofs.read_new.Reads as read-new
-use Rattle.writing.proofs.write.Reads as write
-use Rattle.writing.proofs.write_old.Reads as write-old
-use Rattle.turning.proofs.to_new.Reads as to-new
-use Rattle.turning.proofs.to_old.Reads as to-old
-use Rattle.missed.proofs.miss.Reads as miss
 use Rattle.promise.specs.OtherVersion.{NoHeader}
 use Rattle.promise.proofs.OtherVersion.{three-exactly}
+use Rattle.writing.specs.declared.Saved.the-variants as saved
+use Rattle.tries.specs.declared.Missing.the-variants as missing
+use Rattle.reading.proofs.read_01.Reads as read-01
+use Rattle.reading.proofs.read_02.Reads as read-02
+use Rattle.writing.proofs.write.Reads as write
+use Rattle.writing.proofs.write_01.Reads as write-01
+use Rattle.turning.proofs.to_02.Reads as to-02
+use Rattle.turning.proofs.to_01.Reads as to-01
+use Rattle.missed.proofs.miss.Reads as miss
+use contract.Lifetimes.{Lfts}
 
 -- ---- A text put into a page after its checks
+
+-- what is answered: the refusal, or the length of the text
+abbrev onSaved : Checked → ℕ → Saved
+onSaved c len = orRefused saved.Refused c (saved.Text len)
+
+-- a chain of checks is one, wherever its brackets stand
+then-chain : (a b c : Checked) → then (then a b) c ≡ then a (then b c)
+then-chain Lawful b c = refl
+then-chain (Refused f at) b c = refl
 
 saved-says : (c : Checked) (len n k : ℕ) → (savedSays (onSaved c len) ≡ refused-with n k) ↔ (checkedSays c ≡ refused n k)
 saved-says Lawful len n k = (
@@ -136,8 +124,12 @@ module _ (κs : Lfts 1) (a : _) (e : _) (r : Saved) (did : write.Learnt κs a r 
   -- 9 with 0 exactly when the page has too little room for a lawful plan
   pub write-nine : (savedSays r ≡ refused-with 9 0)
       ↔ ((runCheck (a .0) (a .1 .0) ≡ Lawful) × (noRoom (a .1 .1 .0 .now) (a .1 .1 .1 .0) (savedText version02 (a .0) (a .1 .0)) ≡ true))
-  unfolding savedAnswer saveCheck
-  write-nine = rw (did .0) (nine (runCheck (a .0) (a .1 .0)) (runCheck-numbers (a .0) (a .1 .0)) _ _)
+  unfolding savedAnswer saveCheck writableCheck alikeCheck hasField
+  write-nine =
+      let run = runCheck (a .0) (a .1 .0) in
+      let text = savedText version02 (a .0) (a .1 .0) in
+      let full = noRoom (a .1 .1 .0 .now) (a .1 .1 .1 .0) text in
+      rw (did .0, then-chain run Lawful (refuseIf full NoRoom 0)) (nine run (runCheck-numbers (a .0) (a .1 .0)) full (length text))
 
   pub write-refusal-keeps : (n k : ℕ) → savedSays r ≡ refused-with n k → e .1 .1 .0 .now ≡ a .1 .1 .0 .now
   unfolding savedAnswer savedPage
@@ -145,131 +137,130 @@ module _ (κs : Lfts 1) (a : _) (e : _) (r : Saved) (did : write.Learnt κs a r 
       did .1 ∙ saved-keeps (saveCheck version02 (a .0) (a .1 .0) (a .1 .1 .0 .now) (a .1 .1 .1 .0)) _ n k (a .1 .1 .0 .now) _
       (sym (ap savedSays (did .0)) ∙ h)
 
--- ---- What `write_old` answered, of the same arguments
+-- ---- What `write_01` answered, of the same arguments
 
-module _ (κs : Lfts 1) (a : _) (e : _) (r : Saved) (did : write-old.Learnt κs a r e) where
+module _ (κs : Lfts 1) (a : _) (e : _) (r : Saved) (did : write-01.Learnt κs a r e) where
   -- 12 with a place exactly when the moving costs of a lawful plan differ, the place being the first whose cost is not that of place 1
-  pub write-old-twelve : (k : ℕ) → (savedSays r ≡ refused-with 12 k)
-      ↔ ((runCheck (a .0) (a .1 .0) ≡ Lawful) × (firstOther (a .0) ≤ a .0 .n) × (firstOther (a .0) ≡ k))
-  unfolding oldAnswer oldCheck costsCheck
-  write-old-twelve k =
+  pub write-01-twelve : (k : ℕ) → (savedSays r ≡ refused-with 12 k)
+      ↔ ((runCheck (a .0) (a .1 .0) ≡ Lawful) × (leb (firstOther (a .0)) (a .0 .n) ≡ true) × (firstOther (a .0) ≡ k))
+  unfolding savedAnswer saveCheck writableCheck alikeCheck hasField
+  write-01-twelve k =
+      let run = runCheck (a .0) (a .1 .0) in
       let text = savedText version01 (a .0) (a .1 .0) in
-      let exactly = twelve (runCheck (a .0) (a .1 .0)) (runCheck-numbers (a .0) (a .1 .0))
-      (noRoom (a .1 .1 .0 .now) (a .1 .1 .1 .0) text) (length text) (leb (firstOther (a .0)) (a .0 .n))
-      (firstOther (a .0)) k in
-      (λ h. told (exactly .0 (sym (ap savedSays (did .0)) ∙ h)), λ h. ap savedSays (did .0) ∙ exactly .1 (untold h))
-    where
-      told : (runCheck (a .0) (a .1 .0) ≡ Lawful) × (leb (firstOther (a .0)) (a .0 .n) ≡ true) × (firstOther (a .0) ≡ k)
-          → (runCheck (a .0) (a .1 .0) ≡ Lawful) × (firstOther (a .0) ≤ a .0 .n) × (firstOther (a .0) ≡ k)
-      told h = (h .0, leb-true _ _ (h .1), h .2)
-
-      untold : (runCheck (a .0) (a .1 .0) ≡ Lawful) × (firstOther (a .0) ≤ a .0 .n) × (firstOther (a .0) ≡ k)
-          → (runCheck (a .0) (a .1 .0) ≡ Lawful) × (leb (firstOther (a .0)) (a .0 .n) ≡ true) × (firstOther (a .0) ≡ k)
-      untold h = (h .0, le-leb _ _ (h .1), h .2)
+      let full = noRoom (a .1 .1 .0 .now) (a .1 .1 .1 .0) text in
+      let other = firstOther (a .0) in
+      let costs = refuseIf (leb other (a .0 .n)) CostsDiffer other in
+      rw (did .0, then-chain run costs (refuseIf full NoRoom 0))
+      (twelve run (runCheck-numbers (a .0) (a .1 .0)) full (length text) (leb other (a .0 .n)) other k)
 
   -- then 9 with 0 exactly when there is too little room
-  pub write-old-nine : (savedSays r ≡ refused-with 9 0)
-      ↔ ((runCheck (a .0) (a .1 .0) ≡ Lawful) × (costsCheck (a .0) ≡ Lawful)
+  pub write-01-nine : (savedSays r ≡ refused-with 9 0)
+      ↔ ((runCheck (a .0) (a .1 .0) ≡ Lawful) × (refuseIf (leb (firstOther (a .0)) (a .0 .n)) CostsDiffer (firstOther (a .0)) ≡ Lawful)
       × (noRoom (a .1 .1 .0 .now) (a .1 .1 .1 .0) (savedText version01 (a .0) (a .1 .0)) ≡ true))
-  unfolding oldAnswer oldCheck costsCheck
-  write-old-nine =
-      rw (did .0) (nine-after (runCheck (a .0) (a .1 .0)) (runCheck-numbers (a .0) (a .1 .0)) _ _
-      (leb (firstOther (a .0)) (a .0 .n)) (firstOther (a .0)))
+  unfolding savedAnswer saveCheck writableCheck alikeCheck hasField
+  write-01-nine =
+      let run = runCheck (a .0) (a .1 .0) in
+      let text = savedText version01 (a .0) (a .1 .0) in
+      let full = noRoom (a .1 .1 .0 .now) (a .1 .1 .1 .0) text in
+      let other = firstOther (a .0) in
+      let costs = refuseIf (leb other (a .0 .n)) CostsDiffer other in
+      rw (did .0, then-chain run costs (refuseIf full NoRoom 0))
+      (nine-after run (runCheck-numbers (a .0) (a .1 .0)) full (length text) (leb other (a .0 .n)) other)
 
-  pub write-old-refusal-keeps : (n k : ℕ) → savedSays r ≡ refused-with n k → e .1 .1 .0 .now ≡ a .1 .1 .0 .now
-  unfolding oldAnswer oldPage
-  write-old-refusal-keeps n k h =
-      did .1 ∙ saved-keeps (oldCheck (a .0) (a .1 .0) (a .1 .1 .0 .now) (a .1 .1 .1 .0)) _ n k (a .1 .1 .0 .now) _
+  pub write-01-refusal-keeps : (n k : ℕ) → savedSays r ≡ refused-with n k → e .1 .1 .0 .now ≡ a .1 .1 .0 .now
+  unfolding savedAnswer savedPage
+  write-01-refusal-keeps n k h =
+      did .1 ∙ saved-keeps (saveCheck version01 (a .0) (a .1 .0) (a .1 .1 .0 .now) (a .1 .1 .1 .0)) _ n k (a .1 .1 .0 .now) _
       (sym (ap savedSays (did .0)) ∙ h)
 
--- ---- What `read_old` and `read_new` answered: the argument is the text
+-- ---- What `read_01` and `read_02` answered: the argument is the text
 
 module _ (κs : Lfts 1) (a : _) (e : _) (r : Reading) where
   -- 3 at line 1 exactly when the first line of a text of lawful length is no header of the version
-  pub read-old-three : read-old.Learnt κs a r e
+  pub read-01-three : read-01.Learnt κs a r e
       → (checkedSays (r .checked) ≡ refused 3 1) ↔ ((length (a .0 .now) ≤ 65536) × NoHeader version01 (linesOf (a .0 .now)))
-  read-old-three did = rw (did .0) (three-exactly version01 (a .0 .now))
+  read-01-three did = rw (did .0) (three-exactly version01 (a .0 .now))
 
-  pub read-new-three : read-new.Learnt κs a r e
+  pub read-02-three : read-02.Learnt κs a r e
       → (checkedSays (r .checked) ≡ refused 3 1) ↔ ((length (a .0 .now) ≤ 65536) × NoHeader version02 (linesOf (a .0 .now)))
-  read-new-three did = rw (did .0) (three-exactly version02 (a .0 .now))
+  read-02-three did = rw (did .0) (three-exactly version02 (a .0 .now))
 
--- ---- What `to_new` and `to_old` answered: the arguments are the text, the page and the place
+-- ---- What `to_02` and `to_01` answered: the arguments are the text, the page and the place
 
-module _ (κs : Lfts 2) (a : _) (e : _) (r : Saved) (did : to-new.Learnt κs a r e) where
-  to-new-says : (n k : ℕ) → n ≤ 8 → (savedSays r ≡ refused-with n k)
+module _ (κs : Lfts 2) (a : _) (e : _) (r : Saved) (did : to-02.Learnt κs a r e) where
+  to-02-says : (n k : ℕ) → n ≤ 8 → (savedSays r ≡ refused-with n k)
       ↔ (checkedSays (readingIn version01 (a .0 .now) .checked) ≡ refused n k)
   unfolding turnedAnswer turnCheck alikeCheck
-  to-new-says n k few =
+  to-02-says n k few =
       let p = readingIn version01 (a .0 .now) .plan in
       let text = turnedText version01 version02 (a .0 .now) in
       rw (did .0) (early (readingIn version01 (a .0 .now) .checked) (reading-numbers version01 (a .0 .now))
       (noRoom (a .1 .0 .now) (a .1 .1 .0) text) (length text)
-      (hasField (version02 .header) Moving && leb (firstOther p) (p .n)) (lineOf (firstOther p)) n k few)
+      (hasField (headerFrame version02) Common && leb (firstOther p) (p .n)) (lineOf (firstOther p)) n k few)
 
   -- 3 at line 1 exactly for another version
-  pub to-new-three : (savedSays r ≡ refused-with 3 1) ↔ ((length (a .0 .now) ≤ 65536) × NoHeader version01 (linesOf (a .0 .now)))
-  to-new-three =
-      let says = to-new-says 3 1 (omega arith) in
+  pub to-02-three : (savedSays r ≡ refused-with 3 1) ↔ ((length (a .0 .now) ≤ 65536) × NoHeader version01 (linesOf (a .0 .now)))
+  to-02-three =
+      let says = to-02-says 3 1 (omega arith) in
       let exactly = three-exactly version01 (a .0 .now) in
       (λ h. exactly .0 (says .0 h), λ h. says .1 (exactly .1 h))
 
-  pub to-new-nine : (savedSays r ≡ refused-with 9 0)
+  pub to-02-nine : (savedSays r ≡ refused-with 9 0)
       ↔ ((readingIn version01 (a .0 .now) .checked ≡ Lawful)
       × (noRoom (a .1 .0 .now) (a .1 .1 .0) (turnedText version01 version02 (a .0 .now)) ≡ true))
-  unfolding turnedAnswer turnCheck alikeCheck hasField any
-  to-new-nine = rw (did .0) (nine (readingIn version01 (a .0 .now) .checked) (reading-numbers version01 (a .0 .now)) _ _)
+  unfolding turnedAnswer turnCheck alikeCheck hasField
+  to-02-nine = rw (did .0) (nine (readingIn version01 (a .0 .now) .checked) (reading-numbers version01 (a .0 .now)) _ _)
 
-  pub to-new-refusal-keeps : (n k : ℕ) → savedSays r ≡ refused-with n k → e .1 .0 .now ≡ a .1 .0 .now
+  pub to-02-refusal-keeps : (n k : ℕ) → savedSays r ≡ refused-with n k → e .1 .0 .now ≡ a .1 .0 .now
   unfolding turnedAnswer turnedPage
-  to-new-refusal-keeps n k h =
+  to-02-refusal-keeps n k h =
       did .1 .0 ∙ saved-keeps (turnCheck version01 version02 (a .0 .now) (a .1 .0 .now) (a .1 .1 .0)) _ n k (a .1 .0 .now) _
       (sym (ap savedSays (did .0)) ∙ h)
 
-module _ (κs : Lfts 2) (a : _) (e : _) (r : Saved) (did : to-old.Learnt κs a r e) where
+module _ (κs : Lfts 2) (a : _) (e : _) (r : Saved) (did : to-01.Learnt κs a r e) where
   abbrev costs-line : ℕ
   costs-line = lineOf (firstOther (readingIn version02 (a .0 .now) .plan))
 
   abbrev differ : Bool
   differ = leb (firstOther (readingIn version02 (a .0 .now) .plan)) (readingIn version02 (a .0 .now) .plan .n)
 
-  to-old-says : (n k : ℕ) → n ≤ 8 → (savedSays r ≡ refused-with n k)
+  to-01-says : (n k : ℕ) → n ≤ 8 → (savedSays r ≡ refused-with n k)
       ↔ (checkedSays (readingIn version02 (a .0 .now) .checked) ≡ refused n k)
   unfolding turnedAnswer turnCheck alikeCheck
-  to-old-says n k few =
+  to-01-says n k few =
       let text = turnedText version02 version01 (a .0 .now) in
       rw (did .0) (early (readingIn version02 (a .0 .now) .checked) (reading-numbers version02 (a .0 .now))
-      (noRoom (a .1 .0 .now) (a .1 .1 .0) text) (length text) (hasField (version01 .header) Moving && differ) costs-line n k few)
+      (noRoom (a .1 .0 .now) (a .1 .1 .0) text) (length text) (hasField (headerFrame version01) Common && differ) costs-line n k few)
 
   -- 3 at line 1 exactly for another version
-  pub to-old-three : (savedSays r ≡ refused-with 3 1) ↔ ((length (a .0 .now) ≤ 65536) × NoHeader version02 (linesOf (a .0 .now)))
-  to-old-three =
-      let says = to-old-says 3 1 (omega arith) in
+  pub to-01-three : (savedSays r ≡ refused-with 3 1) ↔ ((length (a .0 .now) ≤ 65536) × NoHeader version02 (linesOf (a .0 .now)))
+  to-01-three =
+      let says = to-01-says 3 1 (omega arith) in
       let exactly = three-exactly version02 (a .0 .now) in
       (λ h. exactly .0 (says .0 h), λ h. says .1 (exactly .1 h))
 
   -- 12 with a line exactly when the moving costs of a lawful text differ, the line being that of the first string whose cost is not that
   -- of place 1
-  pub to-old-twelve : (k : ℕ) → (savedSays r ≡ refused-with 12 k)
+  pub to-01-twelve : (k : ℕ) → (savedSays r ≡ refused-with 12 k)
       ↔ ((readingIn version02 (a .0 .now) .checked ≡ Lawful) × (differ ≡ true) × (costs-line ≡ k))
-  unfolding turnedAnswer turnCheck alikeCheck hasField any
-  to-old-twelve k =
+  unfolding turnedAnswer turnCheck alikeCheck hasField
+  to-01-twelve k =
       let text = turnedText version02 version01 (a .0 .now) in
       rw (did .0) (twelve (readingIn version02 (a .0 .now) .checked) (reading-numbers version02 (a .0 .now))
       (noRoom (a .1 .0 .now) (a .1 .1 .0) text) (length text) differ costs-line k)
 
   -- then 9 with 0 exactly when there is too little room
-  pub to-old-nine : (savedSays r ≡ refused-with 9 0)
+  pub to-01-nine : (savedSays r ≡ refused-with 9 0)
       ↔ ((readingIn version02 (a .0 .now) .checked ≡ Lawful) × (refuseIf differ CostsDiffer costs-line ≡ Lawful)
       × (noRoom (a .1 .0 .now) (a .1 .1 .0) (turnedText version02 version01 (a .0 .now)) ≡ true))
-  unfolding turnedAnswer turnCheck alikeCheck hasField any
-  to-old-nine =
+  unfolding turnedAnswer turnCheck alikeCheck hasField
+  to-01-nine =
       rw (did .0)
       (nine-after (readingIn version02 (a .0 .now) .checked) (reading-numbers version02 (a .0 .now)) _ _ differ costs-line)
 
-  pub to-old-refusal-keeps : (n k : ℕ) → savedSays r ≡ refused-with n k → e .1 .0 .now ≡ a .1 .0 .now
+  pub to-01-refusal-keeps : (n k : ℕ) → savedSays r ≡ refused-with n k → e .1 .0 .now ≡ a .1 .0 .now
   unfolding turnedAnswer turnedPage
-  to-old-refusal-keeps n k h =
+  to-01-refusal-keeps n k h =
       did .1 .0 ∙ saved-keeps (turnCheck version02 version01 (a .0 .now) (a .1 .0 .now) (a .1 .1 .0)) _ n k (a .1 .0 .now) _
       (sym (ap savedSays (did .0)) ∙ h)
 

@@ -1,40 +1,23 @@
 -- The wrong programs of document 01, "What the promises have to say": no program with such answers meets the contracts. A program is a
 -- function of its
 -- input; `after` is what it leaves at its return, and `meets` says that the function's own contract (`Learnt`) holds for every input.
-use Prim.Native.Nat.{ℕ, _≤_}
-use mathlib.Core.Path.{_≡_, refl, sym, ap, _∙_, subst}
-use mathlib.Core.List.{List, [], _∷_, map}
-use native.Mathlib.Omega.{arith}
-use lib.ListN.{length, getD}
-use contract.Lifetimes.{Lfts}
-use Rattle.faults.specs.declared.Checked.{Checked}
-use Rattle.faults.specs.declared.Checked.the-variants.{Lawful, Refused}
-use Rattle.rules.specs.declared.Plan.{Plan}
-use Rattle.rules.specs.declared.Releases.{Releases}
-use Rattle.rules.specs.declared.Reading.{Reading}
-use Rattle.rules.specs.declared.Verdict.{Verdict}
-use Rattle.rules.specs.declared.Assign.{Assign}
-use Rattle.rules.specs.declared.Outcome.{Outcome}
-use Rattle.rules.specs.declared.Answer.{Answer}
-use Rattle.rules.specs.declared.Answer.the-variants as answer-is
-use Rattle.rules.specs.Verdict.{allPairs, compared}
-use Rattle.rules.specs.Search.{withSet}
-use Rattle.rules.specs.Refusal.{onVerdict, onAssign, onOutcome, planCheck, setCheck, runCheck, verdictAnswer, setAnswer, searchAnswer, runAnswer}
-use Rattle.rules.specs.Text.{readingOf}
-use Rattle.rules.specs.Answer.{answered, answerOf}
-use Rattle.rules.specs.Said.{Said, lawful, fail, pass, takers, clean, checkedSays, verdictSays, assignSays, outcomeSays}
+use Rattle.base.proofs.Prelude.{ℕ, _≤_, _≡_, refl, sym, ap, _∙_, subst, List, [], _∷_, map, arith, length, getD}
+use Rattle.faults.specs.{declared.Checked.Checked, declared.Checked.the-variants.{Lawful, Refused}}
+use Rattle.rules.specs.{declared.Plan.Plan, declared.Releases.Releases, declared.Reading.Reading, declared.Verdict.Verdict, declared.Assign.Assign, declared.Outcome.Outcome, declared.Answer.Answer, Verdict.{allPairs, compared}, Search.withSet, Refusal.{onVerdict, onAssign, onOutcome, planCheck, setCheck, runCheck, verdictAnswer, setAnswer, searchAnswer, runAnswer}, Text.readingOf, Answer.{answered, answerOf}, Said.{Said, lawful, fail, pass, takers, clean, checkedSays, verdictSays, assignSays, outcomeSays}}
 use Rattle.rules.proofs.Worked.{table, row, release, releases, two, level, sample, worked}
-use Rattle.rules.proofs.Worked as page
 use Rattle.laws.proofs.Says.{says-lawful}
-use Rattle.sets.proofs.Permissions.{set-is-plan}
+use Rattle.demand.proofs.Permissions.{set-is-plan}
+use Rattle.promise.specs.Wrong.{Refuses, SaysPass, SaysFail, fails, overloads, WorksAtMost, misses, ends}
+use Rattle.promise.proofs.UserWords.{verdict-counts, verdict-fails}
+use Rattle.rules.specs.declared.Answer.the-variants as answer-is
+use Rattle.rules.proofs.Worked as page
 use Rattle.reading.proofs.read.Reads as read
 use Rattle.verdict.proofs.verdict.Reads as verdict
 use Rattle.verdict.proofs.verdict_with.Reads as verdict-with
 use Rattle.verdict.proofs.search.Reads as search-takers
 use Rattle.run.proofs.run.Reads as run
 use Rattle.answers.proofs.answer.Reads as answer
-use Rattle.promise.specs.Wrong.{Refuses, SaysPass, SaysFail, fails, overloads, WorksAtMost, misses, ends}
-use Rattle.promise.proofs.UserWords.{verdict-counts, verdict-fails}
+use contract.Lifetimes.{Lfts}
 
 -- ---- Rows of the worked table
 

@@ -1,37 +1,16 @@
 -- What a file's three lines can hold: an answer with three lines has no refusal among them. A refusal is the one line of a refused file.
-use Prim.Native.Nat.{ℕ}
-use mathlib.Core.Path.{_≡_, refl, sym, ap, _∙_, subst}
-use mathlib.Core.Option.{Option, none, some}
-use mathlib.Core.List.{List}
-use native.Mathlib.Omega.{arith}
-use lib.Dec.{leb}
-use lib.ListN.{length}
-use contract.Lifetimes.{Lfts}
-use Rattle.lists.specs.Count.{firstOf}
-use Rattle.lists.proofs.Lists.{by-bool}
+use Rattle.base.proofs.Prelude.{ℕ, _≡_, refl, sym, ap, _∙_, subst, Option, none, some, List, arith, leb, length}
+use Rattle.base.specs.Count.{firstOf}
+use Rattle.base.proofs.Lists.{by-bool}
 use Rattle.faults.specs.declared.Checked.the-variants.{Lawful}
 use Rattle.faults.proofs.Checks.{then-first}
-use Rattle.rules.specs.declared.Plan.{Plan}
-use Rattle.rules.specs.declared.Release.{Release}
-use Rattle.rules.specs.declared.Releases.{Releases}
-use Rattle.rules.specs.declared.Verdict.{Verdict}
-use Rattle.rules.specs.declared.Assign.{Assign}
-use Rattle.rules.specs.declared.Outcome.{Outcome}
-use Rattle.rules.specs.declared.Answer.{Answer}
-use Rattle.rules.specs.declared.Answer.the-variants.{Answered}
-use Rattle.rules.specs.Demand.{overloaded}
-use Rattle.rules.specs.Verdict.{Pair, allPairs, firstBroken, compared, judged, verdictOver, verdictOf}
-use Rattle.rules.specs.Search.{setPasses, ordered, assigned, searchOf}
-use Rattle.rules.specs.Release.{releasesOf}
-use Rattle.rules.specs.Run.{missDay, runOf}
-use Rattle.rules.specs.Refusal.{planCheck, runCheck, releasesCheck}
-use Rattle.rules.specs.Text.{readingOf}
-use Rattle.rules.specs.Said.{Said, overload, verdictSays, assignSays, outcomeSays}
+use Rattle.rules.specs.{declared.Plan.Plan, declared.Release.Release, declared.Releases.Releases, declared.Verdict.Verdict, declared.Assign.Assign, declared.Outcome.Outcome, declared.Answer.Answer, declared.Answer.the-variants.Answered, Demand.overloaded, Verdict.{Pair, allPairs, firstBroken, compared, judged, verdictOver, verdictOf}, Search.{setPasses, ordered, assigned, searchOf}, Release.releasesOf, Run.{missDay, runOf}, Refusal.{planCheck, runCheck, releasesCheck}, Text.readingOf, Said.{Said, overload, verdictSays, assignSays, outcomeSays}}
 use Rattle.laws.proofs.Answers.{verdict-lawful, search-lawful, run-lawful}
-use Rattle.answers.proofs.answer.Reads as answer
 use Rattle.promise.specs.Wrong.{Refuses}
-use Rattle.onetext.proofs.ReadLawful.{read-lawful}
-use Rattle.promise.proofs.NeverMisses.{Parts, answered-parts}
+use Rattle.roundtrip.proofs.ReadLawful.{read-lawful}
+use Rattle.promise.proofs.NeverMisses.{AnswerParts, answered-parts}
+use Rattle.answers.proofs.answer.Reads as answer
+use contract.Lifetimes.{Lfts}
 
 -- ---- What the rules answer is no refusal
 
@@ -85,7 +64,7 @@ runOf-answers p rs (n, (at, h)) =
 
 module _ (κs : Lfts 1) (lent : _) (e : _) (r : Answer) (answered : answer.Learnt κs lent r e) (v : Verdict) (a : Assign) (o : Outcome)
     (three : r ≡ Answered v a o) where
-  parts : Parts (lent .0 .now) v a o
+  parts : AnswerParts (lent .0 .now) v a o
   parts = answered-parts (lent .0 .now) v a o (sym (answered .0) ∙ three)
 
   plan-read : Plan

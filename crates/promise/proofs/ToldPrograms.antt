@@ -1,20 +1,13 @@
 -- Demand 3 of what a C program is told: where `desk_verdict` returned pass (1), `desk_run` never returns a miss (7) for the same numbers,
 -- whatever releases it is lent.
-use Prim.Native.Nat.{ℕ}
-use mathlib.Core.Path.{_≡_, refl, sym, ap, _∙_}
-use mathlib.Core.List.{List}
-use native.Mathlib.Omega.{arith}
-use contract.Lifetimes.{Lfts}
-use lib.Dec.{ltb}
-use lib.ListN.{length}
-use Rattle.lists.proofs.Lists.{by-bool}
-use Rattle.rules.specs.Refusal.{verdictAnswer, runAnswer}
-use Rattle.rules.specs.Said.{Said, lawful, refused, overload, fail, pass, takers, none, miss, clean, verdictSays, outcomeSays}
-use Rattle.entries.specs.Given.{planGiven, releasesGiven}
-use Rattle.entries.specs.Told.{rowOf, kindTold}
+use Rattle.base.proofs.Prelude.{ℕ, _≡_, refl, sym, ap, _∙_, List, arith, ltb, length}
+use Rattle.base.proofs.Lists.{by-bool}
+use Rattle.rules.specs.{Refusal.{verdictAnswer, runAnswer}, Said.{Said, lawful, refused, overload, fail, pass, takers, none, miss, clean, verdictSays, outcomeSays}}
+use Rattle.entries.specs.{Given.{planGiven, releasesGiven}, Told.{rowOf, kindTold}}
+use Rattle.promise.proofs.NeverMisses.{pass-never-misses}
 use Rattle.entries.proofs.desk_verdict.Reads as desk-verdict
 use Rattle.entries.proofs.desk_run.Reads as desk-run
-use Rattle.promise.proofs.NeverMisses.{pass-never-misses}
+use contract.Lifetimes.{Lfts}
 
 -- a kind that is not 9 is that of what was said
 said-kind : (s : Said) (places : List ℕ) (kind : ℕ) → (kind ≡ 9 → ⊥) → kind ≡ kindTold (rowOf s) places → rowOf s .kind ≡ kind

@@ -6,50 +6,25 @@
 --     it says fail exactly with the first break, the demand there and the pairs compared
 --     the search says a set exactly if it is the best one, and none exactly if the plan passes with none of the 2^n sets; X plays no part
 --     the days of a clean run count its history, and their sum is N
-use Prim.Native.Nat.{ℕ, _+_, _^_, _<_}
-use mathlib.Core.Path.{_≡_, sym, ap, _∙_}
-use mathlib.Core.Logic.{_↔_}
-use mathlib.Core.Bool.{Bool, true, false}
-use native.Mathlib.Omega.{arith}
-use lib.ListN.{length}
-use contract.Lifetimes.{Lfts}
-use Rattle.lists.specs.Count.{countOf}
-use Rattle.lists.proofs.Lists.{by-bool, true-not-false}
+use Rattle.base.proofs.Prelude.{ℕ, _+_, _^_, _<_, _≡_, sym, ap, _∙_, _↔_, Bool, true, false, arith, length}
+use Rattle.base.specs.Count.{countOf}
+use Rattle.base.proofs.Lists.{by-bool, true-not-false}
 use Rattle.days.specs.Days.{days}
-use Rattle.faults.specs.declared.Checked.{Checked}
-use Rattle.faults.specs.declared.Checked.the-variants.{Lawful, Refused}
-use Rattle.rules.specs.declared.Plan.{Plan}
-use Rattle.rules.specs.declared.Release.{Release}
-use Rattle.rules.specs.declared.Releases.{Releases}
-use Rattle.rules.specs.declared.Use.{Use}
-use Rattle.rules.specs.declared.Verdict.{Verdict}
-use Rattle.rules.specs.declared.Verdict.the-variants as verdict-is
-use Rattle.rules.specs.declared.Assign.{Assign}
-use Rattle.rules.specs.declared.Outcome.{Outcome}
-use Rattle.rules.specs.declared.Outcome.the-variants as outcome-is
-use Rattle.rules.specs.Demand.{Passes, demand, overloaded}
-use Rattle.rules.specs.Verdict.{allPairs, compared, isPass}
-use Rattle.rules.specs.Search.{withSet, setPasses}
-use Rattle.rules.specs.Release.{releasesOf}
-use Rattle.rules.specs.Run.{history, daysOf, isWork, isMove, isIdle, missDay, runOf}
-use Rattle.rules.specs.Refusal.{planCheck, setCheck, runCheck, verdictAnswer, setAnswer, runAnswer}
-use Rattle.rules.specs.Said.{overload, fail, pass, takers, none, clean, verdictSays, assignSays, outcomeSays}
-use Rattle.laws.proofs.Lawful.{planCheck-lawful}
-use Rattle.laws.proofs.LawfulChecked.{lawful-checked}
-use Rattle.laws.proofs.Answers.{verdict-lawful, set-plan, search-lawful, run-lawful, run-refused}
-use Rattle.laws.proofs.Says.{says-pass, says-overload, says-fail, says-takers, says-none, says-clean}
-use Rattle.horizon.specs.FirstBreak.{FirstBreak}
-use Rattle.horizon.proofs.Sets.{withSet-lawful}
-use Rattle.horizon.proofs.Verdict.{pass-exactly, pass-count, overload-exactly, fail-names, fail-not-overloaded, break-fails}
-use Rattle.sets.specs.BestSet.{BestSet}
-use Rattle.sets.proofs.Search.{setPasses-exactly, Best, best-of-search, search-of-best, none-of-nobody, nobody-of-none}
-use Rattle.sets.proofs.Permissions.{set-is-plan, search-blind-to-x}
-use Rattle.laws.proofs.History.{kinds-add-up}
+use Rattle.faults.specs.{declared.Checked.Checked, declared.Checked.the-variants.{Lawful, Refused}}
+use Rattle.rules.specs.{declared.Plan.Plan, declared.Release.Release, declared.Releases.Releases, declared.Use.Use, declared.Verdict.Verdict, declared.Assign.Assign, declared.Outcome.Outcome, Demand.{Passes, demand, overloaded}, Verdict.{allPairs, compared, isPass}, Search.{withSet, setPasses}, Release.releasesOf, Run.{history, daysOf, isWork, isMove, isIdle, missDay, runOf}, Refusal.{planCheck, setCheck, runCheck, verdictAnswer, setAnswer, runAnswer}, Said.{overload, fail, pass, takers, none, clean, verdictSays, assignSays, outcomeSays}}
+use Rattle.laws.proofs.{Lawful.planCheck-lawful, LawfulChecked.lawful-checked, Answers.{verdict-lawful, set-plan, search-lawful, run-lawful, run-refused}, Says.{says-pass, says-overload, says-fail, says-takers, says-none, says-clean}, History.kinds-add-up}
+use Rattle.demand.specs.FirstBreak.{FirstBreak}
+use Rattle.demand.proofs.{Sets.withSet-lawful, Verdict.{pass-exactly, pass-count, overload-exactly, fail-names, fail-not-overloaded, break-fails}}
+use Rattle.demand.specs.BestSet.{BestSet}
+use Rattle.demand.proofs.{Search.{setPasses-exactly, Best, best-of-search, search-of-best, none-of-nobody, nobody-of-none}, Permissions.{set-is-plan, search-blind-to-x}}
 use Rattle.sound.proofs.CleanAnswer.{answer-clean-days}
+use Rattle.rules.specs.declared.Verdict.the-variants as verdict-is
+use Rattle.rules.specs.declared.Outcome.the-variants as outcome-is
 use Rattle.verdict.proofs.verdict.Reads as verdict
 use Rattle.verdict.proofs.verdict_with.Reads as verdict-with
 use Rattle.verdict.proofs.search.Reads as search-takers
 use Rattle.run.proofs.run.Reads as run
+use contract.Lifetimes.{Lfts}
 
 -- ---- The verdict
 
@@ -81,7 +56,7 @@ module _ (p : Plan) (ok : planCheck p ≡ Lawful) where
             let fails = sym same ∙ says-fail (verdictAnswer p) l b d k h in
             let named = fail-names p (days l) (days b) (days d) k fails in
             (fail-not-overloaded p (days l) (days b) (days d) k fails, named .0, ap (λ n. n .0) (named .1), named .2),
-        λ h. ap verdictSays (same ∙ break-fails p l b (h .0) (h .1)) ∙ rw (h .2, h .3),
+        λ h. ap verdictSays (same ∙ break-fails p (planCheck-lawful p ok) l b (h .0) (h .1)) ∙ rw (h .2, h .3),
       )
 
 module _ (κs : Lfts 0) (p : Plan) (e : _) (v : Verdict) (answered : verdict.Learnt κs (p, tt) v e) (ok : planCheck p ≡ Lawful) where
@@ -90,10 +65,10 @@ module _ (κs : Lfts 0) (p : Plan) (e : _) (v : Verdict) (answered : verdict.Lea
 
   -- a pass has that count and no other
   pub verdict-counts : (k : ℕ) → verdictSays v ≡ pass k → k ≡ length (allPairs p)
-  verdict-counts k h = counted (ap verdictSays (sym answered) ∙ h)
+  verdict-counts k h = daysWith (ap verdictSays (sym answered) ∙ h)
     where
-      counted : verdictSays (verdictAnswer p) ≡ pass k → k ≡ length (allPairs p)
-      counted says = unfold isPass in
+      daysWith : verdictSays (verdictAnswer p) ≡ pass k → k ≡ length (allPairs p)
+      daysWith says = unfold isPass in
           let is = sym (verdict-lawful p ok) ∙ says-pass (verdictAnswer p) k says in
           let all = sym is ∙ pass-count p (ap isPass is) in
           cc
@@ -168,14 +143,14 @@ module _ (κs : Lfts 0) (p : Plan) (e : _) (a : Assign) (answered : search-taker
 module _ (κs : Lfts 0) (p : Plan) (rs : Releases) (e : _) (o : Outcome) (answered : run.Learnt κs (p, (rs, tt)) o e) (w m i : ℕ)
     (said : outcomeSays o ≡ clean w m i) where
   -- how many days of the run's history are of a kind
-  abbrev pub counted : (Use → Bool) → ℕ
-  counted kind = countOf kind (history p (releasesOf rs) (p .run .0))
+  abbrev pub daysWith : (Use → Bool) → ℕ
+  daysWith kind = countOf kind (history p (releasesOf rs) (p .run .0))
 
   days-are : outcome-is.Clean (daysOf p (releasesOf rs) isWork) (daysOf p (releasesOf rs) isMove) (daysOf p (releasesOf rs) isIdle)
       ≡ outcome-is.Clean (days w) (days m) (days i)
   days-are = answer-clean-days p (days w) (days m) (days i) rs (sym answered ∙ says-clean o w m i said)
 
-  pub clean-counts : (w ≡ counted isWork) × (m ≡ counted isMove) × (i ≡ counted isIdle)
+  pub clean-counts : (w ≡ daysWith isWork) × (m ≡ daysWith isMove) × (i ≡ daysWith isIdle)
   unfolding daysOf
   clean-counts =
       let same = ap outcomeSays days-are in

@@ -6,14 +6,14 @@ use mathlib.Core.Bool.{Bool, true, false, _&&_}
 use mathlib.Core.List.{List, [], _∷_}
 use lib.Dec.{eqb}
 use lib.ListN.{length}
-use Rattle.rules.specs.Layout.{Frames, frameSize, kindIn, Version}
+use Rattle.rules.specs.Layout.{Version, frameSize, kindIn, headerFrame, Number}
 use Rattle.rules.specs.Text.{Line, wellFormed, frameOf, fieldOf}
 
-unfoldable pub headed : Frames → Line → Bool
+unfoldable pub headed : Version → Line → Bool
 headed v line =
-    (eqb (length (frameOf line)) (frameSize (v .header)) && eqb (kindIn (frameOf line)) (v .header .kind))
-    && eqb (fieldOf (v .header) Version line) (v .version)
+    (eqb (length (frameOf line)) (frameSize (headerFrame v)) && eqb (kindIn (frameOf line)) (headerFrame v .kind))
+    && eqb (fieldOf (headerFrame v) Number line) (v .number)
 
-abbrev pub NoHeader : Frames → List Line → Type 0
+abbrev pub NoHeader : Version → List Line → Type 0
 NoHeader v [] = Unit {0}
 NoHeader v (line ∷ lines) = (wellFormed line ≡ true) × (headed v line ≡ false)

@@ -1,24 +1,12 @@
 -- Which version a text is held to: the one that its first line names in its digits 3 and 4. A first line that is malformed is refused
 -- alike in all versions.
-use Prim.Native.Nat.{ℕ, _/_, _≤_, _<_}
-use mathlib.Core.Path.{_≡_, refl, sym, ap, _∙_}
-use mathlib.Core.Bool.{true, false}
-use mathlib.Core.List.{List, [], _∷_}
-use native.Mathlib.Omega.{arith}
-use native.Mathlib.Decide.{decLe}
-use native.Mathlib.Nat.{not-suc-le-zero, le-of-suc-le-suc}
-use borrow.Author.Tests.{eq-eqb, ne-eqb}
-use lib.ListN.{length}
-use Rattle.faults.specs.declared.Fault.the-variants.{LineMalformed}
-use Rattle.faults.specs.declared.Checked.the-variants.{Refused}
+use Rattle.base.proofs.Prelude.{ℕ, _/_, _≤_, _<_, _≡_, refl, sym, ap, _∙_, true, false, List, [], _∷_, arith, decLe, not-suc-le-zero, le-of-suc-le-suc, length}
+use Rattle.faults.specs.{declared.Fault.the-variants.LineMalformed, declared.Checked.the-variants.Refused}
 use Rattle.faults.proofs.Checks.{then-refused}
-use Rattle.lists.proofs.Lists.{by-bool}
-use Rattle.rules.specs.Layout.{Frames, frameSize, numberFrom, versionIn, version01, version02, framesFor}
-use Rattle.rules.specs.Text.{linesOf, wellFormed, frameOf, headerCheck, readingIn, framesOf, readingOf}
-use Rattle.reading.specs.Positions.{digitsAhead, lineAt, Frame, numberIn}
-use Rattle.reading.proofs.Lines.{formed-is}
-use Rattle.reading.proofs.Framing.{check-malformed, formed-frame, frame-next, frame-length, frame-number}
-use Rattle.reading.proofs.Whole.{read-long, read-empty, read-refused}
+use Rattle.base.proofs.Lists.{by-bool}
+use Rattle.rules.specs.{Layout.{Version, frameSize, numberFrom, versionIn, version01, heldTo, headerFrame}, Text.{linesOf, wellFormed, frameOf, headerCheck, readingIn, versionOf, readingOf}}
+use Rattle.reading.specs.inner.Positions.{digitsAhead, lineAt, Frame, numberIn}
+use Rattle.reading.proofs.{Lines.formed-is, Framing.{check-malformed, formed-frame, frame-next, frame-length, frame-number}, Whole.{read-long, read-empty, read-refused}}
 
 -- a frame of one byte names no version
 no-version : (frame : List ℕ) → length frame ≤ 1 → versionIn frame ≡ 0
@@ -29,11 +17,11 @@ no-version (b ∷ c ∷ rest) h = absurd (not-suc-le-zero (le-of-suc-le-suc h))
 
 module _ (text : List ℕ) where
   module _ (bad : wellFormed (lineAt text 0) ≡ false) where
-    header-bad : (v : Frames) → headerCheck v (lineAt text 0) ≡ Refused LineMalformed 1
+    header-bad : (v : Version) → headerCheck v (lineAt text 0) ≡ Refused LineMalformed 1
     unfolding headerCheck
-    header-bad v = then-refused _ _ _ _ (check-malformed text 0 1 (v .header .kind) (frameSize (v .header)) bad)
+    header-bad v = then-refused _ _ _ _ (check-malformed text 0 1 (headerFrame v .kind) (frameSize (headerFrame v)) bad)
 
-    malformed-alike : (v w : Frames) → readingIn v text ≡ readingIn w text
+    malformed-alike : (v w : Version) → readingIn v text ≡ readingIn w text
     malformed-alike v w =
         elim (decLe (length text) 65536) [
           | yes fits ↦
@@ -50,40 +38,27 @@ module _ (text : List ℕ) where
   framed : wellFormed (lineAt text 0) ≡ true → Frame text 0 (digitsAhead text / 2)
   framed t = formed-frame text 0 (digitsAhead text / 2) (formed-is text 0 t) refl
 
-  held : wellFormed (lineAt text 0) ≡ true → framesOf (linesOf text) ≡ framesFor (versionIn (frameOf (lineAt text 0)))
-  unfolding framesOf
+  held : wellFormed (lineAt text 0) ≡ true → versionOf (linesOf text) ≡ heldTo (versionIn (frameOf (lineAt text 0)))
+  unfolding versionOf
   held t = rw (frame-next text 0 (digitsAhead text / 2) (framed t))
 
   -- held to a version that is known of a first line that is a frame
-  choose : (v : Frames) → (wellFormed (lineAt text 0) ≡ true → framesOf (linesOf text) ≡ v) → readingOf text ≡ readingIn v text
+  choose : (v : Version) → (wellFormed (lineAt text 0) ≡ true → versionOf (linesOf text) ≡ v) → readingOf text ≡ readingIn v text
   unfolding readingOf
   choose v good =
       by-bool (wellFormed (lineAt text 0)) (λ t. ap (λ w. readingIn w text) (good t))
-      (λ bad. malformed-alike bad (framesOf (linesOf text)) v)
+      (λ bad. malformed-alike bad (versionOf (linesOf text)) v)
 
   pub held-short : digitsAhead text < 4 → readingOf text ≡ readingIn version01 text
-  unfolding framesFor
-  held-short few = choose version01 old
+  unfolding heldTo
+  held-short few = choose version01 short
     where
-      old : wellFormed (lineAt text 0) ≡ true → framesOf (linesOf text) ≡ version01
-      old t =
+      short : wellFormed (lineAt text 0) ≡ true → versionOf (linesOf text) ≡ version01
+      short t =
           let one = frame-length text 0 (digitsAhead text / 2) (framed t) in
-          held t ∙ ap framesFor (no-version (frameOf (lineAt text 0)) (omega arith))
+          held t ∙ ap heldTo (no-version (frameOf (lineAt text 0)) (omega arith))
 
-  module _ (long : 4 ≤ digitsAhead text) where
-    named : wellFormed (lineAt text 0) ≡ true → framesOf (linesOf text) ≡ framesFor (numberIn text 0 1 1)
-    named t = held t ∙ ap framesFor (frame-number text 0 (digitsAhead text / 2) (framed t) 1 1 (omega arith))
-
-    pub held-new : numberIn text 0 1 1 ≡ 2 → readingOf text ≡ readingIn version02 text
-    unfolding framesFor
-    held-new two = choose version02 new
-      where
-        new : wellFormed (lineAt text 0) ≡ true → framesOf (linesOf text) ≡ version02
-        new t = named t ∙ rw (eq-eqb (numberIn text 0 1 1) 2 two)
-
-    pub held-old : (numberIn text 0 1 1 ≡ 2 → ⊥) → readingOf text ≡ readingIn version01 text
-    unfolding framesFor
-    held-old other = choose version01 old
-      where
-        old : wellFormed (lineAt text 0) ≡ true → framesOf (linesOf text) ≡ version01
-        old t = named t ∙ rw (ne-eqb (numberIn text 0 1 1) 2 other)
+  pub held-named : 4 ≤ digitsAhead text → readingOf text ≡ readingIn (heldTo (numberIn text 0 1 1)) text
+  held-named long =
+      choose (heldTo (numberIn text 0 1 1))
+      (λ t. held t ∙ ap heldTo (frame-number text 0 (digitsAhead text / 2) (framed t) 1 1 (omega arith)))

@@ -1,51 +1,43 @@
 -- The fields of a frame, by positions of the text.
-use Prim.Native.Nat.{ℕ, zero, suc, _+_, _*_, _^_, _≤_, _<_}
-use mathlib.Core.Path.{_≡_, refl, ap, _∙_}
-use mathlib.Core.List.{List, [], _∷_, _++_}
-use native.Mathlib.Omega.{arith}
-use native.Mathlib.Numerals.{add-one}
-use native.Mathlib.Nat.{not-suc-le-zero, pow-suc, pow-le-pow-right}
-use lib.Dec.{eqb}
-use lib.ListN.{length, take, drop, getD, length-drop}
-use lib.Seq.{drop-drop, getD-drop, take-suc}
-use Rattle.lists.proofs.Lists.{by-bool}
-use Rattle.rules.specs.Layout.{Field, Sized, Layout, fieldNumber, sizeOf, frameSize, numberFrom, numberOf, fieldAmong, fieldIn}
-use Rattle.rules.specs.Text.{pairsOf, frameOf, fieldOf}
-use Rattle.layouts.specs.Versions.{offsetAmong, sizeAmong, offsetIn, sizeIn}
-use Rattle.reading.specs.Positions.{digitsAhead, lineAt, Frame, byteIn, numberIn}
-use Rattle.reading.proofs.Hex.{ahead-inside, ahead-digit}
-use Rattle.reading.proofs.Framing.{twice-more, frame-number}
+use Rattle.base.proofs.Prelude.{ℕ, zero, suc, _+_, _*_, _^_, _≤_, _<_, _≡_, refl, ap, _∙_, List, [], _∷_, _++_, arith, add-one, not-suc-le-zero, pow-suc, eqb, length, take, drop, getD, length-drop, drop-drop, getD-drop, take-suc}
+use native.Mathlib.Nat.{pow-le-pow-right}
+use Rattle.base.proofs.Lists.{by-bool}
+use Rattle.rules.specs.{Layout.{Layout, sizeOf, frameSize, numberFrom, numberOf, fieldAmong, fieldIn}, Text.{hexBytes, frameOf, fieldOf}}
+use Rattle.layouts.specs.inner.Versions.{offsetAmong, sizeAmong, offsetIn, sizeIn}
+use Rattle.reading.specs.inner.Positions.{digitsAhead, lineAt, Frame, byteIn, numberIn}
+use Rattle.reading.proofs.{Hex.{ahead-inside, ahead-digit}, Framing.{twice-more, frame-number}}
 
 -- ---- Where a field stands
 
-among-is : (fields : List Sized) (f : Field) (k : ℕ) (bytes : List ℕ)
-    → fieldAmong fields f (drop k bytes) ≡ numberOf (take (sizeAmong fields f) (drop (k + offsetAmong fields f) bytes))
-unfolding fieldAmong numberFrom
-among-is [] f k bytes = refl
-among-is (s ∷ rest) f k bytes =
-    by-bool (eqb (fieldNumber (s .field)) (fieldNumber f))
-    (λ t.
-    let here : k + 0 ≡ k = omega arith in
-    rw (t, here))
-    (λ e.
-    let there : k + s .size + offsetAmong rest f ≡ k + (s .size + offsetAmong rest f) = omega arith in
-    rw (e, drop-drop (s .size) k bytes) (among-is rest f (k + s .size) bytes ∙ rw there))
+module _ {F : Type 0} (l : Layout F) (f : F) where
+  among-is : (fields : List F) (k : ℕ) (bytes : List ℕ)
+      → fieldAmong l fields f (drop k bytes) ≡ numberOf (take (sizeAmong l fields f) (drop (k + offsetAmong l fields f) bytes))
+  unfolding fieldAmong numberFrom
+  among-is [] k bytes = refl
+  among-is (g ∷ rest) k bytes =
+      by-bool (eqb (l .rank g) (l .rank f))
+      (λ t.
+      let here : k + 0 ≡ k = omega arith in
+      rw (t, here))
+      (λ e.
+      let there : k + l .size g + offsetAmong l rest f ≡ k + (l .size g + offsetAmong l rest f) = omega arith in
+      rw (e, drop-drop (l .size g) k bytes) (among-is rest (k + l .size g) bytes ∙ rw there))
 
-among-fits : (fields : List Sized) (f : Field) → offsetAmong fields f + sizeAmong fields f ≤ sizeOf fields
-among-fits [] f = omega arith
-among-fits (s ∷ rest) f =
-    let later = among-fits rest f in
-    by-bool (eqb (fieldNumber (s .field)) (fieldNumber f)) (λ t. rw t (omega arith)) (λ e. rw e (omega arith))
+  among-fits : (fields : List F) → offsetAmong l fields f + sizeAmong l fields f ≤ sizeOf (l .size) fields
+  among-fits [] = omega arith
+  among-fits (g ∷ rest) =
+      let later = among-fits rest in
+      by-bool (eqb (l .rank g) (l .rank f)) (λ t. rw t (omega arith)) (λ e. rw e (omega arith))
 
-pub field-fits : (l : Layout) (f : Field) → offsetIn l f + sizeIn l f ≤ frameSize l
-field-fits l f = omega (arith, among-fits (l .fields) f)
+  pub field-fits : offsetIn l f + sizeIn l f ≤ frameSize l
+  field-fits = omega (arith, among-fits (l .fields))
 
-pub field-is : (text : List ℕ) (at : ℕ) (l : Layout) (f : Field) → Frame text at (frameSize l)
-    → fieldOf l f (lineAt text at) ≡ numberIn text at (offsetIn l f) (sizeIn l f)
-unfolding fieldOf fieldIn
-field-is text at l f frame =
-    among-is (l .fields) f 1 (frameOf (lineAt text at))
-    ∙ frame-number text at (frameSize l) frame (offsetIn l f) (sizeIn l f) (field-fits l f)
+  pub field-is : (text : List ℕ) (at : ℕ) → Frame text at (frameSize l)
+      → fieldOf l f (lineAt text at) ≡ numberIn text at (offsetIn l f) (sizeIn l f)
+  unfolding fieldOf fieldIn
+  field-is text at frame =
+      among-is (l .fields) 1 (frameOf (lineAt text at))
+      ∙ frame-number text at (frameSize l) frame (offsetIn l f) (sizeIn l f) field-fits
 
 -- ---- Its number, one byte after the other
 
@@ -54,8 +46,8 @@ unfolding numberFrom
 numberFrom-snoc v [] b = refl
 numberFrom-snoc v (x ∷ xs) b = numberFrom-snoc (v * 256 + x) xs b
 
-pairsOf-at : (xs : List ℕ) (k : ℕ) → k * 2 + 1 < length xs → (k < length (pairsOf xs)) × (getD (pairsOf xs) k 0 ≡ byteIn xs (k * 2))
-unfolding pairsOf
+pairsOf-at : (xs : List ℕ) (k : ℕ) → k * 2 + 1 < length xs → (k < length (hexBytes xs)) × (getD (hexBytes xs) k 0 ≡ byteIn xs (k * 2))
+unfolding hexBytes
 pairsOf-at [] k h = absurd (not-suc-le-zero h)
 pairsOf-at (high ∷ []) k h = absurd (omega arith)
 pairsOf-at (high ∷ low ∷ xs) zero h = (omega arith, refl)
@@ -73,7 +65,7 @@ module _ (text : List ℕ) (at k : ℕ) where
     pub number-next : numberIn text at k (i + 1) ≡ numberIn text at k i * 256 + byteIn text (at + (k + i) * 2)
     unfolding numberIn
     number-next =
-        let bytes = pairsOf (drop at text) in
+        let bytes = hexBytes (drop at text) in
         let inside = ahead-inside text at ((k + i) * 2 + 1) h in
         let there = pairsOf-at (drop at text) (k + i) (omega (arith, length-drop at text)) in
         let long : i < length (drop k bytes) = omega (arith, there .0, length-drop k bytes) in

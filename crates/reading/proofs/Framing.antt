@@ -1,28 +1,16 @@
 -- A line as a frame: what stands from a position on decides `frameCheck`, and a frame that is not refused stands where it should.
-use Prim.Native.Nat.{ℕ, zero, suc, _+_, _*_, _/_, _≤_}
-use mathlib.Core.Path.{_≡_, refl, sym, ap, _∙_}
-use mathlib.Core.Bool.{false, not, _&&_}
-use mathlib.Core.List.{List, [], _∷_}
-use native.Mathlib.Omega.{arith}
-use borrow.Author.Tests.{eq-eqb, ne-eqb, eqb-true, not-false}
-use lib.Dec.{eqb}
-use lib.ListN.{length, take, drop, length-drop}
-use lib.Seq.{length-take-le}
-use Rattle.faults.specs.declared.Fault.the-variants.{LineMalformed, FrameWrong}
-use Rattle.faults.specs.declared.Checked.the-variants.{Lawful, Refused}
-use Rattle.faults.specs.Checks.{refuseIf}
+use Rattle.base.proofs.Prelude.{ℕ, zero, suc, _+_, _*_, _/_, _≤_, _≡_, refl, sym, ap, _∙_, false, not, _&&_, List, [], _∷_, arith, eq-eqb, ne-eqb, eqb-true, not-false, eqb, length, take, drop, length-drop, length-take-le}
+use Rattle.faults.specs.{declared.Fault.the-variants.{LineMalformed, FrameWrong}, declared.Checked.the-variants.{Lawful, Refused}, Checks.refuseIf}
 use Rattle.faults.proofs.Checks.{then-first, then-second, refuseIf-not}
-use Rattle.lists.proofs.Lists.{and-left}
-use Rattle.lists.proofs.Parts.{take-drop-take}
-use Rattle.rules.specs.Layout.{lineLength, numberOf, kindIn}
-use Rattle.rules.specs.Text.{wellFormed, pairsOf, frameOf, frameCheck}
-use Rattle.reading.specs.Positions.{digitsAhead, linesFrom, lineAt, Frame, numberIn}
+use Rattle.base.proofs.{Lists.and-left, Parts.take-drop-take}
+use Rattle.rules.specs.{Layout.{lineLength, numberOf, kindIn}, Text.{wellFormed, hexBytes, frameOf, frameCheck}}
+use Rattle.reading.specs.inner.Positions.{digitsAhead, linesFrom, lineAt, Frame, numberIn}
 use Rattle.reading.proofs.Lines.{Formed, lines-next, formed-yes, formed-is}
 
 -- ---- Bytes of digits
 
-pairsOf-length : (xs : List ℕ) → length (pairsOf xs) ≡ length xs / 2
-unfolding pairsOf
+pairsOf-length : (xs : List ℕ) → length (hexBytes xs) ≡ length xs / 2
+unfolding hexBytes
 pairsOf-length [] = refl
 pairsOf-length (high ∷ []) = refl
 pairsOf-length (high ∷ low ∷ xs) =
@@ -32,8 +20,8 @@ pairsOf-length (high ∷ low ∷ xs) =
 pub twice-more : (k : ℕ) → suc k * 2 ≡ suc (suc (k * 2))
 twice-more k = omega arith
 
-pairsOf-take : (size : ℕ) (xs : List ℕ) → pairsOf (take (size * 2) xs) ≡ take size (pairsOf xs)
-unfolding pairsOf
+pairsOf-take : (size : ℕ) (xs : List ℕ) → hexBytes (take (size * 2) xs) ≡ take size (hexBytes xs)
+unfolding hexBytes
 pairsOf-take zero xs = refl
 pairsOf-take (suc size) [] = rw (twice-more size)
 pairsOf-take (suc size) (high ∷ []) = rw (twice-more size)
@@ -48,7 +36,7 @@ module _ (text : List ℕ) (at size : ℕ) (f : Frame text at size) where
       let next = lines-next text at (rw (f .digits) (f .inside)) (rw (f .digits) (f .newline)) in
       next ∙ rw (next, f .digits)
 
-  frame-bytes : frameOf (lineAt text at) ≡ take size (pairsOf (drop at text))
+  frame-bytes : frameOf (lineAt text at) ≡ take size (hexBytes (drop at text))
   unfolding lineAt frameOf
   frame-bytes =
       rw (lines-next text at (rw (f .digits) (f .inside)) (rw (f .digits) (f .newline)), f .digits) (pairsOf-take size (drop at text))
@@ -56,12 +44,12 @@ module _ (text : List ℕ) (at size : ℕ) (f : Frame text at size) where
   pub frame-length : length (frameOf (lineAt text at)) ≡ size
   frame-length =
       let inside = f .inside in
-      let long : size ≤ length (pairsOf (drop at text)) = omega (arith, pairsOf-length (drop at text), length-drop at text) in
-      ap length frame-bytes ∙ length-take-le size (pairsOf (drop at text)) long
+      let long : size ≤ length (hexBytes (drop at text)) = omega (arith, pairsOf-length (drop at text), length-drop at text) in
+      ap length frame-bytes ∙ length-take-le size (hexBytes (drop at text)) long
 
   pub frame-number : (k m : ℕ) → k + m ≤ size → numberOf (take m (drop k (frameOf (lineAt text at)))) ≡ numberIn text at k m
   unfolding numberIn
-  frame-number k m h = ap numberOf (rw frame-bytes (take-drop-take m k size (pairsOf (drop at text)) h))
+  frame-number k m h = ap numberOf (rw frame-bytes (take-drop-take m k size (hexBytes (drop at text)) h))
 
 pub formed-frame : (text : List ℕ) (at size : ℕ) → Formed text at → digitsAhead (drop at text) / 2 ≡ size → Frame text at size
 formed-frame text at size f e =

@@ -1,22 +1,12 @@
 -- Hexadecimal digits: the value of one, and how many stand ahead in a text.
 --     isDigit b             b is a hexadecimal digit
-use Prim.Native.Nat.{ℕ, suc, _+_, _-_, _≤_, _<_}
-use mathlib.Core.Path.{_≡_, refl}
-use mathlib.Core.Bool.{Bool, true, false}
-use mathlib.Core.List.{List, [], _∷_}
-use native.Mathlib.Omega.{arith}
-use native.Mathlib.Numerals.{add-one}
-use native.Mathlib.Nat.{le-refl}
-use borrow.Author.Tests.{lt-ltb, le-ltb, ltb-true}
-use lib.Dec.{ltb}
-use lib.ListN.{length, take, drop, getD, drop-of-length-le, length-drop}
-use lib.Seq.{drop-cons, getD-take, getD-drop, length-take-le}
+use Rattle.base.proofs.Prelude.{ℕ, suc, _+_, _-_, _≤_, _<_, _≡_, refl, Bool, true, false, List, [], _∷_, arith, add-one, le-refl, lt-ltb, le-ltb, ltb-true, ltb, length, take, drop, getD, drop-of-length-le, length-drop, drop-cons, getD-take, getD-drop, length-take-le}
 use Rattle.faults.specs.Checks.{inBounds}
 use Rattle.faults.proofs.Checks.{inBounds-high, inBounds-yes, inBounds-not}
-use Rattle.lists.specs.Count.{every}
-use Rattle.lists.proofs.Lists.{by-bool, all-at, all-of-every}
+use Rattle.base.specs.Count.{every}
+use Rattle.base.proofs.Lists.{by-bool, all-at, all-of-every}
 use Rattle.rules.specs.Text.{digitOf}
-use Rattle.reading.specs.Positions.{digitsAhead}
+use Rattle.reading.specs.inner.Positions.{digitsAhead}
 
 -- ---- One digit
 

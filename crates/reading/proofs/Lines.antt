@@ -1,20 +1,10 @@
 -- The first line from a position on: it is well formed exactly where digits, one or more, evenly many, lead up to a 0a.
 --     Formed text at        so it is from `at` on
-use Prim.Native.Nat.{ℕ, zero, suc, _+_, _%_, _≤_, _<_}
-use mathlib.Core.Path.{_≡_, refl, sym, ap, _∙_}
-use mathlib.Core.Bool.{true, false, _&&_}
-use mathlib.Core.List.{List, [], _∷_}
-use native.Mathlib.Omega.{arith}
-use native.Mathlib.Numerals.{add-one}
-use native.Mathlib.Nat.{not-suc-le-zero}
-use borrow.Author.Tests.{lt-ltb, ltb-true, eq-eqb, eqb-true}
-use lib.Dec.{ltb, eqb}
-use lib.ListN.{length, take, drop, getD, length-drop, drop-of-length-le}
-use lib.Seq.{drop-drop, getD-drop, length-take-le}
-use Rattle.lists.specs.Count.{every}
-use Rattle.lists.proofs.Lists.{by-bool, true-not-false, and-left, and-right}
+use Rattle.base.proofs.Prelude.{ℕ, zero, suc, _+_, _%_, _≤_, _<_, _≡_, refl, sym, ap, _∙_, true, false, _&&_, List, [], _∷_, arith, add-one, not-suc-le-zero, lt-ltb, ltb-true, eq-eqb, eqb-true, ltb, eqb, length, take, drop, getD, length-drop, drop-of-length-le, drop-drop, getD-drop, length-take-le}
+use Rattle.base.specs.Count.{every}
+use Rattle.base.proofs.Lists.{by-bool, true-not-false, and-left, and-right}
 use Rattle.rules.specs.Text.{Line, before, linesOf, wellFormed}
-use Rattle.reading.specs.Positions.{digitsAhead, headLine, linesFrom, lineAt}
+use Rattle.reading.specs.inner.Positions.{digitsAhead, headLine, linesFrom, lineAt}
 use Rattle.reading.proofs.Hex.{isDigit, newline-no-digit, digitsAhead-fits, digitsAhead-every}
 
 -- ---- Digits up to a 0a are a line

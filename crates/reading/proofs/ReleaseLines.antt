@@ -1,34 +1,18 @@
 -- The release lines: frames first, then the releases that they write. Together these decide as line after line does.
 --     decided k j u end     the answer, where u is the place of the first unlawful release (0: none), the line of the release j has
 --                           number k, and `end` is what ended the frames
-use Prim.Native.Nat.{ℕ, zero, suc, _+_, _-_, _≤_, _<_}
-use mathlib.Core.Path.{_≡_, refl, sym, ap, _∙_}
-use mathlib.Core.Bool.{cond}
-use mathlib.Core.List.{List, [], _∷_, map, tail-eq-of-cons-eq}
-use native.Mathlib.Omega.{arith}
-use native.Mathlib.Nat.{le-refl}
-use borrow.Author.Tests.{lt-ltb, le-ltb}
-use lib.Dec.{ltb}
-use lib.ListN.{length, take}
-use Rattle.faults.specs.declared.Fault.{Fault}
-use Rattle.faults.specs.declared.Fault.the-variants.{ReleaseTooMany, ReleaseUnlawful}
-use Rattle.faults.specs.declared.Checked.{Checked}
-use Rattle.faults.specs.declared.Checked.the-variants.{Lawful, Refused}
+use Rattle.base.proofs.Prelude.{ℕ, zero, suc, _+_, _-_, _≤_, _<_, _≡_, refl, sym, ap, _∙_, cond, List, [], _∷_, map, arith, le-refl, lt-ltb, le-ltb, ltb, length, take}
+use mathlib.Core.List.{tail-eq-of-cons-eq}
+use Rattle.faults.specs.{declared.Fault.Fault, declared.Fault.the-variants.{ReleaseTooMany, ReleaseUnlawful}, declared.Checked.Checked, declared.Checked.the-variants.{Lawful, Refused}}
 use Rattle.faults.proofs.Checks.{by-checked, refused-not-lawful}
-use Rattle.lists.proofs.Lists.{by-bool}
-use Rattle.rules.specs.declared.Plan.{Plan}
-use Rattle.rules.specs.declared.Release.{Release}
-use Rattle.rules.specs.Release.{releaseLawful, unlawfulFrom}
-use Rattle.rules.specs.Layout.{Layout, Frames, frameSize, lineSize}
-use Rattle.rules.specs.Text.{Line, releaseOf, releaseLineCheck, releaseLinesCheck, layoutCheck}
-use Rattle.reading.specs.Positions.{headLine, linesFrom, lineAt, Stand, oneMore, framesIn}
-use Rattle.reading.proofs.Lines.{line-here, lines-none}
-use Rattle.reading.proofs.Framing.{frameCheck-frame, frame-next}
-use Rattle.reading.proofs.Standing.{stand-none, stand-more}
+use Rattle.base.proofs.Lists.{by-bool}
+use Rattle.rules.specs.{declared.Plan.Plan, declared.Release.Release, Release.{releaseLawful, unlawfulFrom}, Layout.{Layout, Version, frameSize, lineSize, releaseFrame}, Text.{Line, releaseOf, releaseLineCheck, releaseLinesCheck, layoutCheck}}
+use Rattle.reading.specs.inner.Positions.{headLine, linesFrom, lineAt, Stand, oneMore, framesIn}
+use Rattle.reading.proofs.{Lines.{line-here, lines-none}, Framing.{frameCheck-frame, frame-next}, Standing.{stand-none, stand-more}}
 
 -- ---- The frames, line after line
 
-module _ (l : Layout) where
+module _ {F : Type 0} (l : Layout F) where
   frames-end : (k room : ℕ) → framesIn l k room [] ≡ record { count = 0; checked = Lawful }
   unfolding framesIn
   frames-end k room = refl
@@ -137,23 +121,23 @@ decided-here k j end h =
     let here : k + j - j ≡ k = omega arith in
     rw (lt-ltb 0 j h, here)
 
-module _ (v : Frames) (p : Plan) where
+module _ (v : Version) (p : Plan) where
   -- the first line writes the release j, and room is left for as many as make 1,000
   pub releaseLines-decided : (lines : List Line) (k j room : ℕ) (seen : List Release) → 1 ≤ j → j + room ≡ 1001
       → releaseLinesCheck v p k j seen lines
-      ≡ decided k j (unlawfulFrom p seen j (map (releaseOf v) (take (framesIn (v .release) k room lines .count) lines)))
-      (framesIn (v .release) k room lines .checked)
+      ≡ decided k j (unlawfulFrom p seen j (map (releaseOf v) (take (framesIn (releaseFrame v) k room lines .count) lines)))
+      (framesIn (releaseFrame v) k room lines .checked)
   unfolding releaseLinesCheck releaseLineCheck unlawfulFrom framesIn
   releaseLines-decided [] k j room seen low all = sym (decided-none k j Lawful)
   releaseLines-decided (line ∷ lines) k j zero seen low all =
       let many : 1000 < j = omega arith in
-      by-checked (layoutCheck k (v .release) line)
+      by-checked (layoutCheck k (releaseFrame v) line)
       (λ e. rw (e, lt-ltb 1000 j many) (sym (decided-none k j _)))
       (λ f a e. rw e (sym (decided-none k j _)))
   releaseLines-decided (line ∷ lines) k j (suc room) seen low all =
       let few : j ≤ 1000 = omega arith in
       let later = releaseLines-decided lines (suc k) (suc j) room (releaseOf v line ∷ seen) (omega arith) (omega arith) in
-      by-checked (layoutCheck k (v .release) line)
+      by-checked (layoutCheck k (releaseFrame v) line)
       (λ e.
       by-bool (releaseLawful p seen (releaseOf v line))
       (λ t. rw (e, le-ltb 1000 j few, t) (later ∙ decided-later k j _ _))

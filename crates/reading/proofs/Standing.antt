@@ -1,16 +1,9 @@
 -- Lines one after the other, each a frame of the same size: where they stand, and what is stored of them.
-use Prim.Native.Nat.{ℕ, zero, suc, _+_, _*_, _≤_, _<_}
-use mathlib.Core.Path.{_≡_, refl, sym, ap, _∙_}
-use mathlib.Core.List.{List, [], _∷_, _++_, map, map-append}
-use native.Mathlib.Omega.{arith}
-use native.Mathlib.Numerals.{add-one}
-use native.Mathlib.Nat.{not-suc-le-zero, suc-mul}
-use lib.ListN.{length, set, length-map}
-use Rattle.lists.specs.Count.{filled}
-use Rattle.lists.proofs.Filling.{filled-set}
-use Rattle.rules.specs.Layout.{lineLength}
-use Rattle.rules.specs.Text.{Line}
-use Rattle.reading.specs.Positions.{lineAt, linesAt, Frame, Stand}
+use Rattle.base.proofs.Prelude.{ℕ, zero, suc, _+_, _*_, _≤_, _<_, _≡_, refl, sym, ap, _∙_, List, [], _∷_, _++_, map, map-append, arith, add-one, not-suc-le-zero, suc-mul, length, set, length-map}
+use Rattle.base.specs.Count.{filled}
+use Rattle.base.proofs.Filling.{filled-set}
+use Rattle.rules.specs.{Layout.lineLength, Text.Line}
+use Rattle.reading.specs.inner.Positions.{lineAt, linesAt, Frame, Stand}
 use Rattle.reading.proofs.Framing.{frame-next}
 
 step-more : (at n step : ℕ) → at + suc n * step ≡ at + step + n * step

@@ -1,25 +1,15 @@
 -- The string lines by positions of the text, one after the other, and what they give where none is refused.
-use Prim.Native.Nat.{ℕ, zero, suc, _+_, _≤_, _<_}
-use mathlib.Core.Path.{_≡_, refl, sym, _∙_}
-use mathlib.Core.List.{List}
-use native.Mathlib.Omega.{arith}
-use native.Mathlib.Decide.{decLe}
-use lib.ListN.{length}
-use Rattle.faults.specs.declared.Fault.{Fault}
-use Rattle.faults.specs.declared.Fault.the-variants.{FrameWrong}
-use Rattle.faults.specs.declared.Checked.the-variants.{Lawful, Refused}
+use Rattle.base.proofs.Prelude.{ℕ, zero, suc, _+_, _≤_, _<_, _≡_, refl, sym, _∙_, List, arith, decLe, length}
+use Rattle.faults.specs.{declared.Fault.Fault, declared.Fault.the-variants.FrameWrong, declared.Checked.the-variants.{Lawful, Refused}}
 use Rattle.faults.proofs.Checks.{then-first, refused-not-lawful}
-use Rattle.rules.specs.Layout.{Frames, frameSize, lineSize}
-use Rattle.rules.specs.Text.{Line, stringLineCheck, stringLinesCheck}
-use Rattle.reading.specs.Positions.{linesFrom, lineAt, Frame, Stand}
-use Rattle.reading.proofs.Lines.{line-here, lines-none}
-use Rattle.reading.proofs.Framing.{frameCheck-frame, frame-next}
-use Rattle.reading.proofs.Standing.{stand-none, stand-more}
+use Rattle.rules.specs.{Layout.{Version, frameSize, lineSize, stringFrame}, Text.{Line, stringLineCheck, stringLinesCheck}}
+use Rattle.reading.specs.inner.Positions.{linesFrom, lineAt, Frame, Stand}
+use Rattle.reading.proofs.{Lines.{line-here, lines-none}, Framing.{frameCheck-frame, frame-next}, Standing.{stand-none, stand-more}}
 
-module _ (v : Frames) (header : Line) (text : List ℕ) where
-  pub string-frame : (at k : ℕ) → stringLineCheck v header k (lineAt text at) ≡ Lawful → Frame text at (frameSize (v .string))
+module _ (v : Version) (header : Line) (text : List ℕ) where
+  pub string-frame : (at k : ℕ) → stringLineCheck v header k (lineAt text at) ≡ Lawful → Frame text at (frameSize (stringFrame v))
   unfolding stringLineCheck
-  string-frame at k h = frameCheck-frame text at k (v .string .kind) (frameSize (v .string)) (then-first _ _ h)
+  string-frame at k h = frameCheck-frame text at k (stringFrame v .kind) (frameSize (stringFrame v)) (then-first _ _ h)
 
   -- m lines and one are left from `at` on
   module _ (at k m : ℕ) where
@@ -34,9 +24,9 @@ module _ (v : Frames) (header : Line) (text : List ℕ) where
 
     pub strings-good : stringLineCheck v header k (lineAt text at) ≡ Lawful
         → stringLinesCheck v header k (suc m) (linesFrom text at)
-        ≡ stringLinesCheck v header (suc k) m (linesFrom text (at + lineSize (v .string)))
+        ≡ stringLinesCheck v header (suc k) m (linesFrom text (at + lineSize (stringFrame v)))
     unfolding stringLinesCheck
-    strings-good e = rw (frame-next text at (frameSize (v .string)) (string-frame at k e), e)
+    strings-good e = rw (frame-next text at (frameSize (stringFrame v)) (string-frame at k e), e)
 
     strings-first : at < length text → stringLinesCheck v header k (suc m) (linesFrom text at) ≡ Lawful
         → stringLineCheck v header k (lineAt text at) ≡ Lawful
@@ -50,20 +40,20 @@ module _ (v : Frames) (header : Line) (text : List ℕ) where
   strings-end k lines = refl
 
   pub strings-stand : (at k n : ℕ) → at ≤ length text → stringLinesCheck v header k n (linesFrom text at) ≡ Lawful
-      → Stand text at (frameSize (v .string)) n
-  strings-stand at k zero inside h = stand-none text (frameSize (v .string)) at inside
+      → Stand text at (frameSize (stringFrame v)) n
+  strings-stand at k zero inside h = stand-none text (frameSize (stringFrame v)) at inside
   strings-stand at k (suc n) inside h =
       elim (decLe (suc at) (length text)) [
-        | yes more ↦ step (strings-first at k n more h) (strings-stand (at + lineSize (v .string)) (suc k) n)
+        | yes more ↦ step (strings-first at k n more h) (strings-stand (at + lineSize (stringFrame v)) (suc k) n)
         | no ended ↦ absurd (refused-not-lawful FrameWrong k (sym (strings-missing at k n (omega arith)) ∙ h))
       ]
     where
       step : stringLineCheck v header k (lineAt text at) ≡ Lawful
-          → (at + lineSize (v .string) ≤ length text
-          → stringLinesCheck v header (suc k) n (linesFrom text (at + lineSize (v .string))) ≡ Lawful
-          → Stand text (at + lineSize (v .string)) (frameSize (v .string)) n)
-          → Stand text at (frameSize (v .string)) (suc n)
+          → (at + lineSize (stringFrame v) ≤ length text
+          → stringLinesCheck v header (suc k) n (linesFrom text (at + lineSize (stringFrame v))) ≡ Lawful
+          → Stand text (at + lineSize (stringFrame v)) (frameSize (stringFrame v)) n)
+          → Stand text at (frameSize (stringFrame v)) (suc n)
       step first later =
           let frame = string-frame at k first in
-          stand-more text (frameSize (v .string)) at n frame
+          stand-more text (frameSize (stringFrame v)) at n frame
           (later (omega (arith, frame .inside)) (sym (strings-good at k n first) ∙ h))

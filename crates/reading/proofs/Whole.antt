@@ -1,60 +1,37 @@
 -- The whole text: its parts, read one after the other, decide as the definition does.
-use Prim.Native.Nat.{ℕ, _+_, _-_, _≤_, _<_}
-use mathlib.Core.Path.{_≡_, refl, sym, ap, _∙_}
-use mathlib.Core.List.{List, _∷_, map}
-use native.Mathlib.Omega.{arith}
-use borrow.Author.Tests.{lt-ltb, le-ltb}
-use lib.ListN.{length, length-map}
-use lib.Seq.{take-at, take-all}
+use Rattle.base.proofs.Prelude.{ℕ, _+_, _-_, _≤_, _<_, _≡_, refl, sym, ap, _∙_, List, _∷_, map, arith, lt-ltb, le-ltb, length, length-map, take-at, take-all}
 use Rattle.days.specs.Days.{days}
-use Rattle.faults.specs.declared.Fault.{Fault}
-use Rattle.faults.specs.declared.Fault.the-variants.{TextTooLong, FrameWrong, ReleaseUnlawful}
-use Rattle.faults.specs.declared.Checked.the-variants.{Lawful, Refused}
-use Rattle.faults.specs.Checks.{then}
+use Rattle.faults.specs.{declared.Fault.Fault, declared.Fault.the-variants.{TextTooLong, FrameWrong, ReleaseUnlawful}, declared.Checked.the-variants.{Lawful, Refused}, Checks.then}
 use Rattle.faults.proofs.Checks.{then-first, then-second, then-lawful}
-use Rattle.lists.specs.Count.{filled}
-use Rattle.rules.specs.declared.BatteryString.{BatteryString}
-use Rattle.rules.specs.declared.Plan.{Plan}
-use Rattle.rules.specs.Plan.{noString}
-use Rattle.rules.specs.Refusal.{headCheck, costCheck, multipleCheck}
-use Rattle.rules.specs.Release.{releasesOf, firstUnlawful}
-use Rattle.rules.specs.Layout.{Frames, frameSize, lineSize}
-use Rattle.rules.specs.Text.{Line, linesOf, nIn, aIn, runIn, stringOf, releaseOf, planIn, releasesIn, versionCheck, headerCheck, layoutCheck}
-use Rattle.rules.specs.Text.{stringLinesCheck, bodyCheck, linesCheck, textCheck, lawfulReading, readingIn}
-use Rattle.laws.proofs.Lawful.{headCheck-lawful}
-use Rattle.laws.proofs.Releases.{firstUnlawful-le}
-use Rattle.reading.specs.declared.Framed.{Framed}
-use Rattle.reading.specs.Positions.{linesFrom, lineAt, linesAt, Frame, Stand, framesIn, refusedReading, headerNumbers}
-use Rattle.reading.specs.Positions.{stringsAt, releasesAt, HeaderRead, StringsRead, bodyReading, listCheck, listReading, restReading, releaseList}
-use Rattle.reading.proofs.Lines.{line-here, lines-none}
-use Rattle.reading.proofs.Framing.{frameCheck-frame, frame-next}
-use Rattle.reading.proofs.Standing.{linesAt-length}
-use Rattle.reading.proofs.StringLines.{strings-stand}
-use Rattle.reading.proofs.ReleaseLines.{frames-few, frames-all, frames-stand, decided, releaseLines-decided}
+use Rattle.base.specs.Count.{filled}
+use Rattle.rules.specs.{declared.BatteryString.BatteryString, declared.Plan.Plan, Plan.noString, Refusal.{headCheck, costCheck, multipleCheck}, Release.{releasesOf, firstUnlawful}, Layout.{Version, frameSize, lineSize, headerFrame, stringFrame, releaseFrame}, Text.{Line, linesOf, nIn, aIn, runIn, stringOf, releaseOf, planIn, listIn, versionCheck, headerCheck, layoutCheck, stringLinesCheck, bodyCheck, linesCheck, textCheck, refusedReading, lawfulReading, readingIn}}
+use Rattle.laws.proofs.{Lawful.headCheck-lawful, Releases.firstUnlawful-le}
+use Rattle.reading.specs.{declared.Framed.Framed, inner.Positions.{linesFrom, lineAt, linesAt, Frame, Stand, framesIn, headerNumbers, stringsAt, releasesAt, HeaderRead, StringsRead, bodyReading, listCheck, listReading, restReading, releaseList}}
+use Rattle.reading.proofs.{Lines.{line-here, lines-none}, Framing.{frameCheck-frame, frame-next}, Standing.linesAt-length, StringLines.strings-stand, ReleaseLines.{frames-few, frames-all, frames-stand, decided, releaseLines-decided}}
 
-module _ (v : Frames) (text : List ℕ) where
+module _ (v : Version) (text : List ℕ) where
   -- ---- The header
 
-  header-next : Frame text 0 (frameSize (v .header)) → linesOf text ≡ lineAt text 0 ∷ linesFrom text (stringsAt v)
+  header-next : Frame text 0 (frameSize (headerFrame v)) → linesOf text ≡ lineAt text 0 ∷ linesFrom text (stringsAt v)
   header-next f =
       let here : 0 + stringsAt v ≡ stringsAt v = omega arith in
-      frame-next text 0 (frameSize (v .header)) f ∙ rw here
+      frame-next text 0 (frameSize (headerFrame v)) f ∙ rw here
 
   pub header-read : headerCheck v (lineAt text 0) ≡ Lawful → HeaderRead v text
   unfolding headerCheck
   header-read h =
       let line = lineAt text 0 in
-      let frame = layoutCheck 1 (v .header) line in
+      let frame = layoutCheck 1 (headerFrame v) line in
       let head = headCheck 1 (nIn v line) (runIn v line) in
       let cost = costCheck 1 (aIn v line) in
       record {
-        frame = frameCheck-frame text 0 1 (v .header .kind) (frameSize (v .header)) (then-first frame (headerNumbers v line) h);
+        frame = frameCheck-frame text 0 1 (headerFrame v .kind) (frameSize (headerFrame v)) (then-first frame (headerNumbers v line) h);
         head = then-first head cost (then-second (versionCheck v line) (then head cost) (then-second frame (headerNumbers v line) h));
       }
 
-  pub plan-said : (start n : ℕ) → Frame text 0 (frameSize (v .header)) → start ≡ stringsAt v → n ≡ nIn v (lineAt text 0)
-      → Stand text start (frameSize (v .string)) n → (run : ℕ) (strings : List BatteryString) → run ≡ runIn v (lineAt text 0)
-      → strings ≡ filled 10 noString (map (stringOf v (lineAt text 0)) (linesAt text start (lineSize (v .string)) n))
+  pub plan-said : (start n : ℕ) → Frame text 0 (frameSize (headerFrame v)) → start ≡ stringsAt v → n ≡ nIn v (lineAt text 0)
+      → Stand text start (frameSize (stringFrame v)) n → (run : ℕ) (strings : List BatteryString) → run ≡ runIn v (lineAt text 0)
+      → strings ≡ filled 10 noString (map (stringOf v (lineAt text 0)) (linesAt text start (lineSize (stringFrame v)) n))
       → record { n = n; run = days run; strings = strings } ≡ planIn v (linesOf text)
   unfolding planIn
   plan-said start n f here count s run strings runs listed = rw (runs, listed, header-next f, ← here, ← count, s .first)
@@ -85,13 +62,13 @@ module _ (v : Frames) (text : List ℕ) where
       record { header = h; plan = e; strings = rw same lawful }
 
   module _ (p : Plan) (s : StringsRead v text p) where
-    pub strings-n : p .n ≡ nIn v (lineAt text 0)
+    strings-n : p .n ≡ nIn v (lineAt text 0)
     strings-n = ap (λ (q : Plan). q .n) (s .plan) ∙ plan-n (s .header)
 
     pub strings-few : p .n ≤ 10
     strings-few = omega (arith, strings-n, header-few (s .header))
 
-    standing : Stand text (stringsAt v) (frameSize (v .string)) (p .n)
+    standing : Stand text (stringsAt v) (frameSize (stringFrame v)) (p .n)
     standing = strings-stand v (lineAt text 0) text (stringsAt v) 2 (p .n) (header-inside (s .header)) (s .strings)
 
     pub body-rest : bodyReading v text ≡ restReading v text p
@@ -112,7 +89,7 @@ module _ (v : Frames) (text : List ℕ) where
     start = releasesAt v (p .n)
 
     abbrev pub framed : Framed
-    framed = framesIn (v .release) (p .n + 2) 1000 (linesFrom text start)
+    framed = framesIn (releaseFrame v) (p .n + 2) 1000 (linesFrom text start)
 
     abbrev pub unlawful : ℕ
     unlawful = firstUnlawful p (releasesOf (releaseList v text start (framed .count)))
@@ -121,17 +98,17 @@ module _ (v : Frames) (text : List ℕ) where
     start-inside = standing .inside
 
     pub framed-few : framed .count ≤ 1000
-    framed-few = frames-few (v .release) (linesFrom text start) (p .n + 2) 1000
+    framed-few = frames-few (releaseFrame v) (linesFrom text start) (p .n + 2) 1000
 
-    pub framed-stand : Stand text start (frameSize (v .release)) (framed .count)
-    framed-stand = frames-stand (v .release) text (linesFrom text start) start (p .n + 2) 1000 refl start-inside
+    pub framed-stand : Stand text start (frameSize (releaseFrame v)) (framed .count)
+    framed-stand = frames-stand (releaseFrame v) text (linesFrom text start) start (p .n + 2) 1000 refl start-inside
 
     written : List Line
-    written = linesAt text start (lineSize (v .release)) (framed .count)
+    written = linesAt text start (lineSize (releaseFrame v)) (framed .count)
 
     many : length (map (releaseOf v) written) ≡ framed .count
     unfolding written
-    many = length-map written (releaseOf v) ∙ linesAt-length text (lineSize (v .release)) start (framed .count)
+    many = length-map written (releaseOf v) ∙ linesAt-length text (lineSize (releaseFrame v)) start (framed .count)
 
     list-of : releasesOf (releaseList v text start (framed .count)) ≡ map (releaseOf v) written
     unfolding releaseList written
@@ -159,22 +136,22 @@ module _ (v : Frames) (text : List ℕ) where
       unfolding decided lawfulReading
       list-refused f a e = list-decided ∙ rw (← none, e)
 
-      releases-said : framed .checked ≡ Lawful → releasesIn v (linesOf text) ≡ releaseList v text start (framed .count)
-      unfolding releasesIn releaseList written
+      releases-said : framed .checked ≡ Lawful → listIn v (linesOf text) ≡ releaseList v text start (framed .count)
+      unfolding listIn releaseList written
       releases-said e =
-          let count = frames-all (v .release) (linesFrom text start) (p .n + 2) 1000 e in
+          let count = frames-all (releaseFrame v) (linesFrom text start) (p .n + 2) 1000 e in
           let whole = take-all (framed .count) (linesFrom text start) (omega arith) in
           let said = ap (map (releaseOf v)) (sym whole ∙ framed-stand .first) in
           rw (header-next (s .header .frame), ← strings-n, standing .rest, said, many)
 
-      pub list-lawful : framed .checked ≡ Lawful
+      pub releases-lawful : framed .checked ≡ Lawful
           → listReading v text p ≡ record { checked = Lawful; plan = p; releases = releaseList v text start (framed .count) }
       unfolding decided lawfulReading
-      list-lawful e = list-decided ∙ rw (← none, e, releases-said e, ← (s .plan))
+      releases-lawful e = list-decided ∙ rw (← none, e, releases-said e, ← (s .plan))
 
 -- ---- The whole
 
-module _ (v : Frames) (text : List ℕ) where
+module _ (v : Version) (text : List ℕ) where
   pub read-long : 65536 < length text → readingIn v text ≡ refusedReading TextTooLong 0
   unfolding readingIn textCheck lawfulReading
   read-long h = rw (lt-ltb 65536 (length text) h)

@@ -4,7 +4,7 @@ ghost use mathlib.Core.Path.{_≡_};
 ghost use Prim.Native.Nat.{_+_, _*_, _<_, _≤_};
 ghost use lib.ListN.{length, drop};
 ghost use Rattle.rules.specs.Text.{digitOf};
-ghost use Rattle.reading.specs.Positions.{digitsAhead, byteIn, numberIn};
+ghost use Rattle.reading.specs.inner.Positions.{digitsAhead, byteIn, numberIn};
 
 // The value of a lowercase hexadecimal digit, or 16 for any other byte.
 fn digit(b: u8) -> u32

@@ -9,7 +9,7 @@ ghost use mathlib.Core.Path.{_≡_};
 ghost use Prim.Native.Nat.{_≤_};
 ghost use lib.ListN.{length, drop};
 ghost use Rattle.rules.specs.Text.{wellFormed, frameCheck};
-ghost use Rattle.reading.specs.Positions.{digitsAhead, lineAt};
+ghost use Rattle.reading.specs.inner.Positions.{digitsAhead, lineAt};
 
 // Whether the line that starts at `at` with so many digits is nothing but them and its 0a, not empty, of even length.
 fn well_formed(text: &[u8], at: usize, digits: usize) -> bool

@@ -5,18 +5,18 @@ use days::Length;
 use faults::Checked;
 use faults::Fault;
 use layouts::HEADER_COUNT;
-use layouts::HEADER_VERSION;
+use layouts::HEADER_NUMBER;
 use layouts::Version;
 ghost use mathlib.Core.Path.{_≡_};
-ghost use Rattle.rules.specs.Layout.{frameSize};
+ghost use Rattle.rules.specs.Layout.{frameSize, headerFrame};
 ghost use Rattle.rules.specs.Text.{headerCheck};
-ghost use Rattle.layouts.specs.Versions.{framesBy, Known};
-ghost use Rattle.reading.specs.Positions.{lineAt, Frame, headerNumbers};
+ghost use Rattle.layouts.specs.inner.Versions.{meantBy, Known};
+ghost use Rattle.reading.specs.inner.Positions.{lineAt, Frame, headerNumbers};
 
 // The first line: 2, 3, then 4 for n, then 5 for N and for the moving cost of all strings, where the header says one.
 pub(crate) fn header_check(text: &[u8], version: Version) -> Checked
     requires { ⌜ Known version ⌝ }
-    ensures exact { λ r. ⌜ r ≡ headerCheck (framesBy version) (lineAt (now (text .entry)) 0) ⌝ }
+    ensures exact { λ r. ⌜ r ≡ headerCheck (meantBy version) (lineAt (now (text .entry)) 0) ⌝ }
 {
     let frame = frame_check(text, 0, 1, version.header);
     match frame {
@@ -28,10 +28,10 @@ pub(crate) fn header_check(text: &[u8], version: Version) -> Checked
 // The version and the numbers of a header that is a frame.
 fn numbers_check(text: &[u8], version: Version) -> Checked
     requires { ⌜ Known version ⌝ }
-    requires { ⌜ Frame (now text) 0 (frameSize (framesBy version .header)) ⌝ }
-    ensures exact { λ r. ⌜ r ≡ headerNumbers (framesBy version) (lineAt (now (text .entry)) 0) ⌝ }
+    requires { ⌜ Frame (now text) 0 (frameSize (headerFrame (meantBy version))) ⌝ }
+    ensures exact { λ r. ⌜ r ≡ headerNumbers (meantBy version) (lineAt (now (text .entry)) 0) ⌝ }
 {
-    if field_at(text, 0, HEADER_VERSION) != version.number {
+    if field_at(text, 0, HEADER_NUMBER) != version.number {
         return Checked::Refused {
             fault: Fault::FrameWrong,
             at: 1,

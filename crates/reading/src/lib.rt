@@ -7,7 +7,6 @@ mod header;
 mod releases;
 mod strings;
 
-use days::Day;
 use days::Length;
 use digits::digits_ahead;
 use digits::field_at;
@@ -15,24 +14,25 @@ use faults::Checked;
 use faults::Fault;
 use header::header_check;
 use layouts::HEADER_COUNT;
-use layouts::HEADER_VERSION;
-use layouts::NEW;
-use layouts::OLD;
+use layouts::HEADER_NUMBER;
+use layouts::VERSION_01;
+use layouts::VERSION_02;
 use layouts::Version;
+use layouts::held_to;
 use releases::release_frames;
 use releases::releases_in;
-use rules::BatteryString;
+use rules::NO_RELEASE;
+use rules::NO_STRING;
 use rules::Plan;
 use rules::Reading;
-use rules::Release;
 use rules::Releases;
 use strings::plan_in;
 use strings::string_lines_check;
 ghost use mathlib.Core.Path.{_≡_};
 ghost use Rattle.rules.specs.Layout.{version01, version02};
-ghost use Rattle.rules.specs.Text.{readingIn, readingOf};
-ghost use Rattle.layouts.specs.Versions.{framesBy, Known};
-ghost use Rattle.reading.specs.Positions.{HeaderRead, StringsRead, bodyReading, restReading, listReading, refusedReading};
+ghost use Rattle.rules.specs.Text.{refusedReading, readingIn, readingOf};
+ghost use Rattle.layouts.specs.inner.Versions.{meantBy, Known};
+ghost use Rattle.reading.specs.inner.Positions.{HeaderRead, StringsRead, bodyReading, restReading, listReading};
 
 // Release lines that are frames, up to the first that is not or the end: how many, and the fault that ended them.
 pub struct Framed {
@@ -44,29 +44,16 @@ pub struct Framed {
 fn refusal(fault: Fault, at: usize) -> Reading
     ensures exact { λ r. ⌜ r ≡ refusedReading fault at ⌝ }
 {
-    let zero = Length(0);
-    let string = BatteryString {
-        t: zero,
-        c: zero,
-        d: zero,
-        x: 0,
-        a: zero,
-    };
-    let release = Release {
-        day: Day(0),
-        place: 0,
-        need: zero,
-    };
     Reading {
         checked: Checked::Refused { fault, at },
         plan: Plan {
             n: 0,
-            run: zero,
-            strings: [string; 10],
+            run: Length(0),
+            strings: [NO_STRING; 10],
         },
         releases: Releases {
             count: 0,
-            list: [release; 1000],
+            list: [NO_RELEASE; 1000],
         },
     }
 }
@@ -74,14 +61,14 @@ fn refusal(fault: Fault, at: usize) -> Reading
 // The release lines of the plan p: each line's 2, 3, 7, 8.
 fn read_list(text: &[u8], version: Version, p: Plan) -> Reading
     requires { ⌜ Known version ⌝ }
-    requires { ⌜ StringsRead (framesBy version) (now text) p ⌝ }
-    ensures exact { λ r. ⌜ r ≡ listReading (framesBy version) (now (text .entry)) p ⌝ }
+    requires { ⌜ StringsRead (meantBy version) (now text) p ⌝ }
+    ensures exact { λ r. ⌜ r ≡ listReading (meantBy version) (now (text .entry)) p ⌝ }
 {
     let n = p.n;
     let start = version.header.line + n * version.string.line;
-    let framed = release_frames(text, start, n + 2);
+    let framed = release_frames(text, start, n + 2, version);
     let count = framed.count;
-    let rs = releases_in(text, start, count);
+    let rs = releases_in(text, start, count, version);
     let bad = bounds::first_unlawful(p, rs);
     if 0 < bad {
         return refusal(Fault::ReleaseUnlawful, n + 1 + bad);
@@ -100,8 +87,8 @@ fn read_list(text: &[u8], version: Version, p: Plan) -> Reading
 // What follows the strings of the plan p: 6 at the last of them, then the release lines.
 fn read_rest(text: &[u8], version: Version, p: Plan) -> Reading
     requires { ⌜ Known version ⌝ }
-    requires { ⌜ StringsRead (framesBy version) (now text) p ⌝ }
-    ensures exact { λ r. ⌜ r ≡ restReading (framesBy version) (now (text .entry)) p ⌝ }
+    requires { ⌜ StringsRead (meantBy version) (now text) p ⌝ }
+    ensures exact { λ r. ⌜ r ≡ restReading (meantBy version) (now (text .entry)) p ⌝ }
 {
     let multiple = bounds::multiple_check(p.n + 1, p);
     match multiple {
@@ -113,8 +100,8 @@ fn read_rest(text: &[u8], version: Version, p: Plan) -> Reading
 // The lines after a lawful header.
 fn read_body(text: &[u8], version: Version) -> Reading
     requires { ⌜ Known version ⌝ }
-    requires { ⌜ HeaderRead (framesBy version) (now text) ⌝ }
-    ensures exact { λ r. ⌜ r ≡ bodyReading (framesBy version) (now (text .entry)) ⌝ }
+    requires { ⌜ HeaderRead (meantBy version) (now text) ⌝ }
+    ensures exact { λ r. ⌜ r ≡ bodyReading (meantBy version) (now (text .entry)) ⌝ }
 {
     let n = field_at(text, 0, HEADER_COUNT) as usize;
     let start = version.header.line;
@@ -128,7 +115,7 @@ fn read_body(text: &[u8], version: Version) -> Reading
 // What a text says that is held to a version.
 fn read_in(text: &[u8], version: Version) -> Reading
     requires { ⌜ Known version ⌝ }
-    ensures exact { λ r. ⌜ r ≡ readingIn (framesBy version) (now (text .entry)) ⌝ }
+    ensures exact { λ r. ⌜ r ≡ readingIn (meantBy version) (now (text .entry)) ⌝ }
 {
     if 65536 < text.len() {
         return refusal(Fault::TextTooLong, 0);
@@ -144,19 +131,19 @@ fn read_in(text: &[u8], version: Version) -> Reading
 }
 
 // What a version 01 text says; another version is 3 at line 1. The text is lent and keeps its bytes.
-pub fn read_old(text: &[u8]) -> Reading
+pub fn read_01(text: &[u8]) -> Reading
     ensures exact { λ r. ⌜ r ≡ readingIn version01 (now (text .entry)) ⌝ }
     ensures kept { λ r. ⌜ now (text .exit) ≡ now (text .entry) ⌝ }
 {
-    read_in(text, OLD)
+    read_in(text, VERSION_01)
 }
 
 // What a version 02 text says; another version is 3 at line 1. The text is lent and keeps its bytes.
-pub fn read_new(text: &[u8]) -> Reading
+pub fn read_02(text: &[u8]) -> Reading
     ensures exact { λ r. ⌜ r ≡ readingIn version02 (now (text .entry)) ⌝ }
     ensures kept { λ r. ⌜ now (text .exit) ≡ now (text .entry) ⌝ }
 {
-    read_in(text, NEW)
+    read_in(text, VERSION_02)
 }
 
 // What a text says: the plan and its releases, or the first fault with its line. Its header names the version. The text is lent and
@@ -167,10 +154,7 @@ pub fn read(text: &[u8]) -> Reading
 {
     // The version is the second byte, digits 3 and 4.
     if digits_ahead(text, 0) < 4 {
-        return read_old(text);
+        return read_in(text, VERSION_01);
     }
-    if field_at(text, 0, HEADER_VERSION) == NEW.number {
-        return read_new(text);
-    }
-    read_old(text)
+    read_in(text, held_to(field_at(text, 0, HEADER_NUMBER)))
 }

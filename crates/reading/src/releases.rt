@@ -6,24 +6,26 @@ use days::Day;
 use days::Length;
 use faults::Checked;
 use faults::Fault;
-use layouts::RELEASE;
 use layouts::RELEASE_DAY;
-use layouts::RELEASE_LINE;
 use layouts::RELEASE_NEED;
 use layouts::RELEASE_PLACE;
+use layouts::Version;
+use rules::NO_RELEASE;
 use rules::Release;
 use rules::Releases;
 ghost use mathlib.Core.Path.{_≡_};
 ghost use Prim.Native.Nat.{_≤_};
 ghost use lib.ListN.{length};
-ghost use Rattle.rules.specs.Layout.{version01, frameSize};
+ghost use Rattle.rules.specs.Layout.{frameSize, releaseFrame};
 ghost use Rattle.rules.specs.Text.{releaseOf};
-ghost use Rattle.reading.specs.Positions.{lineAt, linesFrom, Frame, Stand, framesIn, releaseList};
+ghost use Rattle.layouts.specs.inner.Versions.{meantBy, Known};
+ghost use Rattle.reading.specs.inner.Positions.{lineAt, linesFrom, Frame, Stand, framesIn, releaseList};
 
 // What a release frame says.
-fn release_at(text: &[u8], at: usize) -> Release
-    requires { ⌜ Frame (now text) at (frameSize (version01 .release)) ⌝ }
-    ensures exact { λ r. ⌜ r ≡ releaseOf version01 (lineAt (now (text .entry)) at) ⌝ }
+fn release_at(text: &[u8], at: usize, version: Version) -> Release
+    requires { ⌜ Known version ⌝ }
+    requires { ⌜ Frame (now text) at (frameSize (releaseFrame (meantBy version))) ⌝ }
+    ensures exact { λ r. ⌜ r ≡ releaseOf (meantBy version) (lineAt (now (text .entry)) at) ⌝ }
 {
     let place = field_at(text, at, RELEASE_PLACE) as usize;
     let day = Day(field_at(text, at, RELEASE_DAY));
@@ -33,20 +35,21 @@ fn release_at(text: &[u8], at: usize) -> Release
 
 // Release lines from `start` on, the first with number k: how many are frames before the text ends, a line is no frame or a
 // thousand are there.
-pub(crate) fn release_frames(text: &[u8], start: usize, k: usize) -> Framed
+pub(crate) fn release_frames(text: &[u8], start: usize, k: usize, version: Version) -> Framed
+    requires { ⌜ Known version ⌝ }
     requires { ⌜ (start ≤ length (now text)) × (start ≤ 1000) × (k ≤ 1000) ⌝ }
-    ensures exact { λ r. ⌜ r ≡ framesIn (version01 .release) k 1000 (linesFrom (now (text .entry)) start) ⌝ }
+    ensures exact { λ r. ⌜ r ≡ framesIn (releaseFrame (meantBy version)) k 1000 (linesFrom (now (text .entry)) start) ⌝ }
 {
     let mut j: usize = 0;
     loop {
-        let here = start + j * RELEASE_LINE;
+        let here = start + j * version.release.line;
         if text.len() <= here {
             return Framed {
                 count: j,
                 checked: Checked::Lawful,
             };
         }
-        let line = frame_check(text, here, k + j, RELEASE);
+        let line = frame_check(text, here, k + j, version.release);
         match line {
             Checked::Lawful => {
                 if 999 < j {
@@ -71,20 +74,16 @@ pub(crate) fn release_frames(text: &[u8], start: usize, k: usize) -> Framed
 }
 
 // The releases that `count` frames from `start` on write.
-pub(crate) fn releases_in(text: &[u8], start: usize, count: usize) -> Releases
+pub(crate) fn releases_in(text: &[u8], start: usize, count: usize, version: Version) -> Releases
+    requires { ⌜ Known version ⌝ }
     requires { ⌜ (start ≤ 1000) × (count ≤ 1000) ⌝ }
-    requires { ⌜ Stand (now text) start (frameSize (version01 .release)) count ⌝ }
-    ensures exact { λ r. ⌜ r ≡ releaseList version01 (now (text .entry)) start count ⌝ }
+    requires { ⌜ Stand (now text) start (frameSize (releaseFrame (meantBy version))) count ⌝ }
+    ensures exact { λ r. ⌜ r ≡ releaseList (meantBy version) (now (text .entry)) start count ⌝ }
 {
-    let none = Release {
-        day: Day(0),
-        place: 0,
-        need: Length(0),
-    };
-    let mut list = [none; 1000];
+    let mut list = [NO_RELEASE; 1000];
     let mut i: usize = 0;
     while i < count {
-        list[i] = release_at(text, start + i * RELEASE_LINE);
+        list[i] = release_at(text, start + i * version.release.line, version);
         i += 1;
     }
     Releases { count, list }

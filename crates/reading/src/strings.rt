@@ -10,22 +10,23 @@ use layouts::STRING_T;
 use layouts::STRING_X;
 use layouts::Version;
 use rules::BatteryString;
+use rules::NO_STRING;
 use rules::Plan;
 ghost use mathlib.Core.Path.{_≡_};
 ghost use Prim.Native.Nat.{_≤_};
 ghost use lib.ListN.{length};
 ghost use Rattle.days.specs.Days.{days};
-ghost use Rattle.rules.specs.Layout.{frameSize};
+ghost use Rattle.rules.specs.Layout.{frameSize, headerFrame, stringFrame};
 ghost use Rattle.rules.specs.Text.{linesOf, nIn, costOf, stringOf, planIn, stringLineCheck, stringLinesCheck};
-ghost use Rattle.layouts.specs.Versions.{framesBy, Known};
-ghost use Rattle.reading.specs.Positions.{lineAt, linesFrom, Frame, Stand, stringsAt};
+ghost use Rattle.layouts.specs.inner.Versions.{meantBy, Known};
+ghost use Rattle.reading.specs.inner.Positions.{lineAt, linesFrom, Frame, Stand, stringsAt};
 
 // The moving cost of a string: the header's where it says one for all, else the string frame's own.
 fn cost_at(text: &[u8], at: usize, version: Version) -> Length
     requires { ⌜ Known version ⌝ }
-    requires { ⌜ Frame (now text) 0 (frameSize (framesBy version .header)) ⌝ }
-    requires { ⌜ Frame (now text) at (frameSize (framesBy version .string)) ⌝ }
-    ensures exact { λ r. ⌜ r ≡ days (costOf (framesBy version) (lineAt (now (text .entry)) 0) (lineAt (now (text .entry)) at)) ⌝ }
+    requires { ⌜ Frame (now text) 0 (frameSize (headerFrame (meantBy version))) ⌝ }
+    requires { ⌜ Frame (now text) at (frameSize (stringFrame (meantBy version))) ⌝ }
+    ensures exact { λ r. ⌜ r ≡ days (costOf (meantBy version) (lineAt (now (text .entry)) 0) (lineAt (now (text .entry)) at)) ⌝ }
 {
     if 0 < version.common.size {
         return Length(field_at(text, 0, version.common));
@@ -36,9 +37,9 @@ fn cost_at(text: &[u8], at: usize, version: Version) -> Length
 // What a string frame says, under the header of its text.
 fn string_at(text: &[u8], at: usize, version: Version) -> BatteryString
     requires { ⌜ Known version ⌝ }
-    requires { ⌜ Frame (now text) 0 (frameSize (framesBy version .header)) ⌝ }
-    requires { ⌜ Frame (now text) at (frameSize (framesBy version .string)) ⌝ }
-    ensures exact { λ r. ⌜ r ≡ stringOf (framesBy version) (lineAt (now (text .entry)) 0) (lineAt (now (text .entry)) at) ⌝ }
+    requires { ⌜ Frame (now text) 0 (frameSize (headerFrame (meantBy version))) ⌝ }
+    requires { ⌜ Frame (now text) at (frameSize (stringFrame (meantBy version))) ⌝ }
+    ensures exact { λ r. ⌜ r ≡ stringOf (meantBy version) (lineAt (now (text .entry)) 0) (lineAt (now (text .entry)) at) ⌝ }
 {
     let x = field_at(text, at, STRING_X);
     let t = Length(field_at(text, at, STRING_T));
@@ -51,9 +52,9 @@ fn string_at(text: &[u8], at: usize, version: Version) -> BatteryString
 // Line k, which starts at `at`: 2, 3, then 5.
 fn string_line_check(text: &[u8], at: usize, k: usize, version: Version) -> Checked
     requires { ⌜ Known version ⌝ }
-    requires { ⌜ Frame (now text) 0 (frameSize (framesBy version .header)) ⌝ }
+    requires { ⌜ Frame (now text) 0 (frameSize (headerFrame (meantBy version))) ⌝ }
     requires { ⌜ at ≤ length (now text) ⌝ }
-    ensures exact { λ r. ⌜ r ≡ stringLineCheck (framesBy version) (lineAt (now (text .entry)) 0) k (lineAt (now (text .entry)) at) ⌝ }
+    ensures exact { λ r. ⌜ r ≡ stringLineCheck (meantBy version) (lineAt (now (text .entry)) 0) k (lineAt (now (text .entry)) at) ⌝ }
 {
     let frame = frame_check(text, at, k, version.string);
     match frame {
@@ -75,9 +76,9 @@ fn string_line_check(text: &[u8], at: usize, k: usize, version: Version) -> Chec
 // n string lines, the first at `start`. A line that is missing is 3.
 pub(crate) fn string_lines_check(text: &[u8], start: usize, n: usize, version: Version) -> Checked
     requires { ⌜ Known version ⌝ }
-    requires { ⌜ Frame (now text) 0 (frameSize (framesBy version .header)) ⌝ }
+    requires { ⌜ Frame (now text) 0 (frameSize (headerFrame (meantBy version))) ⌝ }
     requires { ⌜ (start ≤ length (now text)) × (start ≤ 1000) × (n ≤ 10) ⌝ }
-    ensures exact { λ r. ⌜ r ≡ stringLinesCheck (framesBy version) (lineAt (now (text .entry)) 0) 2 n
+    ensures exact { λ r. ⌜ r ≡ stringLinesCheck (meantBy version) (lineAt (now (text .entry)) 0) 2 n
         (linesFrom (now (text .entry)) start) ⌝ }
 {
     let mut i: usize = 0;
@@ -105,20 +106,12 @@ pub(crate) fn string_lines_check(text: &[u8], start: usize, n: usize, version: V
 // The plan that a lawful header and n lawful string lines write, of which the first starts at `start`.
 pub(crate) fn plan_in(text: &[u8], start: usize, n: usize, version: Version) -> Plan
     requires { ⌜ Known version ⌝ }
-    requires { ⌜ Frame (now text) 0 (frameSize (framesBy version .header)) ⌝ }
-    requires { ⌜ (start ≡ stringsAt (framesBy version)) × (n ≡ nIn (framesBy version) (lineAt (now text) 0)) × (n ≤ 10) ⌝ }
-    requires { ⌜ Stand (now text) start (frameSize (framesBy version .string)) n ⌝ }
-    ensures exact { λ r. ⌜ r ≡ planIn (framesBy version) (linesOf (now (text .entry))) ⌝ }
+    requires { ⌜ Frame (now text) 0 (frameSize (headerFrame (meantBy version))) ⌝ }
+    requires { ⌜ (start ≡ stringsAt (meantBy version)) × (n ≡ nIn (meantBy version) (lineAt (now text) 0)) × (n ≤ 10) ⌝ }
+    requires { ⌜ Stand (now text) start (frameSize (stringFrame (meantBy version))) n ⌝ }
+    ensures exact { λ r. ⌜ r ≡ planIn (meantBy version) (linesOf (now (text .entry))) ⌝ }
 {
-    let zero = Length(0);
-    let none = BatteryString {
-        t: zero,
-        c: zero,
-        d: zero,
-        x: 0,
-        a: zero,
-    };
-    let mut strings = [none; 10];
+    let mut strings = [NO_STRING; 10];
     let mut i: usize = 0;
     while i < n {
         strings[i] = string_at(text, start + i * version.string.line, version);

@@ -1,35 +1,13 @@
 -- Document 01's worked plans, P1 to P10, its sample file, and two runs on which planners go wrong, with the blocking limit of document 02's
 -- W-205; its string on the roof, and its plan file with a moving cost for each string (W-207): one table, one statement. Each row is a
 -- question and the answer that the page gives. `worked` has antt compute every answer from the definitions.
-use Prim.Native.Nat.{ℕ, zero, suc, _+_, _/_, _%_, _-_}
-use mathlib.Core.Path.{_≡_, refl}
-use mathlib.Core.Bool.{cond}
-use mathlib.Core.List.{List, [], _∷_, _++_, map, flatMap}
+use Rattle.base.proofs.Prelude.{ℕ, zero, suc, _+_, _/_, _%_, _-_, _≡_, refl, cond, List, [], _∷_, _++_, map, ltb, length}
+use mathlib.Core.List.{flatMap}
 use lib.Count.{ones, onesIn}
-use lib.Dec.{ltb}
-use lib.ListN.{length}
 use Rattle.days.specs.Days.{day, days}
-use Rattle.rules.specs.declared.BatteryString.{BatteryString}
-use Rattle.rules.specs.declared.Plan.{Plan}
-use Rattle.rules.specs.declared.Release.{Release}
-use Rattle.rules.specs.declared.Releases.{Releases}
-use Rattle.lists.specs.Count.{sumOf, largest, smallest, smallestWith, every, any, keep, countOf, upFrom, leastFrom, firstOf}
-use Rattle.rules.specs.Plan.{noString, stringLawful, commonMultiple, multipleOf, dMin, dMax}
-use Rattle.rules.specs.Demand.{movingCost, holdOf, jobs, blockerHold, blockLimit, need, demand, load, overloaded}
-use Rattle.rules.specs.Verdict.{pairsAt, allPairs, broken, compared, judged, verdictOver, isPass}
-use Rattle.rules.specs.Search.{permit, withSet, setPasses, setsOf, ordered, searchOf}
-use Rattle.rules.specs.Release.{noRelease, tooClose, outOfOrder, releaseLawful, unlawfulFrom, firstUnlawful}
-use Rattle.rules.specs.Run.{chosen, lateAt, newSlot, joinFrom, joined, holder, payer, taken, nextUp, given, useOf, spent, morning, stateAt, useOn, lateOn, history, daysOf, missDay, runOf}
-use Rattle.rules.specs.Refusal.{countCheck, runLengthCheck, costCheck, stringsCheck, multipleCheck, planCheck, setCheck, releasesCheck, runCheck, verdictAnswer, setAnswer, searchAnswer, runAnswer}
-use Rattle.rules.specs.Said.{Said, lawful, refused, overload, fail, pass, takers, miss, clean, checkedSays, verdictSays, assignSays, outcomeSays}
-use Rattle.rules.specs.Answer.{answerOf}
+use Rattle.rules.specs.{declared.BatteryString.BatteryString, declared.Plan.Plan, declared.Release.Release, declared.Releases.Releases, Plan.{noString, stringLawful, commonMultiple, multipleOf, dMin, dMax}, Demand.{movingCost, holdOf, jobs, blockerHold, blockLimit, need, demand, load, overloaded}, Verdict.{pairsAt, allPairs, broken, compared, judged, verdictOver, isPass}, Search.{permit, withSet, setPasses, setsOf, ordered, searchOf}, Release.{noRelease, tooClose, outOfOrder, releaseLawful, unlawfulFrom, firstUnlawful}, Run.{chosen, lateAt, newSlot, joinFrom, joined, holder, payer, taken, nextUp, given, useOf, spent, morning, stateAt, useOn, lateOn, history, daysOf, missDay, runOf}, Refusal.{countCheck, runLengthCheck, costCheck, stringsCheck, multipleCheck, planCheck, setCheck, releasesCheck, runCheck, verdictAnswer, setAnswer, searchAnswer, runAnswer}, Said.{Said, lawful, refused, overload, fail, pass, takers, miss, clean, checkedSays, verdictSays, assignSays, outcomeSays}, Answer.answerOf, Lines.{bytesOf, decimal, wordedIn, refusedLine, verdictLine, assignLine, outcomeLine, linesFor}, Layout.{numberFrom, hasField, fieldAmong, fieldIn, heldTo}, Text.{before, linesOf, digitOf, wellFormed, hexBytes, frameOf, fieldOf, frameCheck, nIn, runIn, aIn, costOf, stringOf, releaseOf, planIn, listIn, versionCheck, headerCheck, stringLineCheck, stringLinesCheck, releaseLineCheck, releaseLinesCheck, bodyCheck, linesCheck, textCheck, lawfulReading, readingIn, versionOf, readingOf}}
+use Rattle.base.specs.{Count.{sumOf, largest, smallest, smallestWith, every, any, keep, countOf, upFrom, leastFrom, firstOf, filled}, Digits.{digitsIn, digitsOf}}
 use Rattle.rules.specs.Answer as answers
-use Rattle.rules.specs.Lines.{bytesOf, decimalIn, decimal, refusedLine, verdictLine, assignLine, outcomeLine, linesFor}
-use Rattle.lists.specs.Count.{filled}
-use Rattle.rules.specs.Layout.{numberFrom, hasField, fieldAmong, fieldIn, framesFor}
-use Rattle.rules.specs.Text.{before, linesOf, digitOf, wellFormed, pairsOf, frameOf, fieldOf, frameCheck, nIn, runIn, aIn, costOf, stringOf, releaseOf}
-use Rattle.rules.specs.Text.{planIn, releasesIn, versionCheck, headerCheck, stringLineCheck, stringLinesCheck, releaseLineCheck}
-use Rattle.rules.specs.Text.{releaseLinesCheck, bodyCheck, linesCheck, textCheck, lawfulReading, readingIn, framesOf, readingOf}
 
 -- ---- Writing plans and texts down
 
@@ -61,13 +39,13 @@ unfoldable pub char : ℕ → ℕ
 char v = cond (ltb v 10) (0x30 + v) (0x57 + v)
 
 -- the last k digits of v, and what follows
-unfoldable pub digits : ℕ → ℕ → List ℕ → List ℕ
-digits zero v after = after
-digits (suc k) v after = digits k (v / 16) (char (v % 16) ∷ after)
+unfoldable pub hexOf : ℕ → ℕ → List ℕ → List ℕ
+hexOf zero v after = after
+hexOf (suc k) v after = hexOf k (v / 16) (char (v % 16) ∷ after)
 
 -- a line of k digits, with its 0a
 unfoldable pub line : ℕ → ℕ → List ℕ
-line k v = digits k v (0x0a ∷ [])
+line k v = hexOf k v (0x0a ∷ [])
 
 -- ---- The plans of the page
 
@@ -200,7 +178,7 @@ table =
 
 pub worked : map (λ r. answered (r .asked)) table ≡ map (λ r. r .said) table
 unfolding
-    answered row table string paying planOf plan release releases char digits line two three five eight nine ten level roof sample sample02
+    answered row table string paying planOf plan release releases char hexOf line two three five eight nine ten level roof sample sample02
     ones onesIn flatMap
     sumOf largest smallest smallestWith every any keep countOf upFrom leastFrom
     stringLawful commonMultiple multipleOf dMin dMax
@@ -212,9 +190,9 @@ unfolding
     runOf
     countCheck runLengthCheck costCheck stringsCheck multipleCheck planCheck setCheck releasesCheck runCheck
     verdictAnswer setAnswer searchAnswer runAnswer
-    before linesOf digitOf wellFormed pairsOf frameOf numberFrom hasField fieldAmong fieldIn framesFor fieldOf
-    nIn runIn aIn costOf stringOf releaseOf planIn releasesIn frameCheck versionCheck headerCheck
-    stringLineCheck stringLinesCheck releaseLineCheck releaseLinesCheck bodyCheck linesCheck textCheck lawfulReading readingIn framesOf
+    before linesOf digitOf wellFormed hexBytes frameOf numberFrom hasField fieldAmong fieldIn heldTo fieldOf
+    nIn runIn aIn costOf stringOf releaseOf planIn listIn frameCheck versionCheck headerCheck
+    stringLineCheck stringLinesCheck releaseLineCheck releaseLinesCheck bodyCheck linesCheck textCheck lawfulReading readingIn versionOf
     readingOf
-    answers.answered answerOf bytesOf decimalIn decimal refusedLine verdictLine assignLine outcomeLine linesFor
+    answers.answered answerOf bytesOf digitsIn digitsOf decimal wordedIn refusedLine verdictLine assignLine outcomeLine linesFor
 worked = refl

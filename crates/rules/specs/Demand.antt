@@ -14,7 +14,7 @@ use mathlib.Core.Bool.{Bool, cond, _&&_}
 use lib.Dec.{leb, ltb, eqb}
 use Rattle.rules.specs.declared.BatteryString.{BatteryString}
 use Rattle.rules.specs.declared.Plan.{Plan}
-use Rattle.lists.specs.Count.{sumOf, largest}
+use Rattle.base.specs.Count.{sumOf, largest}
 use Rattle.rules.specs.Plan.{stringsOf, multipleOf, dMin, dMax}
 
 -- said of a plan and a string, as E and the run ask for it: they read the same wherever a plan keeps the cost

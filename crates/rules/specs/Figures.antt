@@ -9,7 +9,8 @@ use lib.ListN.{replicate}
 use Rattle.faults.specs.declared.Fault.{Fault}
 use Rattle.faults.specs.declared.Checked.{Checked}
 use Rattle.faults.specs.declared.Checked.the-variants.{Lawful, Refused}
-use Rattle.lists.specs.Count.{filled}
+use Rattle.faults.specs.Checks.{orRefused}
+use Rattle.base.specs.Count.{filled}
 use Rattle.rules.specs.declared.Plan.{Plan}
 use Rattle.rules.specs.declared.Figures.{Figures}
 use Rattle.rules.specs.Plan.{stringsOf, multipleOf}
@@ -26,8 +27,7 @@ abbrev pub noFigures : Fault → ℕ → Figures
 noFigures f at = record { checked = Refused f at; multiple = 0; load = 0; holds = replicate 10 0 }
 
 abbrev pub onFigures : Checked → Figures → Figures
-onFigures Lawful v = v
-onFigures (Refused f at) v = noFigures f at
+onFigures = orRefused noFigures
 
 unfoldable pub figuresAnswer : Plan → Figures
 figuresAnswer p =

@@ -1,6 +1,7 @@
 -- Layouts of frames (document 01, "Frames of the plan file"; document 02, W-207): which bytes of a frame say what.
---     Field                 what a field of a frame says
---     Layout                the kind of a frame, and its fields in the page's order, each with its size in bytes
+--     HeaderField, StringField, ReleaseField    what the fields of each frame say
+--     Layout F              a frame whose fields are those of F: its kind, its fields in the page's order, the rank of a field in that
+--                           order, and its size in bytes. A field of no byte is one that the frame does not have
 --     frameSize l           the bytes of a frame: one for its kind, then those of its fields
 --     lineLength size       the bytes of text that a frame of that size takes: two digits a byte, and the 0a
 --     lineSize l            the same of a frame of the layout l
@@ -9,71 +10,60 @@
 --     versionIn frame       the version that a header names, its second byte, whatever the version
 --     hasField l f          the layout l has the field f
 --     fieldIn l f frame     the number that the field f of a frame says; 0 where the layout has no such field
---     Frames                a version of the plan file: its number and the layouts of its three frames
+--     Version               a version of the plan file: its number, and the sizes of the fields of its three frames
 --     version01             document 01's: the header says the moving cost of every string
 --     version02             document 02's, W-207: each string says its own
---     framesFor version     the frames that a header which names the version is held to: 02's for 02. Any other is held to 01's, which
---                           refuse it unless it is 01
+--     headerFrame v, stringFrame v, releaseFrame v    the layouts of the frames of the version v
+--     heldTo number         the version that a header which names the number is held to. A number that none has is held to 01, which
+--                           refuses it
 -- A field starts where the one before it ends.
 use Prim.Native.Nat.{ℕ, _+_, _*_}
 use mathlib.Core.Bool.{Bool, cond}
 use mathlib.Core.List.{List, [], _∷_}
-use lib.Dec.{eqb}
+use lib.Dec.{ltb, eqb}
 use lib.ListN.{take, drop}
-use Rattle.lists.specs.Count.{any}
 
--- n and N are Count and Run, a moving cost is Moving
-pub data Field : Type 0 where
-  Version : Field
-  Count : Field
-  Moving : Field
-  Run : Field
-  X : Field
-  T : Field
-  C : Field
-  D : Field
-  Place : Field
-  Day : Field
-  Need : Field
+-- the version's number, n, the moving cost of every string, N
+pub data HeaderField : Type 0 where
+  Number : HeaderField
+  Count : HeaderField
+  Common : HeaderField
+  Run : HeaderField
 
-abbrev pub fieldNumber : Field → ℕ
-fieldNumber Version = 0
-fieldNumber Count = 1
-fieldNumber Moving = 2
-fieldNumber Run = 3
-fieldNumber X = 4
-fieldNumber T = 5
-fieldNumber C = 6
-fieldNumber D = 7
-fieldNumber Place = 8
-fieldNumber Day = 9
-fieldNumber Need = 10
+-- X, T, C, D, the string's own moving cost
+pub data StringField : Type 0 where
+  X : StringField
+  T : StringField
+  C : StringField
+  D : StringField
+  Own : StringField
 
-pub record Sized : Type 0 where
-  pub field : Field
-  pub size : ℕ
+pub data ReleaseField : Type 0 where
+  Place : ReleaseField
+  Day : ReleaseField
+  Need : ReleaseField
 
-pub record Layout : Type 0 where
+pub record Layout (F : Type 0) : Type 0 where
   pub kind : ℕ
-  pub fields : List Sized
-
-abbrev pub sized : Field → ℕ → Sized
-sized f size = record { field = f; size = size }
+  pub fields : List F
+  pub rank : F → ℕ
+  pub size : F → ℕ
 
 -- ---- Sizes
-
-abbrev pub sizeOf : List Sized → ℕ
-sizeOf [] = 0
-sizeOf (s ∷ rest) = s .size + sizeOf rest
-
-abbrev pub frameSize : Layout → ℕ
-frameSize l = 1 + sizeOf (l .fields)
 
 abbrev pub lineLength : ℕ → ℕ
 lineLength size = size * 2 + 1
 
-abbrev pub lineSize : Layout → ℕ
-lineSize l = lineLength (frameSize l)
+module _ {F : Type 0} where
+  abbrev pub sizeOf : (F → ℕ) → List F → ℕ
+  sizeOf size [] = 0
+  sizeOf size (f ∷ rest) = size f + sizeOf size rest
+
+  abbrev pub frameSize : Layout F → ℕ
+  frameSize l = 1 + sizeOf (l .size) (l .fields)
+
+  abbrev pub lineSize : Layout F → ℕ
+  lineSize l = lineLength (frameSize l)
 
 -- ---- Numbers
 
@@ -91,46 +81,76 @@ kindIn frame = numberOf (take 1 frame)
 abbrev pub versionIn : List ℕ → ℕ
 versionIn frame = numberOf (take 1 (drop 1 frame))
 
-unfoldable pub hasField : Layout → Field → Bool
-hasField l f = any (λ s. eqb (fieldNumber (s .field)) (fieldNumber f)) (l .fields)
+module _ {F : Type 0} (l : Layout F) where
+  unfoldable pub hasField : F → Bool
+  hasField f = ltb 0 (l .size f)
 
-unfoldable pub fieldAmong : List Sized → Field → List ℕ → ℕ
-fieldAmong [] f bytes = 0
-fieldAmong (s ∷ rest) f bytes =
-    let later = fieldAmong rest f (drop (s .size) bytes) in
-    cond (eqb (fieldNumber (s .field)) (fieldNumber f)) (numberOf (take (s .size) bytes)) later
+  unfoldable pub fieldAmong : List F → F → List ℕ → ℕ
+  fieldAmong [] f bytes = 0
+  fieldAmong (g ∷ rest) f bytes =
+      let later = fieldAmong rest f (drop (l .size g) bytes) in
+      cond (eqb (l .rank g) (l .rank f)) (numberOf (take (l .size g) bytes)) later
 
-unfoldable pub fieldIn : Layout → Field → List ℕ → ℕ
-fieldIn l f frame = fieldAmong (l .fields) f (drop 1 frame)
+  unfoldable pub fieldIn : F → List ℕ → ℕ
+  fieldIn f frame = fieldAmong (l .fields) f (drop 1 frame)
 
 -- ---- Versions
 
-pub record Frames : Type 0 where
-  pub version : ℕ
-  pub header : Layout
-  pub string : Layout
-  pub release : Layout
+pub record Version : Type 0 where
+  pub number : ℕ
+  pub header : HeaderField → ℕ
+  pub string : StringField → ℕ
+  pub release : ReleaseField → ℕ
 
--- header, 9 bytes: 01, version 01, n (1), A (2), N (4); string, 8 bytes: 02, X (1), T (2), C (2), D (2);
--- release, 8 bytes: 03, place (1), day (4), need (2)
-abbrev pub version01 : Frames
-version01 =
-    record {
-      version = 1;
-      header = record { kind = 1; fields = sized Version 1 ∷ sized Count 1 ∷ sized Moving 2 ∷ sized Run 4 ∷ [] };
-      string = record { kind = 2; fields = sized X 1 ∷ sized T 2 ∷ sized C 2 ∷ sized D 2 ∷ [] };
-      release = record { kind = 3; fields = sized Place 1 ∷ sized Day 4 ∷ sized Need 2 ∷ [] };
-    }
+-- sizes in the page's order
+abbrev pub headerRow : ℕ → ℕ → ℕ → ℕ → HeaderField → ℕ
+headerRow number count common run Number = number
+headerRow number count common run Count = count
+headerRow number count common run Common = common
+headerRow number count common run Run = run
 
--- header, 7 bytes: 01, version 02, n (1), N (4); string, 10 bytes: 02, X (1), T (2), C (2), D (2), moving cost (2); release as in 01
-abbrev pub version02 : Frames
-version02 =
-    record {
-      version = 2;
-      header = record { kind = 1; fields = sized Version 1 ∷ sized Count 1 ∷ sized Run 4 ∷ [] };
-      string = record { kind = 2; fields = sized X 1 ∷ sized T 2 ∷ sized C 2 ∷ sized D 2 ∷ sized Moving 2 ∷ [] };
-      release = version01 .release;
-    }
+abbrev pub stringRow : ℕ → ℕ → ℕ → ℕ → ℕ → StringField → ℕ
+stringRow x t c d own X = x
+stringRow x t c d own T = t
+stringRow x t c d own C = c
+stringRow x t c d own D = d
+stringRow x t c d own Own = own
 
-unfoldable pub framesFor : ℕ → Frames
-framesFor version = cond (eqb version (version02 .version)) version02 version01
+abbrev pub releaseRow : ℕ → ℕ → ℕ → ReleaseField → ℕ
+releaseRow place day need Place = place
+releaseRow place day need Day = day
+releaseRow place day need Need = need
+
+-- header: 01, version (1), n (1), A (2), N (4); string: 02, X (1), T (2), C (2), D (2); release: 03, place (1), day (4), need (2)
+abbrev pub version01 : Version
+version01 = record { number = 1; header = headerRow 1 1 2 4; string = stringRow 1 2 2 2 0; release = releaseRow 1 4 2 }
+
+-- header: 01, version (1), n (1), N (4); string: 02, X (1), T (2), C (2), D (2), moving cost (2); release as in 01
+abbrev pub version02 : Version
+version02 = record { number = 2; header = headerRow 1 1 0 4; string = stringRow 1 2 2 2 2; release = releaseRow 1 4 2 }
+
+abbrev pub laterVersions : List Version
+laterVersions = version02 ∷ []
+
+abbrev pub versions : List Version
+versions = version01 ∷ laterVersions
+
+abbrev pub versionAmong : ℕ → List Version → Version
+versionAmong number [] = version01
+versionAmong number (v ∷ vs) = cond (eqb number (v .number)) v (versionAmong number vs)
+
+unfoldable pub heldTo : ℕ → Version
+heldTo number = versionAmong number laterVersions
+
+-- ---- Frames
+
+abbrev pub headerFrame : Version → Layout HeaderField
+headerFrame v =
+    record { kind = 1; fields = Number ∷ Count ∷ Common ∷ Run ∷ []; rank = headerRow 0 1 2 3; size = v .header }
+
+abbrev pub stringFrame : Version → Layout StringField
+stringFrame v =
+    record { kind = 2; fields = X ∷ T ∷ C ∷ D ∷ Own ∷ []; rank = stringRow 0 1 2 3 4; size = v .string }
+
+abbrev pub releaseFrame : Version → Layout ReleaseField
+releaseFrame v = record { kind = 3; fields = Place ∷ Day ∷ Need ∷ []; rank = releaseRow 0 1 2; size = v .release }

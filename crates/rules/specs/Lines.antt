@@ -1,18 +1,20 @@
 -- The lines that are written (document 01, "Frames of the plan file"), as bytes. Each ends by one byte 0a.
 --     bytesOf "text"        the bytes of a text in ASCII
 --     decimal n             the decimal digits of n, without leading zeros
+--     worded "text" parts   the text with each mark # replaced by the next of the parts; once they are used up, as it stands
 --     verdictLine v         verdict overload | verdict fail interval l blocking b demand d pairs k | verdict pass pairs k
 --     assignLine a          assign m | assign none
 --     outcomeLine o         run miss day t place i | run clean work w move m idle i
 --     refusedLine f at      refused number line at
 --     linesFor a            all that is written for an answer
-use Prim.Native.Nat.{ℕ, zero, suc, _+_, _/_, _%_}
+use Prim.Native.Nat.{ℕ, _+_}
 use Prim.Native.Char.{code}
 use Prim.Native.String.{String}
 use Prim.Native.String as text
 use mathlib.Core.Bool.{cond}
-use mathlib.Core.List.{List, [], _∷_, _++_}
-use lib.Dec.{ltb}
+use mathlib.Core.List.{List, [], _∷_, _++_, map}
+use lib.Dec.{eqb}
+use Rattle.base.specs.Digits.{digitsOf}
 use Rattle.faults.specs.declared.Fault.{Fault}
 use Rattle.rules.specs.declared.Verdict.{Verdict}
 use Rattle.rules.specs.declared.Verdict.the-variants as verdict
@@ -28,44 +30,42 @@ unfoldable pub bytesOf : String → List ℕ
 bytesOf text.[] = []
 bytesOf (text._∷_ c s) = code c ∷ bytesOf s
 
--- the digits of n, of which there are at most k
-unfoldable pub decimalIn : ℕ → ℕ → List ℕ
-decimalIn zero n = []
-decimalIn (suc k) n =
-    let high = decimalIn k (n / 10) in
-    cond (ltb n 10) ((0x30 + n) ∷ []) (high ++ ((0x30 + n % 10) ∷ []))
-
--- n has at most n digits, and one more where it is 0
 unfoldable pub decimal : ℕ → List ℕ
-decimal n = decimalIn (suc n) n
+decimal n = map (λ d. 0x30 + d) (digitsOf 10 n)
+
+-- the mark's byte
+abbrev pub mark : ℕ
+mark = 0x23
+
+unfoldable pub wordedIn : List ℕ → List (List ℕ) → List ℕ
+wordedIn [] parts = []
+wordedIn (b ∷ bs) [] = b ∷ bs
+wordedIn (b ∷ bs) (part ∷ parts) = cond (eqb b mark) part (b ∷ []) ++ wordedIn bs (cond (eqb b mark) parts (part ∷ parts))
+
+abbrev pub worded : String → List (List ℕ) → List ℕ
+worded template parts = wordedIn (bytesOf template) parts
+
+-- ---- The lines of an answer
 
 unfoldable pub refusedLine : Fault → ℕ → List ℕ
-refusedLine f at = bytesOf "refused " ++ decimal (faultNumber f) ++ bytesOf " line " ++ decimal at ++ bytesOf "\n"
+refusedLine f at = worded "refused # line #\n" (decimal (faultNumber f) ∷ decimal at ∷ [])
 
 unfoldable pub verdictLine : Verdict → List ℕ
 verdictLine (verdict.Refused f at) = refusedLine f at
-verdictLine verdict.Overload = bytesOf "verdict overload\n"
+verdictLine verdict.Overload = worded "verdict overload\n" []
 verdictLine (verdict.Fail l b d k) =
-    bytesOf "verdict fail interval " ++ decimal (l .0)
-    ++ bytesOf " blocking " ++ decimal (b .0)
-    ++ bytesOf " demand " ++ decimal (d .0)
-    ++ bytesOf " pairs " ++ decimal k
-    ++ bytesOf "\n"
-verdictLine (verdict.Pass k) = bytesOf "verdict pass pairs " ++ decimal k ++ bytesOf "\n"
+    worded "verdict fail interval # blocking # demand # pairs #\n" (decimal (l .0) ∷ decimal (b .0) ∷ decimal (d .0) ∷ decimal k ∷ [])
+verdictLine (verdict.Pass k) = worded "verdict pass pairs #\n" (decimal k ∷ [])
 
 unfoldable pub assignLine : Assign → List ℕ
 assignLine (assign.Refused f at) = refusedLine f at
-assignLine (assign.Takers m) = bytesOf "assign " ++ decimal m ++ bytesOf "\n"
-assignLine assign.Nobody = bytesOf "assign none\n"
+assignLine (assign.Takers m) = worded "assign #\n" (decimal m ∷ [])
+assignLine assign.Nobody = worded "assign none\n" []
 
 unfoldable pub outcomeLine : Outcome → List ℕ
 outcomeLine (outcome.Refused f at) = refusedLine f at
-outcomeLine (outcome.Miss t i) = bytesOf "run miss day " ++ decimal (t .0) ++ bytesOf " place " ++ decimal i ++ bytesOf "\n"
-outcomeLine (outcome.Clean w m i) =
-    bytesOf "run clean work " ++ decimal (w .0)
-    ++ bytesOf " move " ++ decimal (m .0)
-    ++ bytesOf " idle " ++ decimal (i .0)
-    ++ bytesOf "\n"
+outcomeLine (outcome.Miss t i) = worded "run miss day # place #\n" (decimal (t .0) ∷ decimal i ∷ [])
+outcomeLine (outcome.Clean w m i) = worded "run clean work # move # idle #\n" (decimal (w .0) ∷ decimal (m .0) ∷ decimal (i .0) ∷ [])
 
 unfoldable pub linesFor : Answer → List ℕ
 linesFor (answer.Refused f at) = refusedLine f at

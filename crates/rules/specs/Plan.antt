@@ -5,6 +5,7 @@
 --     commonMultiple ss h   every T of ss divides h
 --     multipleOf p          H, the least common multiple of all T; 100,001 stands for any H over 100,000
 --     dMin p, dMax p        the smallest and the largest D
+--     withRun p n           p with a run of n days
 --     costLawful a          a moving cost: 0 to 1,000
 --     stringLawful s        T 1 to 1,000; D 1 to T; C 1 to D; X 0 or 1; a lawful moving cost
 use Prim.Native.Nat.{ℕ, _-_, _%_}
@@ -16,7 +17,7 @@ use Rattle.days.specs.Days.{days}
 use Rattle.faults.specs.Checks.{inBounds}
 use Rattle.rules.specs.declared.BatteryString.{BatteryString}
 use Rattle.rules.specs.declared.Plan.{Plan}
-use Rattle.lists.specs.Count.{every, largest, smallest, leastFrom}
+use Rattle.base.specs.Count.{every, largest, smallest, leastFrom}
 
 abbrev pub stringsOf : Plan → List BatteryString
 stringsOf p = take (p .n) (p .strings)
@@ -27,6 +28,9 @@ noString = record { t = days 0; c = days 0; d = days 0; x = 0; a = days 0 }
 
 abbrev pub stringAt : Plan → ℕ → BatteryString
 stringAt p i = getD (stringsOf p) (i - 1) noString
+
+abbrev pub withRun : Plan → ℕ → Plan
+withRun p n = record { n = p .n; run = days n; strings = p .strings }
 
 abbrev pub costLawful : ℕ → Bool
 costLawful a = inBounds 0 a 1000

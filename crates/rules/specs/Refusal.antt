@@ -30,7 +30,7 @@ use Rattle.rules.specs.declared.Assign.the-variants as assign
 use Rattle.rules.specs.declared.Outcome.{Outcome}
 use Rattle.rules.specs.declared.Outcome.the-variants as outcome
 use Rattle.rules.specs.Plan.{stringsOf, costLawful, stringLawful, multipleOf}
-use Rattle.faults.specs.Checks.{inBounds, refuseIf, then}
+use Rattle.faults.specs.Checks.{inBounds, refuseIf, then, orRefused}
 use Rattle.rules.specs.Verdict.{allPairs, firstBroken, brokenAt, verdictOf}
 use Rattle.rules.specs.Search.{withSet, searchOf}
 use Rattle.rules.specs.Release.{releasesOf, firstUnlawful}
@@ -90,20 +90,16 @@ runCheck p rs =
 -- ---- The answers
 
 abbrev pub onVerdict : Checked → Verdict → Verdict
-onVerdict checked.Lawful v = v
-onVerdict (checked.Refused f at) v = verdict.Refused f at
+onVerdict = orRefused verdict.Refused
 
 abbrev pub onBroken : Checked → Broken → Broken
-onBroken checked.Lawful v = v
-onBroken (checked.Refused f at) v = broken.Refused f at
+onBroken = orRefused broken.Refused
 
 abbrev pub onAssign : Checked → Assign → Assign
-onAssign checked.Lawful v = v
-onAssign (checked.Refused f at) v = assign.Refused f at
+onAssign = orRefused assign.Refused
 
 abbrev pub onOutcome : Checked → Outcome → Outcome
-onOutcome checked.Lawful v = v
-onOutcome (checked.Refused f at) v = outcome.Refused f at
+onOutcome = orRefused outcome.Refused
 
 unfoldable pub verdictAnswer : Plan → Verdict
 verdictAnswer p =

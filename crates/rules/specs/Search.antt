@@ -16,7 +16,7 @@ use Rattle.rules.specs.declared.BatteryString.{BatteryString}
 use Rattle.rules.specs.declared.Plan.{Plan}
 use Rattle.rules.specs.declared.Assign.{Assign}
 use Rattle.rules.specs.declared.Assign.the-variants.{Takers, Nobody}
-use Rattle.lists.specs.Count.{upFrom, keep, firstOf}
+use Rattle.base.specs.Count.{upFrom, keep, firstOf}
 use Rattle.rules.specs.Verdict.{verdictOf, isPass}
 
 unfoldable pub permit : ℕ → List BatteryString → List BatteryString

@@ -9,10 +9,10 @@
 --     costOf v header line  the moving cost of a string: where the header says one it goes to every string, else the string line says it
 --     stringOf v header line     what a string line says, under the header of its text
 --     releaseOf v line      what a release line says
---     planIn v lines, releasesIn v lines     the plan and the releases that lines write, where they are lawful
+--     planIn v lines, listIn v lines    the plan and the releases that lines write, where they are lawful
 --     linesCheck v lines    the first fault, with its line; the order of faults is document 01's
 --     readingIn v text      what reading a text of that version gives: on a refusal an empty plan and no releases
---     framesOf lines        the version that lines are held to: the one that the first of them names
+--     versionOf lines       the version that lines are held to: the one that the first of them names
 --     readingOf text        what reading a text gives: its lines are held to the version that its header names
 -- Versions 01 and 02 are read. A header of another version, or of another length than its version's, is 3 at line 1; a string line of
 -- the other version has the wrong length and is 3 at its line.
@@ -22,11 +22,12 @@ use mathlib.Core.List.{List, [], _∷_, map}
 use lib.Dec.{ltb, eqb}
 use lib.ListN.{length, take, drop, replicate}
 use Rattle.days.specs.Days.{day, days}
+use Rattle.faults.specs.declared.Fault.{Fault}
 use Rattle.faults.specs.declared.Fault.the-variants.{TextTooLong, LineMalformed, FrameWrong, ReleaseUnlawful}
 use Rattle.faults.specs.declared.Checked.{Checked}
 use Rattle.faults.specs.declared.Checked.the-variants.{Lawful, Refused}
-use Rattle.faults.specs.Checks.{inBounds, then, refuseIf}
-use Rattle.lists.specs.Count.{every, filled}
+use Rattle.faults.specs.Checks.{inBounds, then, refuseIf, orRefused}
+use Rattle.base.specs.Count.{every, filled}
 use Rattle.rules.specs.declared.BatteryString.{BatteryString}
 use Rattle.rules.specs.declared.Plan.{Plan}
 use Rattle.rules.specs.declared.Release.{Release}
@@ -35,8 +36,8 @@ use Rattle.rules.specs.declared.Reading.{Reading}
 use Rattle.rules.specs.Plan.{noString}
 use Rattle.rules.specs.Release.{releaseLawful, noRelease}
 use Rattle.rules.specs.Refusal.{headCheck, costCheck, stringCheck, multipleCheck, manyCheck}
-use Rattle.rules.specs.Layout.{Field, Layout, Frames, frameSize, kindIn, versionIn, hasField, fieldIn, version01, framesFor}
-use Rattle.rules.specs.Layout.{Version, Count, Moving, Run, X, T, C, D, Place, Day, Need}
+use Rattle.rules.specs.Layout.{Layout, Version, frameSize, kindIn, versionIn, hasField, fieldIn, version01, heldTo}
+use Rattle.rules.specs.Layout.{headerFrame, stringFrame, releaseFrame, Number, Count, Common, Run, X, T, C, D, Own, Place, Day, Need}
 
 -- ---- Lines
 
@@ -66,15 +67,15 @@ wellFormed line =
     && eqb (length (line .bytes) % 2) 0
     && every (λ b. ltb (digitOf b) 16) (line .bytes)
 
-unfoldable pub pairsOf : List ℕ → List ℕ
-pairsOf [] = []
-pairsOf (high ∷ []) = []
-pairsOf (high ∷ low ∷ bs) = (digitOf high * 16 + digitOf low) ∷ pairsOf bs
+unfoldable pub hexBytes : List ℕ → List ℕ
+hexBytes [] = []
+hexBytes (high ∷ []) = []
+hexBytes (high ∷ low ∷ bs) = (digitOf high * 16 + digitOf low) ∷ hexBytes bs
 
 unfoldable pub frameOf : Line → List ℕ
-frameOf line = pairsOf (line .bytes)
+frameOf line = hexBytes (line .bytes)
 
-unfoldable pub fieldOf : Layout → Field → Line → ℕ
+unfoldable pub fieldOf : {F : Type 0} → Layout F → F → Line → ℕ
 fieldOf l f line = fieldIn l f (frameOf line)
 
 abbrev pub noPlan : Plan
@@ -83,47 +84,50 @@ noPlan = record { n = 0; run = days 0; strings = replicate 10 noString }
 abbrev pub noReleases : Releases
 noReleases = record { count = 0; list = replicate 1000 noRelease }
 
+abbrev pub refusedReading : Fault → ℕ → Reading
+refusedReading f at = record { checked = Refused f at; plan = noPlan; releases = noReleases }
+
 -- 2, then 3 for the kind and the size of a frame; k is the number of the line
 unfoldable pub frameCheck : ℕ → ℕ → ℕ → Line → Checked
 frameCheck k kind size line =
     then (refuseIf (not (wellFormed line)) LineMalformed k)
     (refuseIf (not (eqb (length (frameOf line)) size && eqb (kindIn (frameOf line)) kind)) FrameWrong k)
 
-abbrev pub layoutCheck : ℕ → Layout → Line → Checked
+abbrev pub layoutCheck : {F : Type 0} → ℕ → Layout F → Line → Checked
 layoutCheck k l line = frameCheck k (l .kind) (frameSize l) line
 
-module _ (v : Frames) where
+module _ (v : Version) where
   -- ---- What lines say
 
   unfoldable pub nIn : Line → ℕ
-  nIn line = fieldOf (v .header) Count line
+  nIn line = fieldOf (headerFrame v) Count line
 
   unfoldable pub runIn : Line → ℕ
-  runIn line = fieldOf (v .header) Run line
+  runIn line = fieldOf (headerFrame v) Run line
 
   -- A, the moving cost that the header says; 0 where it says none
   unfoldable pub aIn : Line → ℕ
-  aIn line = fieldOf (v .header) Moving line
+  aIn line = fieldOf (headerFrame v) Common line
 
   unfoldable pub costOf : Line → Line → ℕ
-  costOf header line = cond (hasField (v .header) Moving) (aIn header) (fieldOf (v .string) Moving line)
+  costOf header line = cond (hasField (headerFrame v) Common) (aIn header) (fieldOf (stringFrame v) Own line)
 
   unfoldable pub stringOf : Line → Line → BatteryString
   stringOf header line =
       record {
-        t = days (fieldOf (v .string) T line);
-        c = days (fieldOf (v .string) C line);
-        d = days (fieldOf (v .string) D line);
-        x = fieldOf (v .string) X line;
+        t = days (fieldOf (stringFrame v) T line);
+        c = days (fieldOf (stringFrame v) C line);
+        d = days (fieldOf (stringFrame v) D line);
+        x = fieldOf (stringFrame v) X line;
         a = days (costOf header line);
       }
 
   unfoldable pub releaseOf : Line → Release
   releaseOf line =
       record {
-        day = day (fieldOf (v .release) Day line);
-        place = fieldOf (v .release) Place line;
-        need = days (fieldOf (v .release) Need line);
+        day = day (fieldOf (releaseFrame v) Day line);
+        place = fieldOf (releaseFrame v) Place line;
+        need = days (fieldOf (releaseFrame v) Need line);
       }
 
   unfoldable pub planIn : List Line → Plan
@@ -135,24 +139,24 @@ module _ (v : Frames) where
         strings = filled 10 noString (map (stringOf header) (take (nIn header) lines));
       }
 
-  unfoldable pub releasesIn : List Line → Releases
-  releasesIn [] = noReleases
-  releasesIn (header ∷ lines) =
+  unfoldable pub listIn : List Line → Releases
+  listIn [] = noReleases
+  listIn (header ∷ lines) =
       let rs = map releaseOf (drop (nIn header) lines) in
       record { count = length rs; list = filled 1000 noRelease rs }
 
   -- ---- The order of faults
 
   unfoldable pub versionCheck : Line → Checked
-  versionCheck line = refuseIf (not (eqb (fieldOf (v .header) Version line) (v .version))) FrameWrong 1
+  versionCheck line = refuseIf (not (eqb (fieldOf (headerFrame v) Number line) (v .number))) FrameWrong 1
 
   unfoldable pub headerCheck : Line → Checked
   headerCheck line =
-      then (layoutCheck 1 (v .header) line)
+      then (layoutCheck 1 (headerFrame v) line)
       (then (versionCheck line) (then (headCheck 1 (nIn line) (runIn line)) (costCheck 1 (aIn line))))
 
   unfoldable pub stringLineCheck : Line → ℕ → Line → Checked
-  stringLineCheck header k line = then (layoutCheck k (v .string) line) (stringCheck k (stringOf header line))
+  stringLineCheck header k line = then (layoutCheck k (stringFrame v) line) (stringCheck k (stringOf header line))
 
   -- m strings are still to come
   unfoldable pub stringLinesCheck : Line → ℕ → ℕ → List Line → Checked
@@ -165,7 +169,7 @@ module _ (v : Frames) where
   -- the line writes the j-th release; those seen stand ahead of it, the latest first
   unfoldable pub releaseLineCheck : Plan → ℕ → ℕ → List Release → Line → Checked
   releaseLineCheck p k j seen line =
-      then (layoutCheck k (v .release) line)
+      then (layoutCheck k (releaseFrame v) line)
       (then (manyCheck k j) (refuseIf (not (releaseLawful p seen (releaseOf line))) ReleaseUnlawful k))
 
   unfoldable pub releaseLinesCheck : Plan → ℕ → ℕ → List Release → List Line → Checked
@@ -193,18 +197,17 @@ module _ (v : Frames) where
       then (refuseIf (ltb 65536 (length text)) TextTooLong 0) lines
 
   unfoldable pub lawfulReading : Checked → List Line → Reading
-  lawfulReading Lawful lines = record { checked = Lawful; plan = planIn lines; releases = releasesIn lines }
-  lawfulReading (Refused f at) lines = record { checked = Refused f at; plan = noPlan; releases = noReleases }
+  lawfulReading c lines = orRefused refusedReading c (record { checked = Lawful; plan = planIn lines; releases = listIn lines })
 
 -- ---- Reading
 
-unfoldable pub readingIn : Frames → List ℕ → Reading
+unfoldable pub readingIn : Version → List ℕ → Reading
 readingIn v text = lawfulReading v (textCheck v text) (linesOf text)
 
 -- a text without a line is refused by any version
-unfoldable pub framesOf : List Line → Frames
-framesOf [] = version01
-framesOf (header ∷ lines) = framesFor (versionIn (frameOf header))
+unfoldable pub versionOf : List Line → Version
+versionOf [] = version01
+versionOf (header ∷ lines) = heldTo (versionIn (frameOf header))
 
 unfoldable pub readingOf : List ℕ → Reading
-readingOf text = readingIn (framesOf (linesOf text)) text
+readingOf text = readingIn (versionOf (linesOf text)) text

@@ -19,7 +19,7 @@ use Rattle.rules.specs.declared.Verdict.{Verdict}
 use Rattle.rules.specs.declared.Verdict.the-variants.{Refused, Overload, Fail, Pass}
 use Rattle.rules.specs.declared.Broken.{Broken}
 use Rattle.rules.specs.declared.Broken.the-variants.{Nowhere, At}
-use Rattle.lists.specs.Count.{upFrom, firstOf}
+use Rattle.base.specs.Count.{upFrom, firstOf}
 use Rattle.rules.specs.Plan.{multipleOf, dMax}
 use Rattle.rules.specs.Demand.{blockLimit, demand, overloaded}
 

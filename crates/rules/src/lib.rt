@@ -7,6 +7,7 @@ use faults::Fault;
 ghost use mathlib.Core.Path.{_≡_};
 ghost use Rattle.days.specs.Days.{days};
 ghost use Rattle.rules.specs.Demand.{movingCost};
+ghost use Rattle.rules.specs.Plan.{withRun};
 
 // A battery string: least days between two releases, most working days of a job, days from release to deadline,
 // whether its jobs may take the bank (1) or not (0), and the moving days that a job pays which takes it.
@@ -17,6 +18,15 @@ pub struct BatteryString {
     pub x: u32,
     pub a: Length,
 }
+
+// Stands where there is no string; it is lawful nowhere.
+pub const NO_STRING: BatteryString = BatteryString {
+    t: Length(0),
+    c: Length(0),
+    d: Length(0),
+    x: 0,
+    a: Length(0),
+};
 
 // A plan: n strings by place, and the days of its run. Of the ten strings the first n count.
 pub struct Plan {
@@ -33,6 +43,15 @@ impl Plan {
     {
         s.a
     }
+
+    // The plan with a run of another length.
+    pub fn with_run(self, run: Length) -> Plan
+        ensures exact { λ r. ⌜ r ≡ withRun self (run .0) ⌝ }
+    {
+        let n = self.n;
+        let strings = self.strings;
+        Plan { n, run, strings }
+    }
 }
 
 // A release: its day, the place of its string (from 1), and the working days it needs.
@@ -41,6 +60,13 @@ pub struct Release {
     pub place: usize,
     pub need: Length,
 }
+
+// Stands where there is no release.
+pub const NO_RELEASE: Release = Release {
+    day: Day(0),
+    place: 0,
+    need: Length(0),
+};
 
 // A list of releases. Of the thousand the first `count` count; a larger count is refused.
 pub struct Releases {

@@ -1,20 +1,11 @@
 -- The tally of a run's days: a day more adds to the kind of that day, and no kind has more days than have passed.
-use Prim.Native.Nat.{ℕ, suc, _+_, _≤_}
-use mathlib.Core.Path.{_≡_, refl, _∙_}
-use mathlib.Core.Bool.{Bool, cond}
-use mathlib.Core.List.{List}
-use native.Mathlib.Omega.{arith}
+use Rattle.base.proofs.Prelude.{ℕ, suc, _+_, _≤_, _≡_, refl, _∙_, Bool, cond, List, arith}
 use Rattle.days.specs.Days.{days}
-use Rattle.rules.specs.declared.Plan.{Plan}
-use Rattle.rules.specs.declared.Release.{Release}
-use Rattle.rules.specs.declared.Use.{Use}
-use Rattle.rules.specs.declared.Use.the-variants.{Idle, Work, Move}
-use Rattle.rules.specs.declared.Outcome.the-variants.{Clean}
-use Rattle.lists.specs.Count.{countOf}
-use Rattle.rules.specs.Run.{useOn, history, isWork, isMove, isIdle, lateOn, daysOf, runOf}
-use Rattle.lists.proofs.Counts.{countOf-le}
+use Rattle.rules.specs.{declared.Plan.Plan, declared.Release.Release, declared.Use.Use, declared.Use.the-variants.{Idle, Work, Move}, declared.Outcome.the-variants.Clean, Run.{useOn, history, isWork, isMove, isIdle, lateOn, daysOf, runOf}}
+use Rattle.base.specs.Count.{countOf}
+use Rattle.base.proofs.Counts.{countOf-le}
 use Rattle.laws.proofs.History.{history-next, history-length, missDay-none, runOf-clean}
-use Rattle.run.specs.Tally.{addedTo, tallyOf, Under}
+use Rattle.run.specs.inner.Tally.{addedTo, tallyOf, Under}
 
 module _ (p : Plan) (rs : List Release) where
   -- a day adds one or nothing

@@ -4,29 +4,12 @@
 --     Joining p rs t from slots next        in step 2 of day t: with the releases from next on still to join, the slots become those
 --                                           that step 2 makes; where none has joined since from, they are those of the morning
 --     Joined p rs t from slots next         after step 2
-use Prim.Native.Nat.{ℕ, _+_, _-_, _≤_, _<_}
-use mathlib.Core.Path.{_≡_, sym, ap, _∙_}
-use mathlib.Core.List.{List, map}
-use native.Mathlib.Omega.{arith}
-use native.Mathlib.Numerals.{add-one}
-use native.Mathlib.Decide.{ℕ-discrete}
-use native.Mathlib.Nat.{le-refl}
-use lib.ListN.{length, getD, take, drop, set, length-drop}
-use lib.Seq.{take-set-lt, getD-drop}
+use Rattle.base.proofs.Prelude.{ℕ, _+_, _-_, _≤_, _<_, _≡_, sym, ap, _∙_, List, map, arith, add-one, ℕ-discrete, le-refl, length, getD, take, drop, set, length-drop, getD-drop}
+use lib.Seq.{take-set-lt}
 use Rattle.days.specs.Days.{days}
-use Rattle.rules.specs.declared.Plan.{Plan}
-use Rattle.rules.specs.declared.Release.{Release}
-use Rattle.rules.specs.declared.Slot.{Slot}
-use Rattle.rules.specs.Plan.{stringsOf}
-use Rattle.rules.specs.Release.{noRelease}
-use Rattle.rules.specs.Run.{emptySlot, lateAt, newSlot, joinFrom, joined, taken, given, useOf, spent, morning, stateAt, useOn, lateOn}
-use Rattle.run.specs.declared.day.Evening.{Evening}
-use Rattle.run.specs.declared.tally.Tally.{Tally}
-use Rattle.run.specs.Tally.{addedTo, tallyOf}
-use Rattle.run.specs.Day.{EndedOn}
-use Rattle.run.proofs.JoinList.{dayAt, joinFrom-none, joinFrom-drop, joinFrom-here}
-use Rattle.run.proofs.State.{stateAt-old, taken-quiet}
-use Rattle.run.proofs.Counting.{tallyOf-start, tallyOf-more}
+use Rattle.rules.specs.{declared.Plan.Plan, declared.Release.Release, declared.Slot.Slot, Plan.stringsOf, Release.noRelease, Run.{emptySlot, lateAt, newSlot, joinFrom, joined, taken, given, useOf, spent, morning, stateAt, useOn, lateOn}}
+use Rattle.run.specs.{declared.day.Evening.Evening, declared.tally.Tally.Tally, inner.Tally.{addedTo, tallyOf}, inner.Day.EndedOn}
+use Rattle.run.proofs.{JoinList.{dayAt, joinFrom-none, joinFrom-drop, joinFrom-here}, State.{stateAt-old, taken-quiet}, Counting.{tallyOf-start, tallyOf-more}}
 
 pub record Standing (p : Plan) (rs : List Release) (t : ℕ) (slots : List Slot) (next : ℕ) (tally : Tally) : Type 0 where
   pub state : take (p .n) slots ≡ stateAt p rs t

@@ -1,16 +1,8 @@
 -- The steps of a day in an array, of which the first n slots count.
-use Prim.Native.Nat.{ℕ, _≤_, min}
-use mathlib.Core.Path.{_≡_, sym, ap, _∙_}
-use mathlib.Core.List.{List}
-use native.Mathlib.Omega.{arith}
-use lib.ListN.{length, take, length-take}
+use Rattle.base.proofs.Prelude.{ℕ, _≤_, min, _≡_, sym, ap, _∙_, List, arith, length, take, length-take}
 use Rattle.days.specs.declared.Day.{Day}
-use Rattle.rules.specs.declared.Plan.{Plan}
-use Rattle.rules.specs.declared.Slot.{Slot}
-use Rattle.rules.specs.Demand.{movingCost}
-use Rattle.rules.specs.Run.{slotAt, withJob, holder, payer, stopped, charged, stop, charge, taken, nextUp, seated, given, usedFor, useOf, spentJob, spent}
-use Rattle.laws.proofs.Slots.{slotAt-take, change-take}
-use Rattle.laws.proofs.Steps.{taken-over, given-next, useOf-held, spent-held, holder-le, payer-le, nextUp-le}
+use Rattle.rules.specs.{declared.Plan.Plan, declared.Slot.Slot, Demand.movingCost, Run.{slotAt, withJob, holder, payer, stopped, charged, stop, charge, taken, nextUp, seated, given, usedFor, useOf, spentJob, spent}}
+use Rattle.laws.proofs.{Slots.{slotAt-take, change-take}, Steps.{taken-over, given-next, useOf-held, spent-held, holder-le, payer-le, nextUp-le}}
 
 module _ (slots : List Slot) (n : ℕ) where
   pub holder-in : holder (take n slots) ≤ min n (length slots)

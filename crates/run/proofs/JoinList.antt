@@ -1,20 +1,8 @@
 -- Step 2 over a part of the list: releases of other days change nothing, so it is enough to join those of today that follow
 -- each other from the first that has not joined.
-use Prim.Native.Nat.{ℕ, zero, suc, _+_, _-_, _<_}
-use mathlib.Core.Path.{_≡_, refl, ap, _∙_}
-use mathlib.Core.List.{List, [], _∷_}
-use native.Mathlib.Omega.{arith}
-use native.Mathlib.Numerals.{add-one}
-use borrow.Author.Tests.{eq-eqb, ne-eqb, eqb-true}
-use lib.Dec.{eqb}
-use lib.ListN.{length, getD, drop, set}
-use lib.Seq.{drop-cons}
-use Rattle.rules.specs.declared.Plan.{Plan}
-use Rattle.rules.specs.declared.Release.{Release}
-use Rattle.rules.specs.declared.Slot.{Slot}
-use Rattle.rules.specs.Release.{noRelease}
-use Rattle.rules.specs.Run.{newSlot, joinFrom}
-use Rattle.lists.proofs.Lists.{by-bool, All, all-set}
+use Rattle.base.proofs.Prelude.{ℕ, zero, suc, _+_, _-_, _<_, _≡_, refl, ap, _∙_, List, [], _∷_, arith, add-one, eq-eqb, ne-eqb, eqb-true, eqb, length, getD, drop, set, drop-cons}
+use Rattle.rules.specs.{declared.Plan.Plan, declared.Release.Release, declared.Slot.Slot, Release.noRelease, Run.{newSlot, joinFrom}}
+use Rattle.base.proofs.Lists.{by-bool, All, all-set}
 
 abbrev pub dayAt : List Release → ℕ → ℕ
 dayAt rs i = getD rs i noRelease .day .0
@@ -41,7 +29,7 @@ module _ (p : Plan) (t : ℕ) where
       let rest = joinFrom-drop m (suc k) rs ss (λ i h l. other (suc i) (omega arith) (omega arith)) in
       rw (ne-eqb _ t (other zero (omega arith) (omega arith))) (rest ∙ ap (λ j. joinFrom p t j (drop m rs) ss) same)
 
-  pub joinFrom-first : (k : ℕ) (r : Release) (rs : List Release) (ss : List Slot) → r .day .0 ≡ t
+  joinFrom-first : (k : ℕ) (r : Release) (rs : List Release) (ss : List Slot) → r .day .0 ≡ t
       → joinFrom p t k (r ∷ rs) ss ≡ joinFrom p t (suc k) rs (set ss (r .place - 1) (newSlot p r k))
   unfolding joinFrom
   joinFrom-first k r rs ss today = rw (eq-eqb _ t today)

@@ -1,16 +1,9 @@
 -- A lawful release may join: its string is one of the plan's, so its deadline is a day of the code.
-use Prim.Native.Nat.{_-_, _<_}
-use mathlib.Core.Path.{_≡_}
-use native.Mathlib.Omega.{arith}
-use lib.ListN.{length}
-use lib.Seq.{length-take-le}
-use Rattle.rules.specs.declared.Plan.{Plan}
-use Rattle.rules.specs.declared.Release.{Release}
-use Rattle.rules.specs.Plan.{stringsOf, noString}
-use Rattle.lists.proofs.Lists.{all-at}
-use Rattle.laws.proofs.Lawful.{LawfulString, LawfulPlan}
-use Rattle.laws.proofs.ReleaseList.{LawfulRelease}
-use Rattle.run.specs.Join.{Joins}
+use Rattle.base.proofs.Prelude.{_-_, _<_, _≡_, arith, length, length-take-le}
+use Rattle.rules.specs.{declared.Plan.Plan, declared.Release.Release, Plan.{stringsOf, noString}}
+use Rattle.base.proofs.Lists.{all-at}
+use Rattle.laws.proofs.{Lawful.{LawfulString, LawfulPlan}, ReleaseList.LawfulRelease}
+use Rattle.run.specs.inner.Join.{Joins}
 
 pub listed-joins : (p : Plan) (r : Release) → LawfulPlan p → length (p .strings) ≡ 10 → LawfulRelease p r → Joins p r
 listed-joins p r plan ten listed =

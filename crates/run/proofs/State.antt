@@ -2,32 +2,12 @@
 -- would pay is at most 1,000, and a slot with a job was released on an earlier day. So paying always fits, and a day without a release
 -- has no taker, so that step 3 changes nothing.
 --     Old t s               s has no job, or was released before day t
-use Prim.Native.Nat.{ℕ, zero, suc, _+_, _-_, _*_, _^_, _≤_, _<_}
-use mathlib.Core.Path.{_≡_, refl, sym, ap, _∙_, subst}
-use mathlib.Core.Logic.{_⊎_, inl, inr}
-use mathlib.Core.Bool.{false}
-use mathlib.Core.List.{List}
-use native.Mathlib.Omega.{arith}
-use native.Mathlib.Decide.{ℕ-discrete}
-use borrow.Author.Tests.{ne-eqb}
-use lib.ListN.{length, getD, take, length-set, length-take}
+use Rattle.base.proofs.Prelude.{ℕ, zero, suc, _+_, _-_, _*_, _^_, _≤_, _<_, _≡_, refl, sym, ap, _∙_, subst, _⊎_, inl, inr, false, List, arith, ℕ-discrete, ne-eqb, length, getD, take, length-set, length-take}
 use Rattle.days.specs.declared.Day.{Day}
-use Rattle.rules.specs.declared.Plan.{Plan}
-use Rattle.rules.specs.declared.Release.{Release}
-use Rattle.rules.specs.declared.Job.{Job}
-use Rattle.rules.specs.declared.Job.the-variants.{Empty}
-use Rattle.rules.specs.declared.Slot.{Slot}
-use Rattle.rules.specs.Plan.{stringsOf, noString}
-use Rattle.rules.specs.Demand.{movingCost}
-use Rattle.rules.specs.Run.{emptySlot, noSlot, slotAt, putJob, withJob, waits, newSlot, joined, holder, mayTake, dueBefore, payer, stopped, charged, stop, taken, nextUp, seated, given, spentJob, spent, morning, stateAt}
-use Rattle.lists.proofs.Lists.{All, all-at, all-map, all-set, all-getD, by-bool}
-use Rattle.lists.proofs.Order.{all-of, all-mapped}
-use Rattle.laws.proofs.Lawful.{LawfulPlan, PlanString, plan-strings, noString-cost}
-use Rattle.laws.proofs.JobParts.{movingOf, stopped-parts, seated-parts, charged-moving, spent-moving}
-use Rattle.laws.proofs.Slots.{newSlot-string, newSlot-job, newSlot-release, slotAt-take, change-take}
-use Rattle.laws.proofs.Choice.{chosen-nobody}
-use Rattle.laws.proofs.Steps.{taken-free, taken-kept, taken-over, given-held, given-nobody, given-next, spent-free, spent-held, holder-le, payer-le, nextUp-le}
-use Rattle.run.specs.Day.{Affords}
+use Rattle.rules.specs.{declared.Plan.Plan, declared.Release.Release, declared.Job.Job, declared.Job.the-variants.Empty, declared.Slot.Slot, Plan.{stringsOf, noString}, Demand.movingCost, Run.{emptySlot, noSlot, slotAt, putJob, withJob, waits, newSlot, joined, holder, mayTake, dueBefore, payer, stopped, charged, stop, taken, nextUp, seated, given, spentJob, spent, morning, stateAt}}
+use Rattle.base.proofs.{Lists.{All, all-at, all-map, all-set, all-getD, by-bool}, Order.{all-of, all-mapped}}
+use Rattle.laws.proofs.{Lawful.{LawfulPlan, PlanString, plan-strings, noString-cost}, JobParts.{movingOf, stopped-parts, seated-parts, charged-moving, spent-moving}, Slots.{newSlot-string, newSlot-job, newSlot-release, slotAt-take, change-take}, Choice.chosen-nobody, Steps.{taken-free, taken-kept, taken-over, given-held, given-nobody, given-next, spent-free, spent-held, holder-le, payer-le, nextUp-le}}
+use Rattle.run.specs.inner.Day.{Affords}
 use Rattle.run.proofs.JoinList.{joinFrom-all}
 
 -- ---- What a step keeps of every slot

@@ -15,7 +15,7 @@ ghost use mathlib.Core.Path.{_≡_};
 ghost use mathlib.Core.Bool.{false};
 ghost use lib.ListN.{take};
 ghost use Rattle.rules.specs.Run.{taken, given};
-ghost use Rattle.run.specs.Day.{Affords, Ended, EndedOn};
+ghost use Rattle.run.specs.inner.Day.{Affords, Ended, EndedOn};
 
 // Step 3: a job released on `day` that may take the bank and is due before the job on it takes it, and pays.
 fn take_bank(slots: [Slot; 10], p: Plan, day: Day) -> [Slot; 10]

@@ -11,7 +11,7 @@ ghost use Prim.Native.Nat.{_+_, _-_, _<_, _^_};
 ghost use lib.ListN.{set};
 ghost use Rattle.days.specs.Days.{day};
 ghost use Rattle.rules.specs.Run.{newSlot};
-ghost use Rattle.run.specs.Join.{Joins};
+ghost use Rattle.run.specs.inner.Join.{Joins};
 
 // The day that lies `length` after `from`, where the code's numbers can say it.
 pub(crate) fn day_after(from: Day, length: Length) -> Day

@@ -3,7 +3,7 @@ use days::Length;
 use rules::Outcome;
 use rules::Use;
 ghost use mathlib.Core.Path.{_≡_};
-ghost use Rattle.run.specs.Tally.{Under, addedTo};
+ghost use Rattle.run.specs.inner.Tally.{Under, addedTo};
 
 pub(crate) struct Tally {
     pub(crate) work: Length,

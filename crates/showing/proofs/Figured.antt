@@ -1,15 +1,7 @@
 -- What the figures of a plan say of its check, and where they are those of a lawful plan.
-use Prim.Native.Nat.{ℕ}
-use mathlib.Core.Path.{_≡_, refl, sym, ap, _∙_}
-use mathlib.Core.List.{List}
-use Rattle.faults.specs.declared.Checked.{Checked}
-use Rattle.faults.specs.declared.Checked.the-variants.{Lawful, Refused}
-use Rattle.rules.specs.declared.Plan.{Plan}
-use Rattle.rules.specs.declared.Figures.{Figures}
-use Rattle.rules.specs.Plan.{multipleOf}
-use Rattle.rules.specs.Demand.{load}
-use Rattle.rules.specs.Refusal.{planCheck}
-use Rattle.rules.specs.Figures.{holdsOf, figuresOf, onFigures, figuresAnswer}
+use Rattle.base.proofs.Prelude.{_≡_, refl, sym, ap, _∙_}
+use Rattle.faults.specs.{declared.Checked.Checked, declared.Checked.the-variants.{Lawful, Refused}}
+use Rattle.rules.specs.{declared.Plan.Plan, declared.Figures.Figures, Plan.multipleOf, Demand.load, Refusal.planCheck, Figures.{holdsOf, figuresOf, onFigures, figuresAnswer}}
 use Rattle.laws.proofs.Answers.{figures-lawful}
 use Rattle.lines.specs.Shown.{loadLine}
 

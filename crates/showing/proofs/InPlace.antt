@@ -1,20 +1,9 @@
 -- Lines of a list by place: which stands there, and where none does. The string and the release at a place, as the code finds them.
-use Prim.Native.Nat.{ℕ, _-_, _≤_, _<_}
-use mathlib.Core.Path.{_≡_, sym, ap, _∙_}
-use mathlib.Core.List.{List, [], map}
-use native.Mathlib.Omega.{arith}
-use lib.ListN.{length, getD, replicate, length-map, length-take, List·getD-append, List·getD-map}
-use lib.Seq.{length-take-le, getD-take}
+use Rattle.base.proofs.Prelude.{ℕ, _-_, _≤_, _<_, _≡_, sym, ap, _∙_, List, [], map, arith, length, getD, replicate, length-map, length-take, List·getD-map, length-take-le, getD-take}
+use lib.ListN.{List·getD-append}
 use Rattle.faults.proofs.Checks.{inBounds-yes, inBounds-not}
-use Rattle.rules.specs.declared.Plan.{Plan}
-use Rattle.rules.specs.declared.Releases.{Releases}
-use Rattle.rules.specs.Plan.{stringsOf, noString}
-use Rattle.rules.specs.Demand.{movingCost, holdOf}
-use Rattle.rules.specs.Figures.{holdsOf}
-use Rattle.rules.specs.Release.{releasesOf, noRelease}
-use Rattle.lines.specs.declared.Page.{Page}
-use Rattle.lines.specs.Pages.{pageOf}
-use Rattle.lines.specs.Shown.{stringLine, releaseLine}
+use Rattle.rules.specs.{declared.Plan.Plan, declared.Releases.Releases, Plan.{stringsOf, noString}, Demand.{movingCost, holdOf}, Figures.holdsOf, Release.{releasesOf, noRelease}}
+use Rattle.lines.specs.{declared.Page.Page, Pages.pageOf, Shown.{stringLine, releaseLine}}
 use Rattle.lines.proofs.Growing.{within}
 use Rattle.showing.specs.Shown.{inPlace, stringWords, releaseShown}
 

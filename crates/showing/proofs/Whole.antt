@@ -1,20 +1,10 @@
 -- The lines that are asked for one by one, put together, are the whole text.
-use Prim.Native.Nat.{ℕ, zero, suc, _+_, _-_, _≤_}
-use mathlib.Core.Path.{_≡_, refl, sym, ap, _∙_}
-use mathlib.Core.List.{List, [], _∷_, _++_, flatMap}
-use native.Mathlib.Omega.{arith}
-use native.Mathlib.Decide.{decLe}
-use lib.ListN.{length, getD, drop, length-take, drop-of-length-le}
-use lib.Seq.{drop-cons}
-use Rattle.lists.specs.Count.{upFrom}
+use Rattle.base.proofs.Prelude.{ℕ, zero, suc, _+_, _-_, _≤_, _≡_, sym, ap, _∙_, List, _++_, arith, decLe, length, drop, length-take, drop-of-length-le, drop-cons}
+use mathlib.Core.List.{flatMap}
+use Rattle.base.specs.Count.{upFrom}
 use Rattle.faults.specs.declared.Checked.the-variants.{Lawful}
-use Rattle.rules.specs.declared.Plan.{Plan}
-use Rattle.rules.specs.declared.Releases.{Releases}
-use Rattle.rules.specs.Plan.{stringsOf, noString, multipleOf}
-use Rattle.rules.specs.Demand.{load}
-use Rattle.rules.specs.Release.{releasesOf, noRelease}
-use Rattle.rules.specs.Refusal.{planCheck}
-use Rattle.lines.specs.Shown.{planLine, loadLine, releaseLine}
+use Rattle.rules.specs.{declared.Plan.Plan, declared.Releases.Releases, Plan.{stringsOf, noString}, Release.{releasesOf, noRelease}, Refusal.planCheck}
+use Rattle.lines.specs.Shown.{releaseLine}
 use Rattle.showing.specs.Shown.{inPlace, inOrder, onText, stringWords, planShown, stringShown, loadShown, releaseShown, shownText}
 use Rattle.showing.proofs.InPlace.{inPlace-there, inPlace-none}
 
@@ -34,7 +24,7 @@ module _ {A : Type 0} (line : ℕ → A → List ℕ) (z : A) (xs : List A) wher
             rw (inPlace-none line z xs (suc k) (λ low high. past high), later, none-later, none)
       ]
 
-  pub all-places : (m : ℕ) → length xs ≤ m → flatMap (inPlace line z xs) (upFrom 1 m) ≡ inOrder line 1 xs
+  all-places : (m : ℕ) → length xs ≤ m → flatMap (inPlace line z xs) (upFrom 1 m) ≡ inOrder line 1 xs
   all-places m h = from-place 0 m (omega arith)
 
 -- for a lawful plan

@@ -1,22 +1,14 @@
 -- Filling the slots one by one gives a slot for each string.
-use Prim.Native.Nat.{ℕ, _+_, _<_}
-use mathlib.Core.Path.{_≡_, sym, _∙_}
-use mathlib.Core.List.{List, map}
-use native.Mathlib.Omega.{arith}
-use native.Mathlib.Decide.{ℕ-discrete}
-use lib.ListN.{length, getD, set, length-map, List·getD-map}
-use lib.Seq.{getD-set-same, getD-set-other, ext-getD}
-use Rattle.rules.specs.declared.BatteryString.{BatteryString}
-use Rattle.rules.specs.declared.Slot.{Slot}
-use Rattle.rules.specs.Plan.{noString}
-use Rattle.rules.specs.Run.{emptySlot, noSlot}
+use Rattle.base.proofs.Prelude.{ℕ, _+_, _<_, _≡_, sym, _∙_, List, map, arith, ℕ-discrete, length, getD, set, length-map, List·getD-map, getD-set-same, getD-set-other}
+use lib.Seq.{ext-getD}
+use Rattle.rules.specs.{declared.BatteryString.BatteryString, declared.Slot.Slot, Plan.noString, Run.{emptySlot, noSlot}}
 
 abbrev pub FilledTo : ℕ → List BatteryString → List Slot → Type 0
 FilledTo i strings slots = (j : ℕ) → j < i → getD slots j noSlot ≡ emptySlot (getD strings j noString)
 
-pub filled-more : (i : ℕ) (strings : List BatteryString) (slots : List Slot) → i < length slots → FilledTo i strings slots
+pub emptied-more : (i : ℕ) (strings : List BatteryString) (slots : List Slot) → i < length slots → FilledTo i strings slots
     → FilledTo (i + 1) strings (set slots i (emptySlot (getD strings i noString)))
-filled-more i strings slots room so-far j h =
+emptied-more i strings slots room so-far j h =
     elim (ℕ-discrete j i) [
       | yes here ↦ rw here (getD-set-same slots i (emptySlot (getD strings i noString)) noSlot room)
       | no other ↦ getD-set-other slots i j (emptySlot (getD strings i noString)) noSlot other ∙ so-far j (omega arith)

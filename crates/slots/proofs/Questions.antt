@@ -1,11 +1,8 @@
 -- The choices of a day are answers to questions.
-use mathlib.Core.Path.{_≡_, refl}
-use mathlib.Core.List.{List}
+use Rattle.base.proofs.Prelude.{_≡_, refl, List}
 use Rattle.days.specs.declared.Day.{Day}
-use Rattle.rules.specs.declared.Slot.{Slot}
-use Rattle.rules.specs.Run.{slotAt, lateAt, holder, payer, nextUp}
-use Rattle.slots.specs.declared.Question.the-variants.{Late, Holding, Taker, Next}
-use Rattle.slots.specs.Question.{chosenFor}
+use Rattle.rules.specs.{declared.Slot.Slot, Run.{slotAt, lateAt, holder, payer, nextUp}}
+use Rattle.slots.specs.{declared.Question.the-variants.{Late, Holding, Taker, Next}, inner.Question.chosenFor}
 
 module _ (ss : List Slot) where
   pub late-asked : (day : Day) → chosenFor (Late day) ss ≡ lateAt (day .0) ss

@@ -1,3 +1,2 @@
 -- What the code of the slots promises beside the definitions of `rules`.
-pub mod Job
-pub mod Question
+pub mod inner

@@ -6,7 +6,7 @@ use rules::Slot;
 ghost use mathlib.Core.Path.{_≡_};
 ghost use Prim.Native.Nat.{min};
 ghost use lib.ListN.{take};
-ghost use Rattle.slots.specs.Question.{chosenFor};
+ghost use Rattle.slots.specs.inner.Question.{chosenFor};
 
 // How many of the ten slots count: n, or all ten where n is larger.
 fn counted(n: usize) -> usize

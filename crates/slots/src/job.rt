@@ -7,7 +7,7 @@ ghost use mathlib.Core.Path.{_≡_};
 ghost use Prim.Native.Nat.{_+_};
 ghost use lib.Dec.{ltb};
 ghost use Rattle.rules.specs.Run.{left, waits, onBank, stopped, seated, onOrGone, spentJob, usedFor};
-ghost use Rattle.slots.specs.Job.{lessOne};
+ghost use Rattle.slots.specs.inner.Job.{lessOne};
 
 // Whether work or moving is left.
 pub(crate) fn unfinished(job: Job) -> bool

@@ -7,7 +7,7 @@ use days::Day;
 use rules::Slot;
 ghost use mathlib.Core.Path.{_≡_};
 ghost use Rattle.rules.specs.Run.{goesFirst};
-ghost use Rattle.slots.specs.Question.{okOf, aheadOf};
+ghost use Rattle.slots.specs.inner.Question.{okOf, aheadOf};
 
 // Whether a slot passes.
 pub(crate) fn passes(q: Question, s: Slot) -> bool

@@ -5,31 +5,11 @@
 --     asks t d s            1 if a near job came to the slot s on day t, else 0
 --     Span ..               the last of k near releases of a place since the start is T days after the one before, and so on
 --     Blocker ..            some string's job, not near, can have blocked for b days
-use Prim.Native.Nat.{ℕ, suc, _+_, _*_, _≤_, _<_}
-use mathlib.Core.Path.{_≡_, refl, sym, ap, _∙_, subst}
-use mathlib.Core.Logic.{_⊎_, inl, inr}
-use mathlib.Core.Bool.{true, false, cond, _&&_}
-use mathlib.Core.List.{List}
-use native.Mathlib.Omega.{arith}
-use native.Mathlib.Decide.{decLe}
-use native.Mathlib.Nat.{suc-mul, zero-mul}
-use borrow.Author.Tests.{le-leb, lt-leb}
-use lib.Dec.{eqb, leb}
-use lib.ListN.{length}
-use Rattle.rules.specs.declared.Plan.{Plan}
-use Rattle.rules.specs.declared.Release.{Release}
-use Rattle.rules.specs.declared.Slot.{Slot}
-use Rattle.rules.specs.Plan.{stringsOf}
-use Rattle.rules.specs.Release.{firstUnlawful}
-use Rattle.rules.specs.Demand.{holdOf}
-use Rattle.rules.specs.Run.{onBank, waits, left}
-use Rattle.lists.proofs.Lists.{true-not-false}
-use Rattle.laws.proofs.Slots.{at}
-use Rattle.laws.proofs.Choice.{Choice}
-use Rattle.sound.proofs.Places.{holder-choice}
-use Rattle.laws.proofs.ReleaseList.{str, Released, released-apart}
-use Rattle.lists.proofs.Sums.{sumTo, sumTo-none, sumTo-part}
-use Rattle.sound.proofs.Orderly.{Live, Orderly, on-held, live-if-on}
+use Rattle.base.proofs.Prelude.{ℕ, suc, _+_, _*_, _≤_, _<_, _≡_, refl, sym, ap, _∙_, subst, _⊎_, inl, inr, true, false, cond, _&&_, List, arith, decLe, suc-mul, zero-mul, le-leb, lt-leb, eqb, leb, length}
+use Rattle.rules.specs.{declared.Plan.Plan, declared.Release.Release, declared.Slot.Slot, Plan.stringsOf, Release.firstUnlawful, Demand.holdOf, Run.{onBank, waits, left}}
+use Rattle.base.proofs.{Lists.true-not-false, Sums.{sumTo, sumTo-none, sumTo-part}}
+use Rattle.laws.proofs.{Slots.at, Choice.Choice, ReleaseList.{str, Released, released-apart}}
+use Rattle.sound.proofs.{Places.holder-choice, Orderly.{Live, Orderly, on-held, live-if-on}}
 
 -- ---- What is left in near jobs
 
@@ -72,7 +52,7 @@ abbrev pub Span : Plan → List Release → ℕ → ℕ → ℕ → ℕ → ℕ 
 Span p rs d t start b j k = (k ≡ 0) ⊎ SpanAt p rs d t start b j k
 
 -- a job that is not near has held the bank for b days: it had used one before, so b is below E
-pub record Blocker (p : Plan) (d start b : ℕ) : Type 0 where
+pub record BlockedBy (p : Plan) (d start b : ℕ) : Type 0 where
   pub q : ℕ
   pub place : q < length (stringsOf p)
   pub bound : suc b ≤ holdOf p (str p q)
@@ -81,7 +61,7 @@ pub record Blocker (p : Plan) (d start b : ℕ) : Type 0 where
 pub record Account (p : Plan) (rs : List Release) (d t : ℕ) (ss : List Slot) (start b : ℕ) (k : ℕ → ℕ) : Type 0 where
   pub balance : backlog p d ss + t ≤ start + b + sumTo (length (stringsOf p)) (λ j. k j * holdOf p (str p j))
   pub within : start + b ≤ t
-  pub blocker : (b ≡ 0) ⊎ Blocker p d start b
+  pub blocker : (b ≡ 0) ⊎ BlockedBy p d start b
   pub spans : (j : ℕ) → j < length (stringsOf p) → Span p rs d t start b j (k j)
 
 -- blocked since the start by the job at q, or else whoever is on the bank is near

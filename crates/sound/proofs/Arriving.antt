@@ -1,30 +1,11 @@
 -- Steps 2 and 3 keep the slots orderly, where nobody is late: a release joins an empty slot, since D ≤ T, and who pays came today.
-use Prim.Native.Nat.{ℕ, suc, _+_, _≤_, _<_}
-use mathlib.Core.Path.{_≡_, sym, ap, _∙_}
-use mathlib.Core.Logic.{inl, inr}
-use mathlib.Core.Bool.{true}
-use mathlib.Core.List.{List}
-use native.Mathlib.Omega.{arith}
-use lib.ListN.{length, getD}
+use Rattle.base.proofs.Prelude.{ℕ, suc, _+_, _≤_, _<_, _≡_, sym, ap, _∙_, inl, inr, true, List, arith, length, getD}
 use Rattle.days.specs.Days.{days}
-use Rattle.rules.specs.declared.Plan.{Plan}
-use Rattle.rules.specs.declared.Release.{Release}
-use Rattle.rules.specs.declared.Slot.{Slot}
-use Rattle.rules.specs.declared.Job.the-variants.{Empty, Waiting}
-use Rattle.rules.specs.Plan.{stringsOf, stringAt, noString}
-use Rattle.rules.specs.Release.{noRelease, firstUnlawful}
-use Rattle.rules.specs.Demand.{movingCost, holdOf}
-use Rattle.rules.specs.Run.{onBank, waits, left, newSlot, joined, taken, lateAt}
-use Rattle.lists.proofs.Lists.{true-not-false, all-at}
-use Rattle.laws.proofs.Lawful.{LawfulPlan, LawfulString}
+use Rattle.rules.specs.{declared.Plan.Plan, declared.Release.Release, declared.Slot.Slot, declared.Job.the-variants.{Empty, Waiting}, Plan.{stringsOf, stringAt, noString}, Release.{noRelease, firstUnlawful}, Demand.{movingCost, holdOf}, Run.{onBank, waits, left, newSlot, joined, taken, lateAt}}
+use Rattle.base.proofs.Lists.{true-not-false, all-at}
+use Rattle.laws.proofs.{Lawful.{LawfulPlan, LawfulString}, Slots.{at, newSlot-string, newSlot-job, newSlot-release, newSlot-deadline, newSlot-serves}, ReleaseList.{str, Released, release-lawful, release-string, released-apart}, Demand.{holdOf-work, holdOf-taker}}
 use Rattle.sound.specs.Served.{payerIn}
-use Rattle.laws.proofs.Slots.{at, newSlot-string, newSlot-job, newSlot-release, newSlot-deadline, newSlot-serves}
-use Rattle.sound.proofs.Places.{late-none}
-use Rattle.laws.proofs.ReleaseList.{str, Released, release-lawful, release-string, released-apart}
-use Rattle.sound.proofs.Joining.{Joined, NoneCame, joined-at, joined-length}
-use Rattle.sound.proofs.Taking.{Taker, taken-taking}
-use Rattle.laws.proofs.Demand.{holdOf-work, holdOf-taker}
-use Rattle.sound.proofs.Orderly.{held, Live, Sits, Orderly, live-if-waits, taken-orderly}
+use Rattle.sound.proofs.{Places.late-none, Joining.{JoinedSlot, NoneCame, joined-at, joined-length}, Taking.{Taker, taken-taking}, Orderly.{held, Live, Sits, Orderly, live-if-waits, taken-orderly}}
 
 pub lawful-str : (p : Plan) → LawfulPlan p → (j : ℕ) → j < length (stringsOf p) → LawfulString (str p j)
 lawful-str p lawful j h = all-at LawfulString (stringsOf p) noString (lawful .each) j h
@@ -59,7 +40,7 @@ module _ (p : Plan) (rs : List Release) (lawful : LawfulPlan p) (listed : firstU
     pub arrival : (j : ℕ) → j < length (stringsOf p) → Arrival p rs t j (at ss j) (at (joined p rs t ss) j)
     arrival j a = go (joined-at p rs listed t ss j (omega (arith, o .size)))
       where
-        go : Joined p 1 rs t j (at ss j) (at (joined p rs t ss) j) → Arrival p rs t j (at ss j) (at (joined p rs t ss) j)
+        go : JoinedSlot p 1 rs t j (at ss j) (at (joined p rs t ss) j) → Arrival p rs t j (at ss j) (at (joined p rs t ss) j)
         go (inl c) =
             let number : 1 + c .0 ≡ suc (c .0) = omega arith in
             arrived (c .0) (c .1) (c .2) (c .3) (empty-before j a (c .0, c .1, c .2, c .3))

@@ -1,33 +1,10 @@
 -- What a morning adds to the account, by place: near jobs that came today, at most E each; the rest is as it was.
-use Prim.Native.Nat.{ℕ, suc, _+_, _*_, _≤_, _<_}
-use mathlib.Core.Path.{_≡_, sym, ap, _∙_}
-use mathlib.Core.Logic.{inl, inr}
-use mathlib.Core.Bool.{true, cond, _&&_}
-use mathlib.Core.List.{List}
-use native.Mathlib.Omega.{arith}
-use native.Mathlib.Decide.{decLe}
-use native.Mathlib.Nat.{one-mul}
-use borrow.Author.Tests.{eq-eqb, eqb-true, leb-true, le-leb}
-use lib.Dec.{eqb, leb}
-use lib.ListN.{length, getD}
+use Rattle.base.proofs.Prelude.{ℕ, suc, _+_, _*_, _≤_, _<_, _≡_, sym, ap, _∙_, inl, inr, true, cond, _&&_, List, arith, decLe, one-mul, eq-eqb, eqb-true, leb-true, le-leb, eqb, leb, length, getD}
 use Rattle.days.specs.Days.{days}
-use Rattle.rules.specs.declared.Plan.{Plan}
-use Rattle.rules.specs.declared.Release.{Release}
-use Rattle.rules.specs.declared.Slot.{Slot}
-use Rattle.rules.specs.declared.Job.the-variants.{Waiting}
-use Rattle.rules.specs.Plan.{stringsOf}
-use Rattle.rules.specs.Release.{noRelease, firstUnlawful}
-use Rattle.rules.specs.Demand.{holdOf}
-use Rattle.rules.specs.Run.{onBank, waits, left, stopped, newSlot, joined, taken, lateAt, putJob}
-use Rattle.lists.proofs.Lists.{by-bool, true-not-false, and-left, and-right}
-use Rattle.laws.proofs.Lawful.{LawfulPlan}
-use Rattle.laws.proofs.Slots.{at, newSlot-release, newSlot-deadline}
-use Rattle.laws.proofs.ReleaseList.{str, Released, release-string}
-use Rattle.lists.proofs.Sums.{sumTo, sumTo-le, sumTo-add}
-use Rattle.sound.proofs.Orderly.{Sits, Orderly, stopped-left, stopped-off, empty-not-waits, live-if-left}
-use Rattle.sound.proofs.Arriving.{morning-orderly}
-use Rattle.sound.proofs.Morning.{Morning, new, same, fee, morning-place}
-use Rattle.sound.proofs.Account.{nearLeft, nearLeft-near, nearLeft-far, backlog, asks, Asked}
+use Rattle.rules.specs.{declared.Plan.Plan, declared.Release.Release, declared.Slot.Slot, declared.Job.the-variants.Waiting, Plan.stringsOf, Release.{noRelease, firstUnlawful}, Demand.holdOf, Run.{onBank, waits, left, stopped, newSlot, joined, taken, lateAt, putJob}}
+use Rattle.base.proofs.{Lists.{by-bool, true-not-false, and-left, and-right}, Sums.{sumTo, sumTo-le, sumTo-add}}
+use Rattle.laws.proofs.{Lawful.LawfulPlan, Slots.{at, newSlot-release, newSlot-deadline}, ReleaseList.{str, Released, release-string}}
+use Rattle.sound.proofs.{Orderly.{Sits, Orderly, stopped-left, stopped-off, empty-not-waits, live-if-left}, Arriving.morning-orderly, Morning.{Morning, new, same, fee, morning-place}, Account.{nearLeft, nearLeft-near, nearLeft-far, backlog, asks, Asked}}
 
 module _ (t d : ℕ) (k : Slot) where
   -- who is asked for came today and is near
@@ -44,12 +21,12 @@ module _ (t d : ℕ) (k : Slot) where
       let none : asks t d k ≡ 0 = rw not' in
       absurd (omega arith))
 
-  pub asks-one : waits (k .job) ≡ true → k .release .0 ≡ t → k .deadline .0 ≤ d → asks t d k ≡ 1
+  asks-one : waits (k .job) ≡ true → k .release .0 ≡ t → k .deadline .0 ≤ d → asks t d k ≡ 1
   asks-one w today near = rw (w, eq-eqb (k .release .0) t today, le-leb (k .deadline .0) d near)
 
 module _ (p : Plan) (rs : List Release) (t payer j : ℕ) (s k : Slot) where
   -- a job that waits with today's release day came today
-  pub waits-today : Sits p rs t j s → Morning p rs t payer j s k → waits (k .job) ≡ true → k .release .0 ≡ t
+  waits-today : Sits p rs t j s → Morning p rs t payer j s k → waits (k .job) ≡ true → k .release .0 ≡ t
       → Released rs j t × (k .deadline .0 ≡ t + str p j .d .0)
   waits-today sat (new m h place day empty is) w today =
       let r = getD rs m noRelease in
@@ -63,7 +40,7 @@ module _ (p : Plan) (rs : List Release) (t payer j : ℕ) (s k : Slot) where
   waits-today (inr l) (same none (inr is)) w today = absurd (omega (arith, l .before, ap (λ x. x .release .0) is))
 
   -- a job that came today waits
-  pub new-waits : (m : ℕ) → getD rs m noRelease .place ≡ suc j → getD rs m noRelease .day .0 ≡ t
+  new-waits : (m : ℕ) → getD rs m noRelease .place ≡ suc j → getD rs m noRelease .day .0 ≡ t
       → k ≡ putJob (newSlot p (getD rs m noRelease) (suc m)) (Waiting (getD rs m noRelease .need) (days (fee p payer j)))
       → (waits (k .job) ≡ true) × (k .release .0 ≡ t)
   new-waits m place day is =
@@ -71,13 +48,13 @@ module _ (p : Plan) (rs : List Release) (t payer j : ℕ) (s k : Slot) where
       (ap (λ x. waits (x .job)) is, ap (λ x. x .release .0) is ∙ from ∙ day)
 
   -- who is on the bank is as he was
-  pub on-same : Morning p rs t payer j s k → onBank (k .job) ≡ true → k ≡ s
+  on-same : Morning p rs t payer j s k → onBank (k .job) ≡ true → k ≡ s
   on-same (new m h place day empty is) on = absurd (true-not-false (sym on ∙ ap (λ x. onBank (x .job)) is))
   on-same (same none (inl is)) on = is
   on-same (same none (inr is)) on = absurd (true-not-false (sym on ∙ ap (λ x. onBank (x .job)) is ∙ stopped-off (s .job)))
 
   module _ (d : ℕ) where
-    pub asked : Sits p rs t j s → Morning p rs t payer j s k → Asked p rs d t j (asks t d k)
+    asked : Sits p rs t j s → Morning p rs t payer j s k → Asked p rs d t j (asks t d k)
     asked sat morning =
         let W = waits (k .job) in
         let T = eqb (k .release .0) t in
@@ -90,8 +67,8 @@ module _ (p : Plan) (rs : List Release) (t payer j : ℕ) (s k : Slot) where
         inr (rw yes', came .0, omega (arith, came .1)))
         (λ not'. inl (rw not'))
 
-    pub grows : Sits p rs (suc t) j k → Morning p rs t payer j s k → nearLeft d k ≤ nearLeft d s + asks t d k * holdOf p (str p j)
-    grows after (new m h place day empty is) =
+    pub left-grows : Sits p rs (suc t) j k → Morning p rs t payer j s k → nearLeft d k ≤ nearLeft d s + asks t d k * holdOf p (str p j)
+    left-grows after (new m h place day empty is) =
         elim (decLe (k .deadline .0) d) [
           | yes near ↦
               let came = new-waits m place day is in
@@ -102,8 +79,8 @@ module _ (p : Plan) (rs : List Release) (t payer j : ℕ) (s k : Slot) where
               [ yes some ↦ omega (arith, live-if-left p rs (suc t) j k after some .cap) | no none ↦ omega arith ]
           | no far ↦ omega (arith, nearLeft-far d k (omega arith))
         ]
-    grows after (same none (inl is)) = omega (arith, ap (nearLeft d) is)
-    grows after (same none (inr is)) =
+    left-grows after (same none (inl is)) = omega (arith, ap (nearLeft d) is)
+    left-grows after (same none (inr is)) =
         let still : nearLeft d k ≡ nearLeft d s =
         ap (nearLeft d) is ∙ ap (λ n. cond (leb (s .deadline .0) d) n 0) (stopped-left (s .job)) in
         omega arith
@@ -124,7 +101,7 @@ module _ (p : Plan) (rs : List Release) (lawful : LawfulPlan p) (listed : firstU
       let before : ℕ → ℕ = λ j. nearLeft d (at ss j) in
       let more : ℕ → ℕ = λ j. asks t d (at ks j) * holdOf p (str p j) in
       let each = sumTo-le n (λ j. nearLeft d (at ks j)) (λ j. before j + more j)
-      (λ j a. grows p rs t _ j (at ss j) (at ks j) d (morning-orderly p rs lawful listed t ss o punctual .sits j a)
+      (λ j a. left-grows p rs t _ j (at ss j) (at ks j) d (morning-orderly p rs lawful listed t ss o punctual .sits j a)
       (morning-place p rs lawful listed t ss o punctual j a)) in
       omega (arith, sumTo-add n before more)
 

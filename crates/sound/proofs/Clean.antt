@@ -1,37 +1,17 @@
 -- A plan that passes never misses a deadline: on no day of the run is anybody late, and the run ends clean.
-use Prim.Native.Nat.{ℕ, zero, suc, _≤_, _<_}
-use mathlib.Core.Path.{_≡_, ap, subst}
-use mathlib.Core.Logic.{inl}
-use mathlib.Core.List.{List}
-use native.Mathlib.Omega.{arith}
-use native.Mathlib.Decide.{decLe}
-use native.Mathlib.Nat.{le-refl}
-use lib.ListN.{length, length-map, List·getD-map}
-use Rattle.rules.specs.declared.Plan.{Plan}
-use Rattle.rules.specs.declared.Release.{Release}
-use Rattle.rules.specs.declared.Outcome.the-variants.{Clean}
-use Rattle.rules.specs.Plan.{stringsOf, noString}
-use Rattle.rules.specs.Release.{firstUnlawful}
-use Rattle.rules.specs.Demand.{Passes}
-use Rattle.rules.specs.Run.{emptySlot, left, morning, stateAt, lateOn, daysOf, isWork, isMove, isIdle, runOf}
-use Rattle.laws.proofs.Lawful.{LawfulPlan}
-use Rattle.laws.proofs.Slots.{at}
-use Rattle.laws.proofs.History.{missDay-none, runOf-clean}
-use Rattle.sound.proofs.Places.{late-nobody}
-use Rattle.laws.proofs.ReleaseList.{str}
-use Rattle.lists.proofs.Sums.{sumTo-part, sumTo-none}
-use Rattle.sound.proofs.Orderly.{Orderly, empty-not-on}
-use Rattle.sound.proofs.Account.{nearLeft, nearLeft-near, nearLeft-some, backlog, Mode, opened}
-use Rattle.sound.proofs.Keeping.{day-orderly, day-mode}
-use Rattle.sound.proofs.Closing.{account-closes}
+use Rattle.base.proofs.Prelude.{ℕ, zero, suc, _≤_, _<_, _≡_, ap, subst, inl, List, arith, decLe, le-refl, length, length-map, List·getD-map}
+use Rattle.rules.specs.{declared.Plan.Plan, declared.Release.Release, declared.Outcome.the-variants.Clean, Plan.{stringsOf, noString}, Release.firstUnlawful, Demand.Passes, Run.{emptySlot, left, morning, stateAt, lateOn, daysOf, isWork, isMove, isIdle, runOf}}
+use Rattle.laws.proofs.{Lawful.LawfulPlan, Slots.at, History.{missDay-none, runOf-clean}, ReleaseList.str}
+use Rattle.sound.proofs.{Places.late-nobody, Orderly.{Orderly, empty-not-on}, Account.{nearLeft, nearLeft-near, nearLeft-some, backlog, Mode, opened}, Keeping.{day-orderly, day-mode}, Closing.account-closes}
+use Rattle.base.proofs.Sums.{sumTo-part, sumTo-none}
 
 -- ---- The first day
 
-pub first-slot : (p : Plan) (rs : List Release) (j : ℕ) → at (stateAt p rs zero) j ≡ emptySlot (str p j)
+first-slot : (p : Plan) (rs : List Release) (j : ℕ) → at (stateAt p rs zero) j ≡ emptySlot (str p j)
 unfolding stateAt
 first-slot p rs j = List·getD-map emptySlot (stringsOf p) j noString
 
-pub first-orderly : (p : Plan) (rs : List Release) → Orderly p rs 0 (stateAt p rs zero)
+first-orderly : (p : Plan) (rs : List Release) → Orderly p rs 0 (stateAt p rs zero)
 unfolding stateAt
 first-orderly p rs =
     record {

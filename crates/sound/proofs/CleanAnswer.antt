@@ -1,26 +1,12 @@
 -- The answer of the run: for a plan that passes and releases that are lawful it is clean, and a clean answer counts the run's days.
-use Prim.Native.Nat.{ℕ}
-use mathlib.Core.Path.{_≡_, sym, _∙_}
-use native.Mathlib.Omega.{arith}
-use lib.Dec.{leb}
+use Rattle.base.proofs.Prelude.{ℕ, _≡_, sym, _∙_, arith, leb, List}
 use Rattle.days.specs.declared.Length.{Length}
-use Rattle.lists.proofs.Lists.{by-bool}
-use Rattle.faults.specs.declared.Fault.{Fault}
-use Rattle.faults.specs.declared.Checked.{Checked}
-use Rattle.rules.specs.declared.Release.{Release}
-use mathlib.Core.List.{List}
-use Rattle.rules.specs.declared.Plan.{Plan}
-use Rattle.rules.specs.declared.Releases.{Releases}
-use Rattle.faults.specs.declared.Checked.the-variants.{Lawful, Refused}
-use Rattle.rules.specs.declared.Outcome.the-variants.{Miss, Clean}
-use Rattle.rules.specs.Release.{releasesOf}
-use Rattle.rules.specs.Demand.{Passes}
-use Rattle.rules.specs.Refusal.{onOutcome, runCheck, runAnswer}
-use Rattle.rules.specs.declared.Outcome.the-variants as outcome
-use Rattle.rules.specs.Run.{daysOf, isWork, isMove, isIdle, missDay, runOf}
-use Rattle.laws.proofs.Releases.{runCheck-lawful}
-use Rattle.laws.proofs.Answers.{run-lawful, run-refused}
+use Rattle.base.proofs.Lists.{by-bool}
+use Rattle.faults.specs.{declared.Fault.Fault, declared.Checked.Checked, declared.Checked.the-variants.{Lawful, Refused}}
+use Rattle.rules.specs.{declared.Release.Release, declared.Plan.Plan, declared.Releases.Releases, declared.Outcome.the-variants.{Miss, Clean}, Release.releasesOf, Demand.Passes, Refusal.{onOutcome, runCheck, runAnswer}, Run.{daysOf, isWork, isMove, isIdle, missDay, runOf}}
+use Rattle.laws.proofs.{Releases.runCheck-lawful, Answers.{run-lawful, run-refused}}
 use Rattle.sound.proofs.Clean.{run-clean}
+use Rattle.rules.specs.declared.Outcome.the-variants as outcome
 
 pub never-misses : (p : Plan) (rs : Releases) → runCheck p rs ≡ Lawful → Passes p
     → runAnswer p rs ≡ Clean (daysOf p (releasesOf rs) isWork) (daysOf p (releasesOf rs) isMove) (daysOf p (releasesOf rs) isIdle)

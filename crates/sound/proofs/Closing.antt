@@ -1,26 +1,10 @@
 -- The account closes: on day d it is the demand rule at the interval since its start, so nothing due by d is left.
-use Prim.Native.Nat.{ℕ, suc, _+_, _-_, _*_, _≤_, _<_, min}
-use mathlib.Core.Path.{_≡_, sym, ap, _∙_}
-use mathlib.Core.Logic.{_⊎_, inl, inr}
-use mathlib.Core.List.{List}
-use native.Mathlib.Omega.{arith}
-use native.Mathlib.Decide.{ℕ-discrete, decLe}
-use native.Mathlib.Nat.{mul-le-mul-right, zero-mul}
-use lib.ListN.{length}
-use Rattle.rules.specs.declared.Plan.{Plan}
-use Rattle.rules.specs.declared.Release.{Release}
-use Rattle.rules.specs.declared.Slot.{Slot}
-use Rattle.lists.specs.Count.{largest}
-use Rattle.rules.specs.Plan.{stringsOf, noString, dMin, dMax}
-use Rattle.rules.specs.Demand.{holdOf, jobs, blockerHold, blockLimit, need, demand, Passes}
-use Rattle.lists.proofs.Lists.{all-at, largest-ge, smallest-le}
-use Rattle.laws.proofs.Lawful.{LawfulPlan, LawfulString}
-use Rattle.laws.proofs.Jobs.{jobs-window}
-use Rattle.lists.proofs.Sums.{sumTo, sumTo-some, sumTo-sumOf}
-use Rattle.laws.proofs.ReleaseList.{str}
-use Rattle.laws.proofs.Demand.{holdOf-other, need-taker, need-keeper, blockLimit-between, blockerHold-hold}
-use Rattle.sound.proofs.Arriving.{lawful-str}
-use Rattle.sound.proofs.Account.{backlog, Span, Blocker, Account}
+use Rattle.base.proofs.Prelude.{ℕ, suc, _+_, _-_, _*_, _≤_, _<_, min, _≡_, sym, ap, _∙_, _⊎_, inl, inr, List, arith, ℕ-discrete, decLe, mul-le-mul-right, zero-mul, length}
+use Rattle.rules.specs.{declared.Plan.Plan, declared.Release.Release, declared.Slot.Slot, Plan.{stringsOf, noString, dMin, dMax}, Demand.{holdOf, jobs, blockerHold, blockLimit, need, demand, Passes}}
+use Rattle.base.specs.Count.{largest}
+use Rattle.base.proofs.{Lists.{all-at, largest-ge, smallest-le}, Sums.{sumTo, sumTo-some, sumTo-sumOf}}
+use Rattle.laws.proofs.{Lawful.{LawfulPlan, LawfulString}, Jobs.jobs-window, ReleaseList.str, Demand.{holdOf-other, need-taker, need-keeper, blockLimit-between, blockerHold-hold}}
+use Rattle.sound.proofs.{Arriving.lawful-str, Account.{backlog, Span, BlockedBy, Account}}
 
 -- ---- The blocking limit
 
@@ -86,7 +70,7 @@ module _ (p : Plan) (rs : List Release) (lawful : LawfulPlan p) (passes : Passes
       absurd (omega arith)
   asked-short j some (inr s) = omega (arith, s .from, s .until)
 
-  blocker-beyond : (b ≡ 0) ⊎ Blocker p d start b
+  blocker-beyond : (b ≡ 0) ⊎ BlockedBy p d start b
       → (b ≡ 0) ⊎ ((q : ℕ) × (q < length (stringsOf p)) × (suc b ≤ holdOf p (str p q)) × (d - start < str p q .d .0))
   blocker-beyond (inl none) = inl none
   blocker-beyond (inr q) = inr (q .q, q .place, q .bound, omega (arith, q .far, account .within))

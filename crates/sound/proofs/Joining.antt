@@ -1,23 +1,8 @@
 -- Step 2 by place: a slot has a release of the day, the last listed, or it is as it was and the day has none for it.
-use Prim.Native.Nat.{ℕ, zero, suc, _+_, _-_, _≤_, _<_}
-use mathlib.Core.Path.{_≡_, refl, ap, _∙_}
-use mathlib.Core.Logic.{_⊎_, inl, inr, _≢_}
-use mathlib.Core.Bool.{cond}
-use mathlib.Core.List.{List, [], _∷_}
-use native.Mathlib.Omega.{arith}
-use native.Mathlib.Decide.{ℕ-discrete}
-use borrow.Author.Tests.{eqb-true, eqb-false}
-use lib.Dec.{eqb}
-use lib.ListN.{length, getD, set, length-set}
-use lib.Seq.{getD-set-same, getD-set-other}
-use Rattle.rules.specs.declared.Plan.{Plan}
-use Rattle.rules.specs.declared.Release.{Release}
-use Rattle.rules.specs.declared.Slot.{Slot}
-use Rattle.rules.specs.Release.{noRelease, firstUnlawful}
-use Rattle.rules.specs.Run.{noSlot, newSlot, joinFrom, joined}
-use Rattle.lists.proofs.Lists.{All, all-by, by-bool}
-use Rattle.laws.proofs.Slots.{at}
-use Rattle.laws.proofs.ReleaseList.{release-lawful}
+use Rattle.base.proofs.Prelude.{ℕ, zero, suc, _+_, _-_, _≤_, _<_, _≡_, refl, ap, _∙_, _⊎_, inl, inr, _≢_, cond, List, [], _∷_, arith, ℕ-discrete, eqb-true, eqb-false, eqb, length, getD, set, length-set, getD-set-same, getD-set-other}
+use Rattle.rules.specs.{declared.Plan.Plan, declared.Release.Release, declared.Slot.Slot, Release.{noRelease, firstUnlawful}, Run.{noSlot, newSlot, joinFrom, joined}}
+use Rattle.base.proofs.Lists.{All, all-by, by-bool}
+use Rattle.laws.proofs.{Slots.at, ReleaseList.release-lawful}
 
 -- one of rs, of the place with index j and of day t, is in the slot s; k is the place in the list of the first of rs
 abbrev pub Came : Plan → ℕ → List Release → ℕ → ℕ → Slot → Type 0
@@ -29,8 +14,8 @@ Came p k rs t j s =
 abbrev pub NoneCame : List Release → ℕ → ℕ → Type 0
 NoneCame rs t j = (m : ℕ) → m < length rs → getD rs m noRelease .place ≡ suc j → getD rs m noRelease .day .0 ≢ t
 
-abbrev pub Joined : Plan → ℕ → List Release → ℕ → ℕ → Slot → Slot → Type 0
-Joined p k rs t j before after = Came p k rs t j after ⊎ (NoneCame rs t j × (after ≡ before))
+abbrev pub JoinedSlot : Plan → ℕ → List Release → ℕ → ℕ → Slot → Slot → Type 0
+JoinedSlot p k rs t j before after = Came p k rs t j after ⊎ (NoneCame rs t j × (after ≡ before))
 
 -- the slots after the first of the releases
 abbrev joinedOne : Plan → ℕ → ℕ → Release → List Slot → List Slot
@@ -57,17 +42,17 @@ joinedOne-at p t k r ss j pos h =
     (λ e. inr ((λ s. eqb-false _ _ e), rw e))
 
 joinFrom-at : (p : Plan) (t k : ℕ) (rs : List Release) (ss : List Slot) → All (λ r. 1 ≤ r .place) rs → (j : ℕ) → j < length ss
-    → Joined p k rs t j (at ss j) (at (joinFrom p t k rs ss) j)
+    → JoinedSlot p k rs t j (at ss j) (at (joinFrom p t k rs ss) j)
 unfolding joinFrom
 joinFrom-at p t k [] ss pos j h = inr ((λ m a. absurd (omega arith)), refl)
 joinFrom-at p t k (r ∷ rs) ss pos j h =
     go (joinFrom-at p t (suc k) rs (joinedOne p t k r ss) (pos .1) j (omega (arith, joinedOne-length p t k r ss)))
     (joinedOne-at p t k r ss j (pos .0) h)
   where
-    go : Joined p (suc k) rs t j (at (joinedOne p t k r ss) j) (at (joinFrom p t (suc k) rs (joinedOne p t k r ss)) j)
+    go : JoinedSlot p (suc k) rs t j (at (joinedOne p t k r ss) j) (at (joinFrom p t (suc k) rs (joinedOne p t k r ss)) j)
         → ((r .place ≡ suc j) × (r .day .0 ≡ t) × (at (joinedOne p t k r ss) j ≡ newSlot p r k))
         ⊎ ((r .place ≡ suc j → r .day .0 ≢ t) × (at (joinedOne p t k r ss) j ≡ at ss j))
-        → Joined p k (r ∷ rs) t j (at ss j) (at (joinFrom p t (suc k) rs (joinedOne p t k r ss)) j)
+        → JoinedSlot p k (r ∷ rs) t j (at ss j) (at (joinFrom p t (suc k) rs (joinedOne p t k r ss)) j)
     go (inl c) one =
         let shift : suc k + c .0 ≡ k + suc (c .0) = omega arith in
         inl (suc (c .0), omega (arith, c .1), c .2, c .3, c .4 ∙ ap (newSlot p (getD rs (c .0) noRelease)) shift)
@@ -90,7 +75,7 @@ unfolding joined
 joined-length p rs t ss = joinFrom-length p t 1 rs ss
 
 pub joined-at : (p : Plan) (rs : List Release) → firstUnlawful p rs ≡ 0 → (t : ℕ) (ss : List Slot) (j : ℕ) → j < length ss
-    → Joined p 1 rs t j (at ss j) (at (joined p rs t ss) j)
+    → JoinedSlot p 1 rs t j (at ss j) (at (joined p rs t ss) j)
 unfolding joined
 joined-at p rs lawful t ss j h =
     joinFrom-at p t 1 rs ss (all-by (λ r. 1 ≤ r .place) rs noRelease (λ m a. release-lawful p rs lawful m a .placePos)) j h

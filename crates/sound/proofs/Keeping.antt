@@ -1,35 +1,10 @@
 -- A day keeps the account: whoever is on the bank in the phase without blocking is near, so what is left falls by one a day; and
 -- while a job that is not near blocks, b grows with the days and no near job that may take the bank has come.
-use Prim.Native.Nat.{ℕ, suc, _+_, _*_, _≤_, _<_}
-use mathlib.Core.Path.{_≡_, sym, ap, _∙_}
-use mathlib.Core.Logic.{inl, inr}
-use mathlib.Core.Bool.{true}
-use mathlib.Core.List.{List}
-use native.Mathlib.Omega.{arith}
-use native.Mathlib.Decide.{decLe}
-use lib.ListN.{length}
-use Rattle.rules.specs.declared.Plan.{Plan}
-use Rattle.rules.specs.declared.Release.{Release}
-use Rattle.rules.specs.declared.Slot.{Slot}
-use Rattle.rules.specs.declared.Job.the-variants.{Empty}
-use Rattle.rules.specs.declared.Use.{Use}
-use Rattle.rules.specs.Plan.{stringsOf}
-use Rattle.rules.specs.Release.{firstUnlawful}
-use Rattle.rules.specs.Demand.{holdOf}
-use Rattle.rules.specs.Run.{onBank, waits, left, given, spent, useOf, joined, taken, lateAt}
-use Rattle.lists.proofs.Lists.{by-bool, true-not-false}
-use Rattle.laws.proofs.Lawful.{LawfulPlan}
-use Rattle.laws.proofs.Slots.{at}
-use Rattle.laws.proofs.Choice.{Nobody}
-use Rattle.laws.proofs.ReleaseList.{str}
-use Rattle.lists.proofs.Sums.{sumTo, sumTo-grown, sumTo-some, sumTo-none}
-use Rattle.sound.proofs.Using.{Using, idleDay, keptDay, givenDay, Used, spent-using, neither-empty, left-empty}
-use Rattle.sound.proofs.Orderly.{Live, Orderly, live-if-on, live-if-waits, used-within, using-orderly}
-use Rattle.sound.proofs.Arriving.{morning-orderly}
-use Rattle.sound.proofs.Morning.{morning-fair}
-use Rattle.sound.proofs.Account.{nearLeft, nearLeft-some, backlog, asks, Asked, Span, Account, Phase, blocked, flowing, Mode, opened, span-step, span-blocked}
-use Rattle.sound.proofs.Asking.{morning-asked, morning-backlog, morning-kept, asked-near}
-use Rattle.sound.proofs.Turn.{turn-left, turn-due, used-less, used-near, used-on, used-flowing}
+use Rattle.base.proofs.Prelude.{ℕ, suc, _+_, _*_, _≤_, _<_, _≡_, sym, ap, _∙_, inl, inr, true, List, arith, decLe, length}
+use Rattle.rules.specs.{declared.Plan.Plan, declared.Release.Release, declared.Slot.Slot, declared.Job.the-variants.Empty, declared.Use.Use, Plan.stringsOf, Release.firstUnlawful, Demand.holdOf, Run.{onBank, waits, left, given, spent, useOf, joined, taken, lateAt}}
+use Rattle.base.proofs.{Lists.{by-bool, true-not-false}, Sums.{sumTo, sumTo-grown, sumTo-some, sumTo-none}}
+use Rattle.laws.proofs.{Lawful.LawfulPlan, Slots.at, Choice.Nobody, ReleaseList.str}
+use Rattle.sound.proofs.{Using.{Using, idleDay, keptDay, givenDay, Used, spent-using, neither-empty, left-empty}, Orderly.{Live, Orderly, live-if-on, live-if-waits, used-within, using-orderly}, Arriving.morning-orderly, Morning.morning-fair, Account.{nearLeft, nearLeft-some, backlog, asks, Asked, Span, Account, Phase, blocked, flowing, Mode, opened, span-step, span-blocked}, Asking.{morning-asked, morning-backlog, morning-kept, asked-near}, Turn.{turn-left, turn-due, used-less, used-near, used-on, used-flowing}}
 
 pub day-orderly : (p : Plan) (rs : List Release) → LawfulPlan p → firstUnlawful p rs ≡ 0 → (t : ℕ) (ss : List Slot) → Orderly p rs t ss
     → lateAt t ss ≡ 0

@@ -1,33 +1,12 @@
 -- Steps 2 and 3 by place: a slot has a new job, with what it pays, and was empty; or it is as it was, but for being stopped.
 --     fee p payer j         the moving days that the place with index j pays
-use Prim.Native.Nat.{ℕ, suc, _≤_, _<_}
-use mathlib.Core.Path.{_≡_, sym, ap, _∙_, subst}
-use mathlib.Core.Logic.{_⊎_, inl, inr, _≢_}
-use mathlib.Core.Bool.{true, cond}
-use mathlib.Core.List.{List}
-use native.Mathlib.Omega.{arith}
-use native.Mathlib.Decide.{ℕ-discrete, decLe}
-use borrow.Author.Tests.{eq-eqb, ne-eqb}
-use lib.Dec.{eqb}
-use lib.ListN.{length, getD}
+use Rattle.base.proofs.Prelude.{ℕ, suc, _≤_, _<_, _≡_, sym, ap, _∙_, subst, _⊎_, inl, inr, _≢_, true, cond, List, arith, ℕ-discrete, decLe, eq-eqb, ne-eqb, eqb, length, getD}
 use Rattle.days.specs.Days.{days}
-use Rattle.rules.specs.declared.Plan.{Plan}
-use Rattle.rules.specs.declared.Release.{Release}
-use Rattle.rules.specs.declared.Slot.{Slot}
-use Rattle.rules.specs.declared.Job.the-variants.{Empty, Waiting}
-use Rattle.rules.specs.Plan.{stringsOf}
-use Rattle.rules.specs.Release.{noRelease, firstUnlawful}
-use Rattle.rules.specs.Demand.{movingCost}
-use Rattle.rules.specs.Run.{onBank, waits, stopped, newSlot, joined, taken, lateAt, putJob}
-use Rattle.lists.proofs.Lists.{true-not-false}
-use Rattle.laws.proofs.Lawful.{LawfulPlan}
+use Rattle.rules.specs.{declared.Plan.Plan, declared.Release.Release, declared.Slot.Slot, declared.Job.the-variants.{Empty, Waiting}, Plan.stringsOf, Release.{noRelease, firstUnlawful}, Demand.movingCost, Run.{onBank, waits, stopped, newSlot, joined, taken, lateAt, putJob}}
+use Rattle.base.proofs.Lists.{true-not-false}
+use Rattle.laws.proofs.{Lawful.LawfulPlan, Slots.{at, newSlot-string, newSlot-job, newSlot-own, newSlot-charged}, ReleaseList.{str, release-string}}
 use Rattle.sound.specs.Served.{payerIn}
-use Rattle.laws.proofs.Slots.{at, newSlot-string, newSlot-job, newSlot-own, newSlot-charged}
-use Rattle.laws.proofs.ReleaseList.{str, release-string}
-use Rattle.sound.proofs.Joining.{NoneCame, joined-length}
-use Rattle.sound.proofs.Taking.{Taking, bankFree, bankKept, bankTaken, Taker, taken-taking, chargedSlot, mayTake-exactly}
-use Rattle.sound.proofs.Orderly.{Orderly, live-if-waits, took-off}
-use Rattle.sound.proofs.Arriving.{Arrival, arrived, stayed, arrival, joined-orderly}
+use Rattle.sound.proofs.{Joining.{NoneCame, joined-length}, Taking.{Taking, bankFree, bankKept, bankTaken, Taker, taken-taking, chargedSlot, mayTake-exactly}, Orderly.{Orderly, live-if-waits, took-off}, Arriving.{Arrival, arrived, stayed, arrival, joined-orderly}}
 
 abbrev pub fee : Plan → ℕ → ℕ → ℕ
 fee p payer j = cond (eqb payer (suc j)) (movingCost p (str p j)) 0

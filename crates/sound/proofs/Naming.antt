@@ -1,27 +1,10 @@
 -- Each day of work or of moving names the place of its release, which has joined and is not yet due.
-use Prim.Native.Nat.{ℕ, suc, _+_, _-_, _<_}
-use mathlib.Core.Path.{_≡_, sym, ap, subst}
-use mathlib.Core.List.{List}
-use native.Mathlib.Omega.{arith}
-use lib.Dec.{ltb}
-use lib.ListN.{length, getD}
-use Rattle.rules.specs.declared.Plan.{Plan}
-use Rattle.rules.specs.declared.Release.{Release}
-use Rattle.rules.specs.declared.Slot.{Slot}
-use Rattle.rules.specs.declared.Job.{Job}
-use Rattle.rules.specs.declared.Job.the-variants.{Empty, Waiting, OnBank}
-use Rattle.rules.specs.declared.Use.{Use}
-use Rattle.rules.specs.Release.{noRelease, firstUnlawful}
-use Rattle.rules.specs.Run.{seated, given, spent, useOf, usedFor, joined, taken, morning, stateAt, useOn, lateOn}
-use Rattle.lists.proofs.Lists.{by-bool}
-use Rattle.laws.proofs.Lawful.{LawfulPlan}
-use Rattle.laws.proofs.ReleaseList.{str}
+use Rattle.base.proofs.Prelude.{ℕ, suc, _+_, _-_, _<_, _≡_, sym, ap, subst, List, arith, ltb, length, getD}
+use Rattle.rules.specs.{declared.Plan.Plan, declared.Release.Release, declared.Slot.Slot, declared.Job.Job, declared.Job.the-variants.{Empty, Waiting, OnBank}, declared.Use.Use, Release.{noRelease, firstUnlawful}, Run.{seated, given, spent, useOf, usedFor, joined, taken, morning, stateAt, useOn, lateOn}}
+use Rattle.base.proofs.Lists.{by-bool}
+use Rattle.laws.proofs.{Lawful.LawfulPlan, ReleaseList.str, Slots.at}
 use Rattle.sound.specs.Served.{released, dueOf, ForRelease, Named}
-use Rattle.laws.proofs.Slots.{at}
-use Rattle.sound.proofs.Using.{Using, idleDay, keptDay, givenDay, Used, spent-using}
-use Rattle.sound.proofs.Orderly.{Live, Orderly, live-if-on, live-if-waits}
-use Rattle.sound.proofs.Arriving.{morning-orderly}
-use Rattle.sound.proofs.Clean.{Punctual, orderly-at}
+use Rattle.sound.proofs.{Using.{Using, idleDay, keptDay, givenDay, Used, spent-using}, Orderly.{Live, Orderly, live-if-on, live-if-waits}, Arriving.morning-orderly, Clean.{Punctual, orderly-at}}
 
 -- whatever the bank does for a job, it names the job's release
 used-named : (p : Plan) (rs : List Release) (t i k : ℕ) (job : Job) → ForRelease p rs t i k → Named p rs t (usedFor i k job)

@@ -2,28 +2,11 @@
 -- is on the bank. Steps 3 to 5 keep it.
 --     Live p rs t j s       the slot s, with index j, has a job released before day t and not due before t
 --     Orderly p rs t ss     the slots ss stand so before day t
-use Prim.Native.Nat.{ℕ, suc, _+_, _≤_, _<_}
-use mathlib.Core.Path.{_≡_, refl, sym, ap, _∙_, subst}
-use mathlib.Core.Logic.{_⊎_, inl, inr}
-use mathlib.Core.Bool.{true, false, cond}
-use mathlib.Core.List.{List}
-use native.Mathlib.Omega.{arith}
-use native.Mathlib.Decide.{ℕ-discrete}
-use lib.ListN.{length}
-use Rattle.rules.specs.declared.Plan.{Plan}
-use Rattle.rules.specs.declared.Release.{Release}
-use Rattle.rules.specs.declared.Slot.{Slot}
-use Rattle.rules.specs.declared.Job.{Job}
-use Rattle.rules.specs.declared.Job.the-variants.{Empty, Waiting, OnBank}
-use Rattle.rules.specs.declared.Use.{Use}
-use Rattle.rules.specs.Plan.{stringsOf}
-use Rattle.rules.specs.Demand.{movingCost, holdOf}
-use Rattle.rules.specs.Run.{onBank, waits, left, stopped, charged, seated, spentJob, putJob}
-use Rattle.lists.proofs.Lists.{by-bool, true-not-false}
-use Rattle.laws.proofs.Slots.{at}
-use Rattle.laws.proofs.ReleaseList.{str, Released}
-use Rattle.sound.proofs.Taking.{Taking, bankFree, bankKept, bankTaken, Took, Taker}
-use Rattle.sound.proofs.Using.{Using, idleDay, keptDay, givenDay, Used, spent-left, spent-cases, GoneOrOn}
+use Rattle.base.proofs.Prelude.{ℕ, suc, _+_, _≤_, _<_, _≡_, refl, sym, ap, _∙_, subst, _⊎_, inl, inr, true, false, cond, List, arith, ℕ-discrete, length}
+use Rattle.rules.specs.{declared.Plan.Plan, declared.Release.Release, declared.Slot.Slot, declared.Job.Job, declared.Job.the-variants.{Empty, Waiting, OnBank}, declared.Use.Use, Plan.stringsOf, Demand.{movingCost, holdOf}, Run.{onBank, waits, left, stopped, charged, seated, spentJob, putJob}}
+use Rattle.base.proofs.Lists.{by-bool, true-not-false}
+use Rattle.laws.proofs.{Slots.at, ReleaseList.{str, Released}}
+use Rattle.sound.proofs.{Taking.{Taking, bankFree, bankKept, bankTaken, Took, Taker}, Using.{Using, idleDay, keptDay, givenDay, Used, spent-left, spent-cases, GoneOrOn}}
 
 -- a job on the bank at the start of a day has used a day
 abbrev pub held : Job → ℕ
@@ -66,17 +49,17 @@ stopped-off Empty = refl
 stopped-off (Waiting w m) = refl
 stopped-off (OnBank w m) = refl
 
-pub charged-left : (a : ℕ) (job : Job) → waits job ≡ true → left (charged a job) ≡ left job + a
+charged-left : (a : ℕ) (job : Job) → waits job ≡ true → left (charged a job) ≡ left job + a
 charged-left a Empty w = absurd (true-not-false (sym w))
 charged-left a (Waiting w m) h = omega arith
 charged-left a (OnBank w m) h = absurd (true-not-false (sym h))
 
-pub charged-off : (a : ℕ) (job : Job) → waits job ≡ true → onBank (charged a job) ≡ false
+charged-off : (a : ℕ) (job : Job) → waits job ≡ true → onBank (charged a job) ≡ false
 charged-off a Empty w = refl
 charged-off a (Waiting w m) h = refl
 charged-off a (OnBank w m) h = absurd (true-not-false (sym h))
 
-pub off-held : (job : Job) → onBank job ≡ false → held job ≡ 0
+off-held : (job : Job) → onBank job ≡ false → held job ≡ 0
 off-held job e = rw e
 
 pub on-held : (job : Job) → onBank job ≡ true → held job ≡ 1
@@ -98,7 +81,7 @@ live-if-waits p rs t j s (inr l) h = l
 
 module _ (p : Plan) (rs : List Release) (t j : ℕ) (s : Slot) (job : Job) where
   -- the same release, with something left and within E
-  pub live-put : Live p rs t j s → 1 ≤ left job → left job + held job ≤ holdOf p (str p j) → Live p rs t j (putJob s job)
+  live-put : Live p rs t j s → 1 ≤ left job → left job + held job ≤ holdOf p (str p j) → Live p rs t j (putJob s job)
   live-put l some cap =
       record {
         some = some;

@@ -1,30 +1,21 @@
 -- A day on the bank takes one day of work or one of moving off the job.
 --     counted b                   1 for a day that is so used, else 0
-use Prim.Native.Nat.{ℕ, _+_, _-_, _≤_, _<_}
-use mathlib.Core.Path.{_≡_, refl}
-use mathlib.Core.Logic.{_≢_}
-use mathlib.Core.Bool.{Bool, cond}
-use native.Mathlib.Omega.{arith}
-use borrow.Author.Tests.{eq-eqb, ne-eqb, ltb-true, ltb-false}
-use lib.Dec.{ltb}
-use Rattle.days.specs.declared.Length.{Length}
-use Rattle.days.specs.Days.{days}
-use Rattle.rules.specs.declared.Job.{Job}
-use Rattle.rules.specs.declared.Job.the-variants.{Empty, Waiting, OnBank}
-use Rattle.rules.specs.Run.{left, seated, spentJob, usedFor}
-use Rattle.lists.proofs.Lists.{by-bool}
+use Rattle.base.proofs.Prelude.{ℕ, _+_, _-_, _≤_, _<_, _≡_, refl, _≢_, Bool, cond, arith, eq-eqb, ne-eqb, ltb-true, ltb-false, ltb}
+use Rattle.days.specs.{declared.Length.Length, Days.days}
+use Rattle.rules.specs.{declared.Job.Job, declared.Job.the-variants.{Empty, Waiting, OnBank}, Run.{left, seated, spentJob, usedFor}}
+use Rattle.base.proofs.Lists.{by-bool}
 use Rattle.laws.proofs.JobParts.{workOf, movingOf, onOrGone-parts}
 use Rattle.sound.specs.Served.{worksFor, movesFor}
 
 -- 1 for a day that is so used
-abbrev pub counted : Bool → ℕ
-counted b = cond b 1 0
+abbrev pub countedIf : Bool → ℕ
+countedIf b = cond b 1 0
 
 -- a day for the release k takes one day of work or one of moving off the job
 abbrev pub Parts : ℕ → ℕ → Job → Job → Type 0
 Parts i k before after =
-    (counted (worksFor k (usedFor i k before)) + workOf after ≡ workOf before)
-    × (counted (movesFor k (usedFor i k before)) + movingOf after ≡ movingOf before)
+    (countedIf (worksFor k (usedFor i k before)) + workOf after ≡ workOf before)
+    × (countedIf (movesFor k (usedFor i k before)) + movingOf after ≡ movingOf before)
 
 spent-parts-on : (i k : ℕ) (w m : Length) → 1 ≤ w .0 + m .0 → Parts i k (OnBank w m) (spentJob (OnBank w m))
 spent-parts-on i k w m some =
@@ -45,7 +36,7 @@ spent-parts i k (OnBank w m) some = spent-parts-on i k w m some
 
 -- a day for another release is none for this one
 pub other-use : (i serves k : ℕ) (job : Job) → serves ≢ k
-    → (counted (worksFor k (usedFor i serves job)) ≡ 0) × (counted (movesFor k (usedFor i serves job)) ≡ 0)
+    → (countedIf (worksFor k (usedFor i serves job)) ≡ 0) × (countedIf (movesFor k (usedFor i serves job)) ≡ 0)
 other-use i serves k Empty other = (refl, refl)
 other-use i serves k (Waiting w m) other = (refl, refl)
 other-use i serves k (OnBank w m) other =

@@ -1,25 +1,15 @@
 -- Who is late, who holds the bank, who pays and who is next, by place.
-use Prim.Native.Nat.{ℕ, _-_, _≤_, _<_}
-use mathlib.Core.Path.{_≡_, refl, sym, _∙_}
-use mathlib.Core.Logic.{_⊎_, inl, inr, _≢_}
-use mathlib.Core.Bool.{true, false, _&&_}
-use mathlib.Core.List.{List}
-use native.Mathlib.Omega.{arith}
-use borrow.Author.Tests.{lt-ltb, le-ltb, ltb-true, ltb-false, eqb-true, eq-eqb}
-use lib.Dec.{ltb, eqb}
-use lib.ListN.{length}
-use Rattle.rules.specs.declared.Slot.{Slot}
-use Rattle.rules.specs.Run.{slotAt, noneAhead, onBank, waits, left, lateSlot, lateAt, holder, mayTake, dueBefore, payer, goesFirst, nextUp}
-use Rattle.lists.proofs.Lists.{by-bool, true-not-false, and-left, and-right, and-both}
-use Rattle.laws.proofs.Slots.{at}
-use Rattle.laws.proofs.Choice.{Choice, Order, chosen-choice}
+use Rattle.base.proofs.Prelude.{ℕ, _-_, _≤_, _<_, _≡_, refl, sym, _∙_, _⊎_, inl, inr, _≢_, true, false, _&&_, List, arith, lt-ltb, le-ltb, ltb-true, ltb-false, eqb-true, eq-eqb, ltb, eqb, length}
+use Rattle.rules.specs.{declared.Slot.Slot, Run.{slotAt, noneAhead, onBank, waits, left, lateSlot, lateAt, holder, mayTake, dueBefore, payer, goesFirst, nextUp}}
+use Rattle.base.proofs.Lists.{by-bool, true-not-false, and-left, and-right, and-both}
+use Rattle.laws.proofs.{Slots.at, Choice.{Choice, Order, chosen-choice}}
 
 -- ---- The three orders
 
-pub noneAhead-order : Order noneAhead
+noneAhead-order : Order noneAhead
 noneAhead-order = record { self = λ s. refl; chain = λ s r q h k. h }
 
-pub dueBefore-order : Order dueBefore
+dueBefore-order : Order dueBefore
 dueBefore-order =
     record {
       self = λ s. le-ltb (s .deadline .0) (s .deadline .0) (omega arith);
@@ -58,7 +48,7 @@ goesFirst-chain s r q (inl a) (inr b) = goesFirst-sooner s q (omega arith)
 goesFirst-chain s r q (inr a) (inl b) = goesFirst-sooner s q (omega arith)
 goesFirst-chain s r q (inr a) (inr b) = goesFirst-tie s q (omega arith) (omega arith)
 
-pub goesFirst-order : Order goesFirst
+goesFirst-order : Order goesFirst
 goesFirst-order =
     record {
       self = λ s. rw (le-ltb (s .deadline .0) (s .deadline .0) (omega arith), eq-eqb (s .deadline .0) (s .deadline .0) refl)
@@ -75,7 +65,7 @@ goesFirst-not s r h =
 
 -- ---- The four choices
 
-pub late-choice : (t : ℕ) (ss : List Slot) → Choice (lateSlot t) noneAhead ss (length ss) (lateAt t ss)
+late-choice : (t : ℕ) (ss : List Slot) → Choice (lateSlot t) noneAhead ss (length ss) (lateAt t ss)
 unfolding lateAt
 late-choice t ss = chosen-choice (lateSlot t) noneAhead noneAhead-order ss (length ss)
 

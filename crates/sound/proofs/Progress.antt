@@ -1,29 +1,12 @@
 -- How far the run has served one release: the days of work and of moving so far, with what is left in its slot, are its need and what
 -- it owes. A day keeps that.
 --     Progress ..           the release is still to come, or its slot serves it, or the slot has gone on to a later one
-use Prim.Native.Nat.{ℕ, suc, _+_, _≤_, _<_}
-use mathlib.Core.Path.{_≡_, sym, ap, _∙_, subst}
-use mathlib.Core.Logic.{inl, inr, _≢_}
-use mathlib.Core.List.{List}
-use native.Mathlib.Omega.{arith}
-use native.Mathlib.Decide.{ℕ-discrete}
-use lib.ListN.{length, getD}
+use Rattle.base.proofs.Prelude.{ℕ, suc, _+_, _≤_, _<_, _≡_, sym, ap, _∙_, subst, inl, inr, _≢_, List, arith, ℕ-discrete, length, getD}
 use Rattle.days.specs.Days.{days}
-use Rattle.rules.specs.declared.Plan.{Plan}
-use Rattle.rules.specs.declared.Release.{Release}
-use Rattle.rules.specs.declared.Slot.{Slot}
-use Rattle.rules.specs.declared.Job.the-variants.{Empty, Waiting}
-use Rattle.rules.specs.declared.Use.{Use}
-use Rattle.rules.specs.Release.{noRelease, firstUnlawful}
-use Rattle.rules.specs.Run.{seated, spentJob, usedFor, newSlot, putJob}
+use Rattle.rules.specs.{declared.Plan.Plan, declared.Release.Release, declared.Slot.Slot, declared.Job.the-variants.{Empty, Waiting}, declared.Use.Use, Release.{noRelease, firstUnlawful}, Run.{seated, spentJob, usedFor, newSlot, putJob}}
 use Rattle.sound.specs.Served.{worksFor, movesFor}
-use Rattle.laws.proofs.JobParts.{workOf, movingOf, stopped-parts, seated-parts}
-use Rattle.laws.proofs.Slots.{at, newSlot-serves}
-use Rattle.laws.proofs.ReleaseList.{str, released-once}
-use Rattle.sound.proofs.Using.{Using, idleDay, keptDay, givenDay, Used}
-use Rattle.sound.proofs.Orderly.{Live, Orderly, live-if-on, live-if-waits, used-within}
-use Rattle.sound.proofs.Morning.{Morning, new, same, fee}
-use Rattle.sound.proofs.Parts.{counted, spent-parts, other-use}
+use Rattle.laws.proofs.{JobParts.{workOf, movingOf, stopped-parts, seated-parts}, Slots.{at, newSlot-serves}, ReleaseList.{str, released-once}}
+use Rattle.sound.proofs.{Using.{Using, idleDay, keptDay, givenDay, Used}, Orderly.{Live, Orderly, live-if-on, live-if-waits, used-within}, Morning.{Morning, new, same, fee}, Parts.{countedIf, spent-parts, other-use}}
 
 -- the m-th release of rs, from 0, is of the place with index j; works and moves are the days for it so far, and owed is what it pays
 pub data Progress (rs : List Release) (m j owed t works moves : ℕ) (s : Slot) : Type 0 where
@@ -94,10 +77,10 @@ module _ (p : Plan) (rs : List Release) (listed : firstUnlawful p rs ≡ 0) (m j
 module _ (p : Plan) (rs : List Release) (m j : ℕ) (place : getD rs m noRelease .place ≡ suc j)
     (owed t works moves : ℕ) (ks es : List Slot) (u : Use) (o : Orderly p rs t ks) where
   abbrev After : Type 0
-  After = Progress rs m j owed t (works + counted (worksFor (suc m) u)) (moves + counted (movesFor (suc m) u)) (at es j)
+  After = Progress rs m j owed t (works + countedIf (worksFor (suc m) u)) (moves + countedIf (movesFor (suc m) u)) (at es j)
 
   -- the day is not for this release, and its slot keeps what is left
-  idle-progress : counted (worksFor (suc m) u) ≡ 0 → counted (movesFor (suc m) u) ≡ 0 → at es j .serves ≡ at ks j .serves
+  idle-progress : countedIf (worksFor (suc m) u) ≡ 0 → countedIf (movesFor (suc m) u) ≡ 0 → at es j .serves ≡ at ks j .serves
       → (at ks j .serves ≡ suc m → (workOf (at es j .job) ≡ workOf (at ks j .job)) × (movingOf (at es j .job) ≡ movingOf (at ks j .job)))
       → Progress rs m j owed t works moves (at ks j) → After
   idle-progress no-work no-move serves-same parts (toCome before w v) = toCome before (omega arith) (omega arith)
@@ -119,8 +102,8 @@ module _ (p : Plan) (rs : List Release) (m j : ℕ) (place : getD rs m noRelease
     another : at ks h .serves ≢ suc m → Progress rs m j owed t works moves (at ks j) → After
     another other so-far =
         let none = other-use (suc h) (at ks h .serves) (suc m) (seated (at ks h .job)) other in
-        let no-work : counted (worksFor (suc m) u) ≡ 0 = ap (λ v. counted (worksFor (suc m) v)) (k .use-is) ∙ none .0 in
-        let no-move : counted (movesFor (suc m) u) ≡ 0 = ap (λ v. counted (movesFor (suc m) v)) (k .use-is) ∙ none .1 in
+        let no-work : countedIf (worksFor (suc m) u) ≡ 0 = ap (λ v. countedIf (worksFor (suc m) v)) (k .use-is) ∙ none .0 in
+        let no-move : countedIf (movesFor (suc m) u) ≡ 0 = ap (λ v. countedIf (movesFor (suc m) v)) (k .use-is) ∙ none .1 in
         elim (ℕ-discrete j h) [
           | yes here ↦
               idle-progress no-work no-move
@@ -147,16 +130,16 @@ module _ (p : Plan) (rs : List Release) (m j : ℕ) (place : getD rs m noRelease
         omega (arith, l .released .3, l .before)
 
     served-parts : at ks h .serves ≡ suc m
-        → (counted (worksFor (suc m) u) + workOf (at es h .job) ≡ workOf (at ks h .job))
-        × (counted (movesFor (suc m) u) + movingOf (at es h .job) ≡ movingOf (at ks h .job))
+        → (countedIf (worksFor (suc m) u) + workOf (at es h .job) ≡ workOf (at ks h .job))
+        × (countedIf (movesFor (suc m) u) + movingOf (at es h .job) ≡ movingOf (at ks h .job))
     served-parts e =
         let job = at ks h .job in
         let parts = spent-parts (suc h) (suc m) job (l .some) in
         let whole = seated-parts job in
         let today : u ≡ usedFor (suc h) (suc m) (seated job) = k .use-is ∙ ap (λ n. usedFor (suc h) n (seated job)) e in
         let after : at es h .job ≡ spentJob (seated job) = ap (λ s. s .job) (k .turn) in (
-          omega (arith, ap (λ v. counted (worksFor (suc m) v)) today, ap workOf after, parts .0, whole .0),
-          omega (arith, ap (λ v. counted (movesFor (suc m) v)) today, ap movingOf after, parts .1, whole .1),
+          omega (arith, ap (λ v. countedIf (worksFor (suc m) v)) today, ap workOf after, parts .0, whole .0),
+          omega (arith, ap (λ v. countedIf (movesFor (suc m) v)) today, ap movingOf after, parts .1, whole .1),
         )
 
     this-here : at ks j .serves ≡ suc m → h ≡ j → Progress rs m j owed t works moves (at ks j) → After
@@ -186,8 +169,8 @@ module _ (p : Plan) (rs : List Release) (m j : ℕ) (place : getD rs m noRelease
   using-progress (idleDay empty is idle) so-far =
       let rest : at es j ≡ at ks j = ap (λ ss. at ss j) is in
       idle-progress
-      (ap (λ v. counted (worksFor (suc m) v)) idle)
-      (ap (λ v. counted (movesFor (suc m) v)) idle)
+      (ap (λ v. countedIf (worksFor (suc m) v)) idle)
+      (ap (λ v. countedIf (movesFor (suc m) v)) idle)
       (ap (λ s. s .serves) rest)
       (λ e. (ap (λ s. workOf (s .job)) rest, ap (λ s. movingOf (s .job)) rest))
       so-far

@@ -1,30 +1,11 @@
 -- Job by job: in a run of a plan that passes, each release has, by its deadline, exactly its need in days of work, and the moving cost
 -- in moving days if it was the payer of its release day, else none; no day is for it before its release, and none after its deadline.
-use Prim.Native.Nat.{ℕ, zero, suc, _+_, _-_, _≤_, _<_}
-use mathlib.Core.Path.{_≡_, refl, sym, ap, _∙_, subst}
-use mathlib.Core.List.{List}
-use native.Mathlib.Omega.{arith}
-use native.Mathlib.Decide.{decLe}
-use lib.ListN.{length, getD}
-use Rattle.rules.specs.declared.Plan.{Plan}
-use Rattle.rules.specs.declared.Release.{Release}
-use Rattle.lists.specs.Count.{countOf}
-use Rattle.rules.specs.Plan.{stringsOf}
-use Rattle.rules.specs.Release.{noRelease, firstUnlawful}
-use Rattle.rules.specs.Demand.{Passes}
-use Rattle.rules.specs.Run.{left, given, spent, useOf, joined, taken, morning, stateAt, useOn, lateOn, history}
-use Rattle.laws.proofs.Lawful.{LawfulPlan}
+use Rattle.base.proofs.Prelude.{ℕ, zero, suc, _+_, _-_, _≤_, _<_, _≡_, refl, sym, ap, _∙_, subst, List, arith, decLe, length, getD}
+use Rattle.rules.specs.{declared.Plan.Plan, declared.Release.Release, Plan.stringsOf, Release.{noRelease, firstUnlawful}, Demand.Passes, Run.{left, given, spent, useOf, joined, taken, morning, stateAt, useOn, lateOn, history}}
+use Rattle.base.specs.Count.{countOf}
+use Rattle.laws.proofs.{Lawful.LawfulPlan, JobParts.parts-left, Slots.at, History.history-next, ReleaseList.{str, release-lawful}}
 use Rattle.sound.specs.Served.{released, dueOf, worksFor, movesFor, payerIn, payerOn, paid, movingCaused, Served, Untouched}
-use Rattle.laws.proofs.JobParts.{parts-left}
-use Rattle.laws.proofs.Slots.{at}
-use Rattle.laws.proofs.History.{history-next}
-use Rattle.laws.proofs.ReleaseList.{str, release-lawful}
-use Rattle.sound.proofs.Using.{spent-using}
-use Rattle.sound.proofs.Orderly.{live-if-left}
-use Rattle.sound.proofs.Arriving.{lawful-str, later-due, morning-orderly}
-use Rattle.sound.proofs.Morning.{fee, morning-place}
-use Rattle.sound.proofs.Clean.{Punctual, orderly-at, punctual}
-use Rattle.sound.proofs.Progress.{Progress, toCome, serving, past, morning-progress, using-progress}
+use Rattle.sound.proofs.{Using.spent-using, Orderly.live-if-left, Arriving.{lawful-str, later-due, morning-orderly}, Morning.{fee, morning-place}, Clean.{Punctual, orderly-at, punctual}, Progress.{Progress, toCome, serving, past, morning-progress, using-progress}}
 
 module _ (p : Plan) (rs : List Release) (lawful : LawfulPlan p) (listed : firstUnlawful p rs ≡ 0)
     (m j : ℕ) (h : m < length rs) (place : getD rs m noRelease .place ≡ suc j) where

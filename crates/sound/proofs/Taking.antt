@@ -1,27 +1,12 @@
 -- Step 3 by place: the bank is free, or its holder keeps it since nobody may take it, or the holder is stopped and the payer charged.
-use Prim.Native.Nat.{ℕ, suc, _<_}
-use mathlib.Core.Path.{_≡_, sym, ap, _∙_, subst}
-use mathlib.Core.Logic.{inl, inr, _≢_, _↔_}
-use mathlib.Core.Bool.{true, _&&_}
-use mathlib.Core.List.{List}
-use native.Mathlib.Omega.{arith}
-use borrow.Author.Tests.{eqb-true, eq-eqb, ne-eqb, lt-ltb, ltb-true}
-use lib.Dec.{eqb, ltb}
-use lib.ListN.{length}
-use Rattle.rules.specs.declared.Plan.{Plan}
-use Rattle.rules.specs.declared.Slot.{Slot}
-use Rattle.rules.specs.declared.Job.{Job}
-use Rattle.rules.specs.declared.Job.the-variants.{Empty, Waiting, OnBank}
-use Rattle.rules.specs.Demand.{movingCost}
-use Rattle.rules.specs.Run.{slotAt, noneAhead, onBank, waits, holder, mayTake, dueBefore, payer, stopped, charged, stop, charge, taken, putJob}
-use Rattle.lists.proofs.Lists.{true-not-false, and-left, and-right}
+use Rattle.base.proofs.Prelude.{ℕ, suc, _<_, _≡_, sym, ap, _∙_, subst, inl, inr, _≢_, _↔_, true, _&&_, List, arith, eqb-true, eq-eqb, ne-eqb, lt-ltb, ltb-true, eqb, ltb, length}
+use Rattle.rules.specs.{declared.Plan.Plan, declared.Slot.Slot, declared.Job.Job, declared.Job.the-variants.{Empty, Waiting, OnBank}, Demand.movingCost, Run.{slotAt, noneAhead, onBank, waits, holder, mayTake, dueBefore, payer, stopped, charged, stop, charge, taken, putJob}}
+use Rattle.base.proofs.Lists.{true-not-false, and-left, and-right}
 use Rattle.sound.specs.Served.{payerIn}
-use Rattle.laws.proofs.Slots.{at, slotAt-suc, change-length, change-same, change-other}
-use Rattle.laws.proofs.Steps.{taken-free, taken-kept, taken-over}
-use Rattle.laws.proofs.Choice.{Nobody, One, Choice}
+use Rattle.laws.proofs.{Slots.{at, slotAt-suc, change-length, change-same, change-other}, Steps.{taken-free, taken-kept, taken-over}, Choice.{Nobody, One, Choice}}
 use Rattle.sound.proofs.Places.{holder-choice, payer-choice}
 
-pub waits-not-on : (job : Job) → waits job ≡ true → onBank job ≡ true → ⊥
+waits-not-on : (job : Job) → waits job ≡ true → onBank job ≡ true → ⊥
 waits-not-on Empty w o = true-not-false (sym o)
 waits-not-on (Waiting a b) w o = true-not-false (sym o)
 waits-not-on (OnBank a b) w o = true-not-false (sym w)

@@ -1,22 +1,9 @@
 -- A day used by one job: what is left in near jobs does not grow, falls if the job is near, and who is on the bank after is that job.
-use Prim.Native.Nat.{ℕ, suc, _≤_, _<_}
-use mathlib.Core.Path.{_≡_, sym, ap, _∙_, subst}
-use mathlib.Core.Bool.{true}
-use mathlib.Core.List.{List}
-use native.Mathlib.Omega.{arith}
-use native.Mathlib.Decide.{ℕ-discrete, decLe}
-use lib.ListN.{length}
-use Rattle.rules.specs.declared.Plan.{Plan}
-use Rattle.rules.specs.declared.Release.{Release}
-use Rattle.rules.specs.declared.Slot.{Slot}
-use Rattle.rules.specs.declared.Use.{Use}
-use Rattle.rules.specs.Plan.{stringsOf}
-use Rattle.rules.specs.Run.{onBank, left}
+use Rattle.base.proofs.Prelude.{ℕ, suc, _≤_, _<_, _≡_, sym, ap, _∙_, subst, true, List, arith, ℕ-discrete, decLe, length}
+use Rattle.rules.specs.{declared.Plan.Plan, declared.Release.Release, declared.Slot.Slot, declared.Use.Use, Plan.stringsOf, Run.{onBank, left}}
 use Rattle.laws.proofs.Slots.{at}
-use Rattle.lists.proofs.Sums.{sumTo-le, sumTo-less}
-use Rattle.sound.proofs.Using.{Used, spent-left}
-use Rattle.sound.proofs.Orderly.{Live, Orderly}
-use Rattle.sound.proofs.Account.{nearLeft, nearLeft-near, nearLeft-far, backlog, Phase, flowing}
+use Rattle.base.proofs.Sums.{sumTo-le, sumTo-less}
+use Rattle.sound.proofs.{Using.{Used, spent-left}, Orderly.{Live, Orderly}, Account.{nearLeft, nearLeft-near, nearLeft-far, backlog, Phase, flowing}}
 
 module _ (p : Plan) (rs : List Release) (t d : ℕ) (ks es : List Slot) (u : Use) (o : Orderly p rs t ks)
     (h : ℕ) (k : Used ks es u h) (l : Live p rs t h (at ks h)) where
@@ -26,14 +13,14 @@ module _ (p : Plan) (rs : List Release) (t d : ℕ) (ks es : List Slot) (u : Use
   pub turn-due : at es h .deadline .0 ≡ at ks h .deadline .0
   turn-due = ap (λ s. s .deadline .0) (k .turn)
 
-  pub turn-less : nearLeft d (at es h) ≤ nearLeft d (at ks h)
+  turn-less : nearLeft d (at es h) ≤ nearLeft d (at ks h)
   turn-less =
       elim (decLe (at ks h .deadline .0) d) [
         | yes near ↦ omega (arith, turn-left, nearLeft-near d (at ks h) near, nearLeft-near d (at es h) (omega (arith, turn-due)))
         | no far ↦ omega (arith, nearLeft-far d (at es h) (omega (arith, turn-due)))
       ]
 
-  pub places-less : (j : ℕ) → j < length (stringsOf p) → nearLeft d (at es j) ≤ nearLeft d (at ks j)
+  places-less : (j : ℕ) → j < length (stringsOf p) → nearLeft d (at es j) ≤ nearLeft d (at ks j)
   places-less j a =
       elim (ℕ-discrete j h) [
         | yes here ↦ subst (λ i. nearLeft d (at es i) ≤ nearLeft d (at ks i)) (sym here) turn-less

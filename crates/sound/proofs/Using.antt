@@ -1,37 +1,20 @@
 -- Steps 4 and 5 by place: all slots are empty and the day is idle; or one job uses it, which held the bank or is due first of those
 -- that wait.
-use Prim.Native.Nat.{ℕ, suc, _+_, _-_, _≤_, _<_}
-use mathlib.Core.Path.{_≡_, refl, sym, ap, _∙_}
-use mathlib.Core.Logic.{_⊎_, inl, inr, _≢_}
-use mathlib.Core.Bool.{true, false}
-use mathlib.Core.List.{List}
-use native.Mathlib.Omega.{arith}
-use native.Mathlib.Decide.{ℕ-discrete}
-use borrow.Author.Tests.{eqb-true, eqb-false, ltb-true, ltb-false}
-use lib.Dec.{eqb, ltb}
-use lib.ListN.{length}
-use Rattle.days.specs.declared.Length.{Length}
-use Rattle.days.specs.Days.{days}
-use Rattle.rules.specs.declared.Slot.{Slot}
-use Rattle.rules.specs.declared.Job.{Job}
-use Rattle.rules.specs.declared.Job.the-variants.{Empty, Waiting, OnBank}
-use Rattle.rules.specs.declared.Use.{Use}
-use Rattle.rules.specs.declared.Use.the-variants.{Idle}
-use Rattle.rules.specs.Run.{slotAt, noneAhead, onBank, waits, left, holder, nextUp, goesFirst, seated, given, spentJob, onOrGone, spent, usedFor, useOf, withJob, putJob}
-use Rattle.lists.proofs.Lists.{by-bool, true-not-false}
-use Rattle.laws.proofs.Slots.{at, slotAt-suc, change-length, change-same, change-other}
-use Rattle.laws.proofs.Steps.{given-held, given-nobody, given-next, useOf-free, useOf-held, spent-free, spent-held}
-use Rattle.laws.proofs.Choice.{Nobody, One, Choice}
+use Rattle.base.proofs.Prelude.{ℕ, suc, _+_, _-_, _≤_, _<_, _≡_, refl, sym, ap, _∙_, _⊎_, inl, inr, _≢_, true, false, List, arith, ℕ-discrete, eqb-true, eqb-false, ltb-true, ltb-false, eqb, ltb, length}
+use Rattle.days.specs.{declared.Length.Length, Days.days}
+use Rattle.rules.specs.{declared.Slot.Slot, declared.Job.Job, declared.Job.the-variants.{Empty, Waiting, OnBank}, declared.Use.Use, declared.Use.the-variants.Idle, Run.{slotAt, noneAhead, onBank, waits, left, holder, nextUp, goesFirst, seated, given, spentJob, onOrGone, spent, usedFor, useOf, withJob, putJob}}
+use Rattle.base.proofs.Lists.{by-bool, true-not-false}
+use Rattle.laws.proofs.{Slots.{at, slotAt-suc, change-length, change-same, change-other}, Steps.{given-held, given-nobody, given-next, useOf-free, useOf-held, spent-free, spent-held}, Choice.{Nobody, One, Choice}}
 use Rattle.sound.proofs.Places.{holder-choice, nextUp-choice, goesFirst-not}
 
 -- ---- Jobs
 
-pub seated-on : (job : Job) → onBank job ≡ true → seated job ≡ job
+seated-on : (job : Job) → onBank job ≡ true → seated job ≡ job
 seated-on Empty o = refl
 seated-on (Waiting w m) o = absurd (true-not-false (sym o))
 seated-on (OnBank w m) o = refl
 
-pub waits-seated : (job : Job) → waits job ≡ true → onBank (seated job) ≡ true
+waits-seated : (job : Job) → waits job ≡ true → onBank (seated job) ≡ true
 waits-seated Empty w = w
 waits-seated (Waiting a b) w = refl
 waits-seated (OnBank a b) w = refl

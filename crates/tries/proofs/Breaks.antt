@@ -1,26 +1,14 @@
 -- What the entry for the first broken pair says of a lawful plan.
-use Prim.Native.Nat.{ℕ, _≤_}
-use mathlib.Core.Path.{_≡_, refl, sym, ap, _∙_, subst}
-use mathlib.Core.List.{[], _∷_}
-use mathlib.Core.Option.{Option, none, some}
-use native.Mathlib.Omega.{arith}
+use Rattle.base.proofs.Prelude.{ℕ, _≤_, _≡_, refl, sym, ap, _∙_, subst, [], _∷_, Option, none, some, arith}
 use denote.Enum.Declared.{tagOf}
-use types.Run.{OneOf, miss}
-use Rattle.days.specs.declared.Length.{Length}
-use Rattle.days.specs.Days.{days}
-use Rattle.rules.specs.declared.Plan.{Plan}
-use Rattle.rules.specs.declared.Broken.{Broken}
-use Rattle.rules.specs.declared.Broken.the-variants.{At}
+use Rattle.days.specs.{declared.Length.Length, Days.days}
+use Rattle.rules.specs.{declared.Plan.Plan, declared.Broken.Broken, declared.Broken.the-variants.At, Verdict.{Pair, brokenAt}, Refusal.breakAnswer}
 use Rattle.rules.proofs.Broken.{the-type}
-use Rattle.rules.specs.Verdict.{Pair, brokenAt}
-use Rattle.rules.specs.Refusal.{breakAnswer}
-use Rattle.laws.proofs.Lawful.{LawfulPlan, dMax-le}
-use Rattle.laws.proofs.LawfulChecked.{lawful-checked}
-use Rattle.laws.proofs.Answers.{break-lawful}
-use Rattle.horizon.proofs.Pairs.{pair}
-use Rattle.horizon.proofs.Verdict.{firstBroken-names}
+use Rattle.laws.proofs.{Lawful.{LawfulPlan, dMax-le}, LawfulChecked.lawful-checked, Answers.break-lawful}
+use Rattle.demand.proofs.{Pairs.pair, Verdict.{firstBroken-names, firstBroken-in-range}}
 use Rattle.verdict.proofs.Blocking.{blockLimit-short}
 use Rattle.tries.specs.Tries.{ownBreak}
+use types.Run.{OneOf, miss}
 
 -- the pair that is said
 nowhere-said : (q : Option Pair) (v : Broken) → v ≡ brokenAt q → OneOf (0 ∷ (1 ∷ [])) (tagOf the-type v) → q ≡ none
@@ -44,20 +32,19 @@ module _ (p : Plan) (ok : LawfulPlan p) (v : Broken) (asked : v ≡ breakAnswer 
   said : v ≡ brokenAt (ownBreak p)
   said = asked ∙ break-lawful p (lawful-checked p ok)
 
-  pub broken-nowhere : OneOf (0 ∷ (1 ∷ [])) (tagOf the-type v) → ownBreak p ≡ none
-  broken-nowhere = nowhere-said (ownBreak p) v said
+  pub said-nowhere : OneOf (0 ∷ (1 ∷ [])) (tagOf the-type v) → ownBreak p ≡ none
+  said-nowhere = nowhere-said (ownBreak p) v said
 
   module _ (l b : Length) (is : v ≡ At l b) where
-    pub broken-there : ownBreak p ≡ some (pair (l .0) (b .0))
-    broken-there = there-said (ownBreak p) l b (sym is ∙ said)
+    pub said-there : ownBreak p ≡ some (pair (l .0) (b .0))
+    said-there = there-said (ownBreak p) l b (sym is ∙ said)
 
     -- both are small
     pub broken-interval : l .0 ≤ 101000
     broken-interval =
-        let first = firstBroken-names p (l .0) (b .0) broken-there in
-        omega (arith, first .inRange, dMax-le p ok, ok .hMax)
+        omega (arith, firstBroken-in-range p (l .0) (b .0) said-there, dMax-le p ok, ok .hMax)
 
     pub broken-blocking : b .0 ≤ 1000
     broken-blocking =
-        let first = firstBroken-names p (l .0) (b .0) broken-there in
+        let first = firstBroken-names p (l .0) (b .0) said-there in
         omega (arith, first .allowed, blockLimit-short p (l .0) ok)

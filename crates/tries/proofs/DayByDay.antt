@@ -1,22 +1,15 @@
 -- The releases of an interval, day by day and place by place.
 --     daysFrom t            the releases from day t on
 --     placesFrom t i        the releases of day t after the first i places
-use Prim.Native.Nat.{ℕ, suc, _+_, _-_, _≤_, _<_}
-use mathlib.Core.Path.{_≡_, ap, _∙_}
-use mathlib.Core.Bool.{Bool, true, false}
-use mathlib.Core.List.{List, [], _∷_, _++_, map, flatMap}
-use native.Mathlib.Omega.{arith}
-use native.Mathlib.Numerals.{add-one}
-use lib.ListN.{length, getD}
+use Rattle.base.proofs.Prelude.{ℕ, suc, _+_, _-_, _≤_, _<_, _≡_, ap, _∙_, Bool, true, false, List, [], _∷_, _++_, map, arith, add-one, length, getD}
+use mathlib.Core.List.{flatMap}
 use Rattle.days.specs.Days.{day}
-use Rattle.lists.specs.Count.{keep, upFrom}
-use Rattle.rules.specs.declared.Plan.{Plan}
-use Rattle.rules.specs.declared.Release.{Release}
-use Rattle.rules.specs.Plan.{stringsOf, stringAt, noString}
-use Rattle.lists.proofs.Order.{upFrom-cons, keep-yes, keep-no}
-use Rattle.verdict.specs.Asked.{Ready}
+use Rattle.base.specs.Count.{keep, upFrom}
+use Rattle.rules.specs.{declared.Plan.Plan, declared.Release.Release, Plan.{stringsOf, stringAt, noString}}
+use Rattle.base.proofs.Order.{upFrom-cons, keep-yes, keep-no}
+use Rattle.verdict.specs.inner.Asked.{Ready}
 use Rattle.verdict.proofs.StringSums.{strings-count}
-use Rattle.missing.specs.Missing.{comesIn, fullRelease, releasesIn, othersIn}
+use Rattle.exact.specs.Missing.{comesIn, fullRelease, releasesIn, othersIn}
 use Rattle.tries.proofs.Places.{after, after-next, after-end, place-string}
 
 module _ (p : Plan) (lead b l : ℕ) where
@@ -39,7 +32,7 @@ module _ (p : Plan) (lead b l : ℕ) where
       rw none-left
 
   module _ (ready : Ready p) where
-    pub day-places : (t : ℕ) → releasesIn p lead b l t ≡ placesFrom t 0
+    day-places : (t : ℕ) → releasesIn p lead b l t ≡ placesFrom t 0
     unfolding releasesIn
     day-places t =
         let every : length (stringsOf p) ≡ p .n - 0 = strings-count p ready ∙ omega arith in
@@ -62,14 +55,14 @@ module _ (p : Plan) (lead b l : ℕ) where
           ∙ ap (map (fullRelease p t)) (keep-no comes (i + 1) (after (i + 1) (p .n)) none-here)
 
       -- the release as the code makes it
-      abbrev pub release : Release
-      release = record { day = day t; place = i + 1; need = getD (p .strings) i noString .c }
+      abbrev pub releaseAt : Release
+      releaseAt = record { day = day t; place = i + 1; need = getD (p .strings) i noString .c }
 
-      pub place-comes : comesIn lead b l (getD (p .strings) i noString) t ≡ true → placesFrom t i ≡ release ∷ placesFrom t (i + 1)
+      pub place-comes : comesIn lead b l (getD (p .strings) i noString) t ≡ true → placesFrom t i ≡ releaseAt ∷ placesFrom t (i + 1)
       place-comes e =
           let comes : ℕ → Bool = λ j. comesIn lead b l (stringAt p j) t in
           let here : comes (i + 1) ≡ true = ap (λ s. comesIn lead b l s t) (place-string p ready i h) ∙ e in
-          let full : fullRelease p t (i + 1) ≡ release =
+          let full : fullRelease p t (i + 1) ≡ releaseAt =
           ap (λ s. record { day = day t; place = i + 1; need = s .c }) (place-string p ready i h) in
           ap (λ js. map (fullRelease p t) (keep comes js)) (after-next i (p .n) h)
           ∙ ap (map (fullRelease p t)) (keep-yes comes (i + 1) (after (i + 1) (p .n)) here)

@@ -1,39 +1,17 @@
 -- What the tries find: a try that is found has a list of at most 1,000 releases over which the plan misses; and where the rule with free
 -- moving breaks and the list there has at most 1,000 releases, one is found.
-use Prim.Native.Nat.{ℕ, _-_, _≤_, min}
-use mathlib.Core.Path.{_≡_, refl, sym, ap, _∙_}
-use mathlib.Core.Bool.{true}
-use mathlib.Core.List.{List, _∷_, _++_}
-use mathlib.Core.Option.{none, some}
-use native.Mathlib.Omega.{arith}
-use lib.ListN.{length, replicate}
-use lib.Seq.{take-all, take-append-seam}
-use Rattle.days.specs.Days.{day}
-use Rattle.days.specs.declared.Day.{Day}
-use Rattle.lists.proofs.Lists.{true-not-false}
-use Rattle.lists.proofs.FirstOf.{firstOf-none, firstOf-passes}
+use Rattle.base.proofs.Prelude.{ℕ, _-_, _≤_, min, _≡_, refl, sym, ap, _∙_, true, List, _∷_, _++_, none, some, arith, length, replicate, take-all, take-append-seam}
+use Rattle.days.specs.{Days.day, declared.Day.Day}
+use Rattle.base.proofs.{Lists.true-not-false, FirstOf.{firstOf-none, firstOf-passes}}
 use Rattle.faults.specs.declared.Checked.the-variants.{Lawful}
 use Rattle.faults.proofs.Checks.{by-checked, then-lawful}
-use Rattle.rules.specs.declared.Plan.{Plan}
-use Rattle.rules.specs.declared.Release.{Release}
-use Rattle.rules.specs.declared.Outcome.{Outcome}
-use Rattle.rules.specs.declared.Outcome.the-variants.{Refused, Miss, Clean}
-use Rattle.rules.specs.Release.{noRelease, releasesOf, firstUnlawful}
-use Rattle.rules.specs.Refusal.{planCheck, releasesCheck, runCheck, runAnswer}
-use Rattle.rules.specs.Run.{runOf}
-use Rattle.rules.specs.Verdict.{Pair}
-use Rattle.laws.proofs.Lawful.{LawfulPlan, dMax-le}
-use Rattle.laws.proofs.LawfulChecked.{lawful-checked}
-use Rattle.laws.proofs.Releases.{LawfulRun, runCheck-lawful, releasesCheck-good}
-use Rattle.laws.proofs.Answers.{run-lawful}
-use Rattle.horizon.proofs.Verdict.{firstBroken-names}
-use Rattle.horizon.specs.FirstBreak.{FirstBreak}
-use Rattle.missing.specs.Missing.{freely, withRun, missing, MissesBy}
-use Rattle.missing.proofs.Freely.{freely-lawful}
-use Rattle.missing.proofs.Exact.{withRun-lawful, break-misses-by}
-use Rattle.missing.proofs.Longer.{miss-soon, longer-misses}
-use Rattle.tries.specs.Tries.{Try, endOf, listOf, freeBreak, ownBreak, blockTry, freeTries, heldTries, stoppedTries, paidTries, tries}
-use Rattle.tries.specs.Tries.{packed, isMiss, missesOn, found, raised}
+use Rattle.rules.specs.{declared.Plan.Plan, declared.Release.Release, declared.Outcome.Outcome, declared.Outcome.the-variants.{Refused, Miss, Clean}, Release.{noRelease, releasesOf, firstUnlawful}, Refusal.{planCheck, releasesCheck, runCheck, runAnswer}, Run.runOf, Verdict.Pair, Plan.withRun}
+use Rattle.laws.proofs.{Lawful.{LawfulPlan, dMax-le}, LawfulChecked.lawful-checked, Releases.{LawfulRun, runCheck-lawful, releasesCheck-good}, Answers.run-lawful}
+use Rattle.demand.proofs.Verdict.{firstBroken-names, firstBroken-in-range}
+use Rattle.demand.specs.FirstBreak.{FirstBreak}
+use Rattle.exact.specs.Missing.{freely, missing, MissesBy}
+use Rattle.exact.proofs.{Freely.freely-lawful, Exact.{withRun-lawful, break-misses-by}, Longer.{miss-soon, longer-misses}}
+use Rattle.tries.specs.Tries.{Try, endOfTry, listOf, freeBreak, ownBreak, blockTry, freeTries, heldTries, stoppedTries, paidTries, tries, packed, isMiss, missesOn, found, raised}
 
 -- ---- A list as the code has it
 
@@ -62,14 +40,14 @@ module _ (q : Plan) (rs : List Release) where
     lawful = runCheck-lawful q (packed rs) checked
 
     -- the list is not too long, and the run is not too long
-    pub packed-few : length rs ≤ 1000
+    packed-few : length rs ≤ 1000
     packed-few = omega (arith, lawful .few)
 
-    pub packed-bounded : q .run .0 ≤ 1000000
+    packed-bounded : q .run .0 ≤ 1000000
     packed-bounded = lawful .plan .runMax
 
     -- it is lawful and misses
-    pub packed-misses : MissesBy q rs (q .run .0)
+    packed-misses : MissesBy q rs (q .run .0)
     packed-misses =
         let holds = packed-holds rs packed-few in
         let miss = miss-only (runAnswer q (packed rs)) h in
@@ -100,21 +78,21 @@ module _ (p : Plan) (y : Try) (h : found p ≡ some y) where
   unfolding found
   found-on = firstOf-passes (missesOn p) (tries p) y h
 
-  pub found-bounded : endOf y ≤ 1000000
+  pub found-bounded : endOfTry y ≤ 1000000
   unfolding missesOn
-  found-bounded = packed-bounded (withRun p (endOf y)) (listOf p y) found-on
+  found-bounded = packed-bounded (withRun p (endOfTry y)) (listOf p y) found-on
 
   -- its list has at most 1,000 releases
   pub found-few : length (listOf p y) ≤ 1000
   unfolding missesOn
-  found-few = packed-few (withRun p (endOf y)) (listOf p y) found-on
+  found-few = packed-few (withRun p (endOfTry y)) (listOf p y) found-on
 
   -- and misses by the interval's end, N raised to it where it lies beyond
-  pub found-misses : MissesBy (withRun p (raised p y)) (listOf p y) (endOf y)
+  pub found-misses : MissesBy (withRun p (raised p y)) (listOf p y) (endOfTry y)
   unfolding missesOn
   found-misses =
-      longer-misses p (listOf p y) (endOf y) (raised p y) (omega arith) (endOf y)
-      (packed-misses (withRun p (endOf y)) (listOf p y) found-on)
+      longer-misses p (listOf p y) (endOfTry y) (raised p y) (omega arith) (endOfTry y)
+      (packed-misses (withRun p (endOfTry y)) (listOf p y) found-on)
 
 -- ---- Where the rule with free moving breaks
 
@@ -123,12 +101,12 @@ module _ (p : Plan) (ok : LawfulPlan p) (q : Pair) (breaks : freeBreak p ≡ som
   first = firstBroken-names (freely p) (q .l) (q .b) breaks
 
   abbrev end : ℕ
-  end = endOf (blockTry p q)
+  end = endOfTry (blockTry p q)
 
   end-bounded : end ≤ 1000000
   end-bounded =
       let free = freely-lawful p ok in
-      omega (arith, first .inRange, dMax-le (freely p) free, free .hMax)
+      omega (arith, firstBroken-in-range (freely p) (q .l) (q .b) breaks, dMax-le (freely p) free, free .hMax)
 
   block-misses : MissesBy (withRun p end) (missing p (q .l) (q .b)) end
   block-misses =

@@ -1,10 +1,6 @@
 -- A list whose elements are changed one after the other, in place: those done, and those left as they will be, are the whole.
-use Prim.Native.Nat.{ℕ, suc, _+_, _≤_, _<_}
-use mathlib.Core.Path.{_≡_, sym, ap, _∙_}
-use mathlib.Core.List.{List, [], _∷_, _++_, map, append-assoc, append-nil}
-use native.Mathlib.Numerals.{add-one}
-use lib.ListN.{length, take, drop, getD, set, drop-of-length-le}
-use lib.Seq.{drop-cons, take-suc-set, take-all}
+use Rattle.base.proofs.Prelude.{ℕ, suc, _+_, _≤_, _<_, _≡_, sym, ap, _∙_, List, [], _∷_, _++_, map, append-assoc, append-nil, add-one, length, take, drop, getD, set, drop-of-length-le, drop-cons, take-all}
+use lib.Seq.{take-suc-set}
 
 module _ {A : Type 0} (f : A → A) (all now : List A) (i : ℕ) where
   -- one more is done

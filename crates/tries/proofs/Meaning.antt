@@ -4,38 +4,20 @@
 --     Found        the list that is shown is lawful, and its run misses
 --     NoneFound    the plan does not pass; with free moving it would
 --     TooMany      the plan does not pass, not even with free moving: there is a list that misses, and it has more than 1,000 releases
-use Prim.Native.Nat.{ℕ, _≤_, _<_}
-use mathlib.Core.Path.{_≡_, refl, sym, ap, _∙_}
-use mathlib.Core.Logic.{_↔_}
-use mathlib.Core.Bool.{true, false}
-use mathlib.Core.Option.{Option, none, some}
-use native.Mathlib.Omega.{arith}
-use native.Mathlib.Decide.{decLe}
-use lib.ListN.{length}
-use Rattle.days.specs.Days.{day, days}
-use Rattle.days.specs.declared.Day.{Day}
-use Rattle.days.specs.declared.Length.{Length}
-use Rattle.lists.proofs.Lists.{by-bool, true-not-false}
+use Rattle.base.proofs.Prelude.{ℕ, _≤_, _<_, _≡_, refl, sym, ap, _∙_, _↔_, true, false, Option, none, some, arith, decLe, length}
+use Rattle.days.specs.{Days.{day, days}, declared.Day.Day, declared.Length.Length}
+use Rattle.base.proofs.Lists.{by-bool, true-not-false}
 use Rattle.faults.specs.declared.Fault.{Fault}
-use Rattle.faults.specs.declared.Checked.the-variants as checked
 use Rattle.faults.proofs.Checks.{by-checked}
-use Rattle.rules.specs.declared.Plan.{Plan}
-use Rattle.rules.specs.declared.Outcome.the-variants.{Miss}
-use Rattle.rules.specs.Demand.{Passes}
-use Rattle.rules.specs.Verdict.{Pair, verdictOf, isPass}
-use Rattle.rules.specs.Refusal.{planCheck, runAnswer}
-use Rattle.laws.proofs.Lawful.{LawfulPlan, dMax-le, planCheck-lawful}
-use Rattle.laws.proofs.LawfulChecked.{lawful-checked}
-use Rattle.horizon.proofs.Unbroken.{passes-of-none}
-use Rattle.horizon.proofs.Verdict.{firstBroken-names, passes-of-pass, pass-of-passes}
-use Rattle.missing.specs.Missing.{freely, withRun, missing, NeverMisses, FreeMoving}
-use Rattle.missing.proofs.Freely.{freely-lawful, free-passes}
-use Rattle.missing.proofs.Exact.{withRun-lawful, break-misses, passes-never}
-use Rattle.tries.specs.declared.Missing.{Missing}
-use Rattle.tries.specs.declared.Missing.the-variants as answer
-use Rattle.tries.specs.Tries.{Try, listOf, freeBreak, packed, found, raised, unfound, foundAs, missingOf, missingAnswer}
-use Rattle.tries.specs.Shown.{Shows, MissesOverMany}
+use Rattle.rules.specs.{declared.Plan.Plan, declared.Outcome.the-variants.Miss, Demand.Passes, Verdict.{Pair, verdictOf, isPass}, Refusal.{planCheck, runAnswer}, Plan.withRun}
+use Rattle.laws.proofs.{Lawful.{LawfulPlan, dMax-le, planCheck-lawful}, LawfulChecked.lawful-checked}
+use Rattle.demand.proofs.{Unbroken.passes-of-none, Verdict.{firstBroken-names, firstBroken-in-range, passes-of-pass, pass-of-passes}}
+use Rattle.exact.specs.Missing.{freely, missing, NeverMisses, FreeMoving}
+use Rattle.exact.proofs.{Freely.{freely-lawful, free-passes}, Exact.{withRun-lawful, break-misses, passes-never}}
+use Rattle.tries.specs.{declared.Missing.Missing, Tries.{Try, listOf, freeBreak, packed, found, raised, unfound, foundAs, missingOf, missingAnswer}, Shown.{Shows, MissesOverMany}}
 use Rattle.tries.proofs.Found.{misses-packed, found-bounded, found-few, found-misses, found-where-free}
+use Rattle.faults.specs.declared.Checked.the-variants as checked
+use Rattle.tries.specs.declared.Missing.the-variants as answer
 
 -- ---- How an answer comes about
 
@@ -123,7 +105,7 @@ module _ (p : Plan) where
 
   -- ---- Passes
 
-  pub answer-passes : (missingAnswer p .missing ≡ answer.Passes) ↔ (planCheck p ≡ checked.Lawful) × (isPass (verdictOf p) ≡ true)
+  answer-passes : (missingAnswer p .missing ≡ answer.Passes) ↔ (planCheck p ≡ checked.Lawful) × (isPass (verdictOf p) ≡ true)
   answer-passes = (only, λ h. pass-says (h .0) (h .1))
     where
       only : missingAnswer p .missing ≡ answer.Passes → (planCheck p ≡ checked.Lawful) × (isPass (verdictOf p) ≡ true)
@@ -260,6 +242,11 @@ module _ (p : Plan) where
               ];
           misses =
               break-misses p ok 1000000 (q .l) (q .b) (omega arith)
-              (omega (arith, first .inRange, dMax-le (freely p) (freely-lawful p ok), freely-lawful p ok .hMax))
+              (omega (
+                arith,
+                firstBroken-in-range (freely p) (q .l) (q .b) breaks,
+                dMax-le (freely p) (freely-lawful p ok),
+                freely-lawful p ok .hMax,
+              ))
               (first .allowed) (first .breaks);
         }

@@ -1,16 +1,9 @@
 -- The code's list as it is filled.
 --     Packing all left list count     the first `count` places of the list hold what comes before `left` in `all`; there is nothing behind
-use Prim.Native.Nat.{ℕ, _+_, _≤_, _<_, min}
-use mathlib.Core.Path.{_≡_, sym, ap, _∙_}
-use mathlib.Core.List.{List, [], _∷_, _++_, append-assoc, append-nil}
-use native.Mathlib.Omega.{arith}
-use lib.ListN.{length, take, set, length-append}
-use lib.Seq.{take-all, take-at}
-use Rattle.lists.specs.Count.{filled}
-use Rattle.lists.proofs.Filling.{filled-set}
-use Rattle.rules.specs.declared.Release.{Release}
-use Rattle.rules.specs.declared.Releases.{Releases}
-use Rattle.rules.specs.Release.{noRelease}
+use Rattle.base.proofs.Prelude.{ℕ, _+_, _≤_, _<_, min, _≡_, sym, ap, _∙_, List, [], _∷_, _++_, append-assoc, append-nil, arith, length, take, set, length-append, take-all, take-at}
+use Rattle.base.specs.Count.{filled}
+use Rattle.base.proofs.Filling.{filled-set}
+use Rattle.rules.specs.{declared.Release.Release, declared.Releases.Releases, Release.noRelease}
 use Rattle.tries.specs.Tries.{packed}
 
 pub record Packing (all left list : List Release) (count : ℕ) : Type 0 where

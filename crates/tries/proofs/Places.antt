@@ -1,20 +1,11 @@
 -- Walks over the places of a plan, the first i of them done.
 --     after i n             the places after the first i of n
-use Prim.Native.Nat.{ℕ, suc, _+_, _-_, _≤_, _<_}
-use mathlib.Core.Path.{_≡_, ap, _∙_}
-use mathlib.Core.Bool.{Bool, true, false}
-use mathlib.Core.List.{List, [], _∷_}
-use native.Mathlib.Omega.{arith}
-use native.Mathlib.Numerals.{add-one}
-use lib.ListN.{getD}
-use lib.Seq.{getD-take}
-use Rattle.lists.specs.Count.{upFrom, leastFrom}
-use Rattle.rules.specs.declared.Plan.{Plan}
-use Rattle.rules.specs.Plan.{stringsOf, stringAt, noString}
-use Rattle.lists.proofs.Order.{upFrom-cons}
-use Rattle.lists.proofs.Least.{leastFrom-here, leastFrom-later}
+use Rattle.base.proofs.Prelude.{ℕ, suc, _+_, _-_, _≤_, _<_, _≡_, ap, _∙_, Bool, true, false, List, [], _∷_, arith, add-one, getD, getD-take}
+use Rattle.base.specs.Count.{upFrom, leastFrom}
+use Rattle.rules.specs.{declared.Plan.Plan, Plan.{stringsOf, stringAt, noString}}
+use Rattle.base.proofs.{Order.upFrom-cons, Least.{leastFrom-here, leastFrom-later}}
 use Rattle.laws.proofs.Lawful.{PlanString}
-use Rattle.verdict.specs.Asked.{Ready}
+use Rattle.verdict.specs.inner.Asked.{Ready}
 use Rattle.verdict.proofs.StringSums.{string-at}
 
 abbrev pub after : ℕ → ℕ → List ℕ

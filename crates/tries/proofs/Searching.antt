@@ -1,21 +1,13 @@
 -- A search place by place, the first i places done: what it finds in those left is what it finds in all.
-use Prim.Native.Nat.{ℕ, _+_, _-_, _≤_, _<_}
-use mathlib.Core.Path.{_≡_, sym, ap, _∙_, subst}
-use mathlib.Core.Bool.{Bool, true, false}
-use mathlib.Core.List.{List, [], _∷_, _++_, map, flatMap}
-use mathlib.Core.Option.{Option, none, some}
-use native.Mathlib.Omega.{arith}
+use Rattle.base.proofs.Prelude.{ℕ, _+_, _-_, _≤_, _<_, _≡_, sym, ap, _∙_, subst, Bool, true, false, List, [], _∷_, _++_, map, Option, none, some, arith}
+use mathlib.Core.List.{flatMap}
 use denote.Enum.Declared.{tagOf}
-use types.Run.{OneOf, miss}
-use Rattle.lists.specs.Count.{upFrom, firstOf}
-use Rattle.lists.proofs.FirstOf.{firstOf-end, firstOf-here, firstOf-later, firstOf-front, firstOf-rest}
+use Rattle.base.specs.Count.{upFrom, firstOf}
+use Rattle.base.proofs.FirstOf.{firstOf-end, firstOf-here, firstOf-later, firstOf-front, firstOf-rest}
 use Rattle.rules.specs.declared.Plan.{Plan}
-use Rattle.tries.specs.declared.search.Tried.{Tried}
-use Rattle.tries.specs.declared.search.Tried.the-variants.{NoneMisses, Misses}
-use Rattle.tries.proofs.search.Tried.{the-type}
-use Rattle.tries.specs.Tries.{Try, byInterval, missesOn}
-use Rattle.tries.specs.Openings.{Finds}
-use Rattle.tries.proofs.Places.{after, after-next, after-end}
+use Rattle.tries.specs.{declared.search.Tried.Tried, declared.search.Tried.the-variants.{NoneMisses, Misses}, Tries.{Try, byInterval, missesOn}, inner.Openings.Finds}
+use Rattle.tries.proofs.{search.Tried.the-type, Places.{after, after-next, after-end}}
+use types.Run.{OneOf, miss}
 
 -- the same try is asked for
 pub finds-as : (t : Tried) (a b : Option Try) → a ≡ b → Finds t a → Finds t b

@@ -1,24 +1,12 @@
 -- Plans and what is answered for each: one table, one statement.
-use Prim.Native.Nat.{ℕ}
-use mathlib.Core.Path.{_≡_, refl}
-use mathlib.Core.List.{List, [], _∷_, map, flatMap}
+use Rattle.base.proofs.Prelude.{ℕ, _≡_, refl, List, [], _∷_, map}
+use mathlib.Core.List.{flatMap}
 use Rattle.days.specs.Days.{days}
-use Rattle.rules.specs.declared.Plan.{Plan}
-use Rattle.rules.specs.declared.Release.{Release}
-use Rattle.lists.specs.Count.{sumOf, largest, smallest, smallestWith, every, keep, countOf, upFrom, leastFrom, firstOf}
-use Rattle.rules.specs.Plan.{stringLawful, commonMultiple, multipleOf, dMin, dMax}
-use Rattle.rules.specs.Demand.{movingCost, holdOf, jobs, blockerHold, blockLimit, need, demand, load, overloaded}
-use Rattle.rules.specs.Verdict.{pairsAt, allPairs, broken, compared, judged, verdictOver, isPass}
-use Rattle.rules.specs.Search.{permit, withSet}
-use Rattle.rules.specs.Release.{tooClose, outOfOrder, releaseLawful, unlawfulFrom, firstUnlawful}
-use Rattle.rules.specs.Run.{chosen, lateAt, newSlot, joinFrom, joined, holder, payer, taken, nextUp, given, useOf, spent, morning}
-use Rattle.rules.specs.Run.{stateAt, useOn, lateOn, history, daysOf, missDay, runOf}
-use Rattle.rules.specs.Refusal.{countCheck, runLengthCheck, stringsCheck, multipleCheck, planCheck, releasesCheck, runCheck, runAnswer}
+use Rattle.rules.specs.{declared.Plan.Plan, declared.Release.Release, Plan.{stringLawful, commonMultiple, multipleOf, dMin, dMax, withRun}, Demand.{movingCost, holdOf, jobs, blockerHold, blockLimit, need, demand, load, overloaded}, Verdict.{pairsAt, allPairs, broken, compared, judged, verdictOver, isPass}, Search.{permit, withSet}, Release.{tooClose, outOfOrder, releaseLawful, unlawfulFrom, firstUnlawful}, Run.{chosen, lateAt, newSlot, joinFrom, joined, holder, payer, taken, nextUp, given, useOf, spent, morning, stateAt, useOn, lateOn, history, daysOf, missDay, runOf}, Refusal.{countCheck, runLengthCheck, stringsCheck, multipleCheck, planCheck, releasesCheck, runCheck, runAnswer}}
+use Rattle.base.specs.Count.{sumOf, largest, smallest, smallestWith, every, keep, countOf, upFrom, leastFrom, firstOf}
 use Rattle.rules.proofs.Worked.{string, paying, planOf, plan, release, two, five}
-use Rattle.missing.specs.Missing.{withRun, blockerPlace, blockerRelease, delayOf, comesIn, releasesIn, othersIn}
-use Rattle.tries.specs.declared.Missing.the-variants.{Passes, NoneFound, Found}
-use Rattle.tries.specs.declared.Shown.{Shown}
-use Rattle.tries.specs.Tries.{listOf, stoppedTries, paidTries, tries, packed, isMiss, missesOn, found, missingOf, missingAnswer, unlisted}
+use Rattle.exact.specs.Missing.{blockerPlace, blockerRelease, delayOf, comesIn, releasesIn, othersIn}
+use Rattle.tries.specs.{declared.Missing.the-variants.{Passes, NoneFound, Found}, declared.Shown.Shown, Tries.{listOf, stoppedTries, paidTries, tries, packed, isMiss, missesOn, found, missingOf, missingAnswer, unlisted}}
 
 -- the first string takes the bank from the second, pays two days and is late
 unfoldable pub dear : Plan

@@ -1,4 +1,4 @@
 pub mod Tries
 pub mod Shown
 pub mod Said
-pub mod Openings
+pub mod inner

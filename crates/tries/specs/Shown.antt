@@ -9,7 +9,8 @@ use lib.ListN.{length}
 use Rattle.rules.specs.declared.Plan.{Plan}
 use Rattle.rules.specs.declared.Release.{Release}
 use Rattle.rules.specs.declared.Releases.{Releases}
-use Rattle.missing.specs.Missing.{withRun, missing, MissesBy}
+use Rattle.rules.specs.Plan.{withRun}
+use Rattle.exact.specs.Missing.{missing, MissesBy}
 use Rattle.tries.specs.Tries.{packed}
 
 pub record Shows (p : Plan) (n : ℕ) (rs : Releases) : Type 0 where

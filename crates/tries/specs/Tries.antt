@@ -26,7 +26,7 @@ use mathlib.Core.List.{List, [], _∷_, _++_, map, flatMap}
 use mathlib.Core.Option.{Option, none, some}
 use lib.ListN.{length, take}
 use Rattle.days.specs.Days.{days}
-use Rattle.lists.specs.Count.{upFrom, firstOf, filled}
+use Rattle.base.specs.Count.{upFrom, firstOf, filled}
 use Rattle.faults.specs.declared.Checked.{Checked}
 use Rattle.faults.specs.declared.Checked.the-variants as checked
 use Rattle.rules.specs.declared.Plan.{Plan}
@@ -39,7 +39,8 @@ use Rattle.rules.specs.Demand.{holdOf}
 use Rattle.rules.specs.Verdict.{Pair, allPairs, firstBroken, verdictOf, isPass}
 use Rattle.rules.specs.Release.{noRelease}
 use Rattle.rules.specs.Refusal.{planCheck, runAnswer}
-use Rattle.missing.specs.Missing.{freely, withRun, leadOf, blockerRelease, fullRelease, othersIn}
+use Rattle.rules.specs.Plan.{withRun}
+use Rattle.exact.specs.Missing.{freely, leadOf, blockerRelease, fullRelease, othersIn}
 use Rattle.tries.specs.declared.Missing.{Missing}
 use Rattle.tries.specs.declared.Missing.the-variants.{Refused, Passes, NoneFound, TooMany, Found}
 use Rattle.tries.specs.declared.Shown.{Shown}
@@ -50,8 +51,8 @@ pub record Try : Type 0 where
   pub delay : ℕ
   pub l : ℕ
 
-abbrev pub endOf : Try → ℕ
-endOf y = y .lead + y .l
+abbrev pub endOfTry : Try → ℕ
+endOfTry y = y .lead + y .l
 
 unfoldable pub listOf : Plan → Try → List Release
 listOf p y = y .head ++ othersIn p (y .lead) (y .delay) (y .l)
@@ -108,7 +109,7 @@ isMiss (outcome.Miss t i) = true
 isMiss (outcome.Clean w m i) = false
 
 unfoldable pub missesOn : Plan → Try → Bool
-missesOn p y = isMiss (runAnswer (withRun p (endOf y)) (packed (listOf p y)))
+missesOn p y = isMiss (runAnswer (withRun p (endOfTry y)) (packed (listOf p y)))
 
 unfoldable pub found : Plan → Option Try
 found p = firstOf (missesOn p) (tries p)
@@ -116,7 +117,7 @@ found p = firstOf (missesOn p) (tries p)
 -- ---- The answer
 
 abbrev pub raised : Plan → Try → ℕ
-raised p y = max (p .run .0) (endOf y)
+raised p y = max (p .run .0) (endOfTry y)
 
 -- where none is found there is nothing in the list
 abbrev pub unlisted : Missing → Shown

@@ -3,8 +3,8 @@ use days::Length;
 use rules::BatteryString;
 use rules::Plan;
 ghost use mathlib.Core.Path.{_≡_};
-ghost use Rattle.verdict.specs.Asked.{Ready};
-ghost use Rattle.missing.specs.Missing.{movedFreely, freely};
+ghost use Rattle.verdict.specs.inner.Asked.{Ready};
+ghost use Rattle.exact.specs.Missing.{movedFreely, freely};
 
 fn moved_freely(s: BatteryString) -> BatteryString
     ensures { λ r. ⌜ r ≡ movedFreely s ⌝ }

@@ -21,7 +21,7 @@ ghost use mathlib.Core.Path.{_≡_};
 ghost use Prim.Native.Nat.{max};
 ghost use Rattle.days.specs.Days.{days};
 ghost use Rattle.rules.specs.Verdict.{isPass};
-ghost use Rattle.verdict.specs.Asked.{Ready};
+ghost use Rattle.verdict.specs.inner.Asked.{Ready};
 ghost use Rattle.tries.specs.Tries.{freeBreak, unlisted, unfound, missingOf, missingAnswer};
 
 // What is found for a plan: N of a run that misses; or that the plan passes, so that none does; or that none of the lists tried does, and

@@ -8,13 +8,13 @@ use rules::Release;
 use rules::Releases;
 ghost use mathlib.Core.Path.{_≡_};
 ghost use Prim.Native.Nat.{_≤_};
-ghost use Rattle.lists.specs.Count.{filled};
+ghost use Rattle.base.specs.Count.{filled};
 ghost use Rattle.rules.specs.Release.{noRelease};
 ghost use Rattle.laws.proofs.Lawful.{LawfulString};
-ghost use Rattle.verdict.specs.Asked.{Ready};
-ghost use Rattle.missing.specs.Missing.{delayOf, comesIn};
+ghost use Rattle.verdict.specs.inner.Asked.{Ready};
+ghost use Rattle.exact.specs.Missing.{delayOf, comesIn};
 ghost use Rattle.tries.specs.Tries.{listOf, packed};
-ghost use Rattle.tries.specs.Openings.{headOf, tryOf, Small};
+ghost use Rattle.tries.specs.inner.Openings.{headOf, tryOf, Small};
 
 // The days of the interval before a job of the string comes.
 fn delay_of(delay: u32, s: BatteryString) -> u32

@@ -9,11 +9,11 @@ ghost use Prim.Native.Nat.{_+_, _≤_};
 ghost use Rattle.rules.specs.Demand.{holdOf};
 ghost use Rattle.rules.specs.Release.{noRelease};
 ghost use Rattle.laws.proofs.Lawful.{PlanString};
-ghost use Rattle.horizon.proofs.Pairs.{pair};
-ghost use Rattle.verdict.specs.Asked.{Ready};
-ghost use Rattle.missing.specs.Missing.{blockerPlace, canBlock, fullRelease};
+ghost use Rattle.demand.proofs.Pairs.{pair};
+ghost use Rattle.verdict.specs.inner.Asked.{Ready};
+ghost use Rattle.exact.specs.Missing.{blockerPlace, canBlock, fullRelease};
 ghost use Rattle.tries.specs.Tries.{blockTry, stoppedTry, paidTry};
-ghost use Rattle.tries.specs.Openings.{tryOf, Small};
+ghost use Rattle.tries.specs.inner.Openings.{tryOf, Small};
 
 // The first releases, as many as `count` says, of the two; the day on which the interval begins; and the days of it before takers come.
 pub(crate) struct Opening {

@@ -13,31 +13,17 @@ ghost use mathlib.Core.Path.{_≡_};
 ghost use mathlib.Core.List.{flatMap};
 ghost use mathlib.Core.Option.{some};
 ghost use Prim.Native.Nat.{_≤_};
-ghost use Rattle.lists.specs.Count.{firstOf};
-ghost use Rattle.horizon.proofs.Pairs.{pair};
-ghost use Rattle.verdict.specs.Asked.{Ready};
-ghost use Rattle.missing.specs.Missing.{withRun};
+ghost use Rattle.base.specs.Count.{firstOf};
+ghost use Rattle.demand.proofs.Pairs.{pair};
+ghost use Rattle.verdict.specs.inner.Asked.{Ready};
 ghost use Rattle.tries.specs.Tries.{freeBreak, freeTries, ownBreak, heldTries, places, byInterval, stoppedTries};
 ghost use Rattle.tries.specs.Tries.{paidTry, paidTries, missesOn, found};
-ghost use Rattle.tries.specs.Openings.{tryOf, Small, Finds};
+ghost use Rattle.tries.specs.inner.Openings.{tryOf, Small, Finds};
 
 // What a search over tries finds: the first that misses, how its list begins and the days of its interval.
 pub(crate) enum Tried {
     NoneMisses,
     Misses { opening: Opening, l: u32 },
-}
-
-// The plan with a run of n days.
-fn with_run(p: Plan, n: u32) -> Plan
-    ensures { λ r. ⌜ r ≡ withRun p n ⌝ }
-{
-    let count = p.n;
-    let strings = p.strings;
-    Plan {
-        n: count,
-        run: Length(n),
-        strings,
-    }
 }
 
 // Whether a run to the interval's end misses. N itself may be far longer.
@@ -49,7 +35,7 @@ fn misses_on(p: Plan, o: Opening, l: u32) -> bool
 {
     let rs = listed(p, o, l);
     let end = o.lead + l;
-    let outcome = run::run(with_run(p, end), rs);
+    let outcome = run::run(p.with_run(Length(end)), rs);
     match outcome {
         Outcome::Miss { day: _, place: _ } => true,
         Outcome::Clean {

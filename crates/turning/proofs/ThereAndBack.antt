@@ -1,40 +1,18 @@
--- Old files to new and back (document 02, W-208): what is turned and turned back has the bytes that it had; a new file goes into an old
--- one exactly when its moving costs are one; and a file says the same before and after.
-use Prim.Native.Nat.{ℕ, _+_, _-_, _≤_, _<_}
-use mathlib.Core.Path.{_≡_, sym, ap, _∙_, subst}
-use mathlib.Core.Logic.{_↔_}
-use mathlib.Core.Bool.{true, false, not}
-use mathlib.Core.List.{List, [], _∷_}
-use native.Mathlib.Omega.{arith}
-use borrow.Author.Tests.{eq-eqb, eqb-true, not-false, leb-false, lt-leb}
-use lib.Dec.{leb}
-use lib.ListN.{length, getD}
-use lib.Seq.{length-take-le}
-use Rattle.days.specs.declared.Length.{Length}
-use Rattle.days.specs.Days.{days}
-use Rattle.lists.specs.Count.{All, any}
-use Rattle.lists.proofs.Lists.{all-at, all-by, all-map, by-bool}
-use Rattle.lists.proofs.Least.{leastFrom-none, leastFrom-before}
-use Rattle.faults.specs.declared.Fault.{Fault}
-use Rattle.faults.specs.declared.Fault.the-variants.{FrameWrong, CostsDiffer}
-use Rattle.faults.specs.declared.Checked.the-variants.{Lawful}
+-- Files of version 01 to 02 and back (document 02, W-208): what is turned and turned back has the bytes that it had; a file of version 02
+-- goes into version 01 exactly when its moving costs are one; and a file says the same before and after.
+use Rattle.base.proofs.Prelude.{ℕ, _+_, _-_, _≤_, _<_, _≡_, sym, ap, _∙_, subst, _↔_, true, false, not, List, [], _∷_, arith, eq-eqb, eqb-true, not-false, lt-leb, leb, length, getD, length-take-le}
+use borrow.Author.Tests.{leb-false}
+use Rattle.days.specs.{declared.Length.Length, Days.days}
+use Rattle.base.specs.Count.{All}
+use Rattle.base.proofs.{Lists.{all-at, all-by, all-map, by-bool}, Least.{leastFrom-none, leastFrom-before}}
+use Rattle.faults.specs.{declared.Fault.Fault, declared.Fault.the-variants.{FrameWrong, CostsDiffer}, declared.Checked.the-variants.Lawful}
 use Rattle.faults.proofs.Checks.{refused-not-lawful, refuseIf-not}
-use Rattle.rules.specs.declared.BatteryString.{BatteryString}
-use Rattle.rules.specs.declared.Plan.{Plan}
-use Rattle.rules.specs.Plan.{stringsOf, stringAt, noString}
-use Rattle.rules.specs.Refusal.{runCheck}
-use Rattle.rules.specs.Layout.{Frames, hasField, version01, version02, framesFor}
-use Rattle.rules.specs.Text.{Line, linesOf, framesOf, aIn, planIn, linesCheck, readingIn, readingOf}
-use Rattle.rules.specs.Answer.{answered, answerOf}
+use Rattle.rules.specs.{declared.BatteryString.BatteryString, declared.Plan.Plan, Plan.{stringsOf, stringAt, noString}, Refusal.runCheck, Layout.{Version, hasField, version01, version02, heldTo}, Text.{Line, linesOf, versionOf, aIn, planIn, linesCheck, readingIn, readingOf}, Answer.{answered, answerOf}}
 use Rattle.laws.proofs.Versions.{one-cost, lines-checked, reading-plan}
-use Rattle.writing.specs.declared.Saved.the-variants.{Refused, Text}
-use Rattle.writing.specs.Saved.{noRoom, savedText, costDiffers, firstOther}
-use Rattle.onetext.proofs.ReadLawful.{text-read}
-use Rattle.onetext.proofs.ReadBack.{reading-what-was-written, written-names, alike-new}
-use Rattle.onetext.proofs.WriteBack.{writing-what-was-read}
-use Rattle.onetext.proofs.OldAsNew.{read-blank, run-is, ten, thousand}
-use Rattle.onetext.specs.OneText.{OneCost}
-use Rattle.turning.specs.Turned.{lineOf, alikeCheck, turnedText, turnCheck, turnedAnswer}
+use Rattle.writing.specs.{declared.Saved.the-variants.{Refused, Text}, Saved.{noRoom, costDiffers, firstOther, alikeCheck, savedText}}
+use Rattle.roundtrip.proofs.{ReadLawful.text-read, ReadBack.{reading-what-was-written, written-names, alike-02}, WriteBack.writing-what-was-read, As02.{read-trimmed, run-is, ten-places, thousand}}
+use Rattle.roundtrip.specs.OneText.{OneCost}
+use Rattle.turning.specs.Turned.{lineOf, turnedText, turnCheck, turnedAnswer}
 
 refused-not-text : (f : Fault) (at len : ℕ) → Refused f at ≡ Text len → ⊥
 refused-not-text f at len h =
@@ -66,23 +44,23 @@ module _ (p : Plan) (many : length (stringsOf p) ≡ p .n) where
 
 -- ---- A lawful text
 
-module _ (v : Frames) (text : List ℕ) (h : readingIn v text .checked ≡ Lawful) where
+module _ (v : Version) (text : List ℕ) (h : readingIn v text .checked ≡ Lawful) where
   abbrev said : Plan
   said = readingIn v text .plan
 
   many : length (stringsOf said) ≡ said .n
-  many = length-take-le (said .n) (said .strings) (omega (arith, ten v text h, run-is v text h .plan .nMax))
+  many = length-take-le (said .n) (said .strings) (omega (arith, ten-places v text h, run-is v text h .plan .nMax))
 
   savable : (length (said .strings) ≡ 10) × (length (readingIn v text .releases .list) ≡ 1000)
       × (runCheck said (readingIn v text .releases) ≡ Lawful)
-  savable = (ten v text h, thousand v text h, text-read v text h)
+  savable = (ten-places v text h, thousand v text h, text-read v text h)
 
 -- a text that is lawful in a version names it
-names : (k : ℕ) (text : List ℕ) → readingIn (framesFor k) text .checked ≡ Lawful → readingOf text ≡ readingIn (framesFor k) text
+names : (k : ℕ) (text : List ℕ) → readingIn (heldTo k) text .checked ≡ Lawful → readingOf text ≡ readingIn (heldTo k) text
 unfolding readingOf
 names k text h =
-    let v = framesFor k in
-    let written = ap (λ t. framesOf (linesOf t)) (sym (writing-what-was-read k text h)) in
+    let v = heldTo k in
+    let written = ap (λ t. versionOf (linesOf t)) (sym (writing-what-was-read k text h)) in
     let named = written ∙ written-names k (readingIn v text .plan) (readingIn v text .releases) (savable v text h) in
     ap (λ w. readingIn w text) named
 
@@ -90,7 +68,7 @@ same-answer : (text other : List ℕ) → readingOf text ≡ readingOf other →
 unfolding answerOf
 same-answer text other same = ap (λ r. answered (r .checked) r) same
 
--- the strings of an old file have the cost that its header says
+-- the strings of a version 01 file have the cost that its header says
 lines-one : (lines : List Line) → linesCheck version01 lines ≡ Lawful → 0 < length (stringsOf (planIn version01 lines))
     → OneCost (planIn version01 lines)
 unfolding linesCheck
@@ -98,104 +76,104 @@ lines-one [] h some = absurd (refused-not-lawful FrameWrong 1 h)
 lines-one (header ∷ lines) h some =
     let p = planIn version01 (header ∷ lines) in
     let Cost : BatteryString → Type 0 = λ s. s .a ≡ days (aIn version01 header) in
-    let all : All Cost (stringsOf p) = one-cost header lines h in
+    let all : All Cost (stringsOf p) = one-cost version01 header lines (omega arith) h in
     let first = all-at Cost (stringsOf p) noString all 0 some in
     all-map Cost (λ s. s .a ≡ stringAt p 1 .a) (λ s is. is ∙ sym first) (stringsOf p) all
 
--- ---- From old to new
+-- ---- From 01 to 02
 
 module _ (text : List ℕ) (h : readingIn version01 text .checked ≡ Lawful) where
-  abbrev new : List ℕ
-  new = turnedText version01 version02 text
+  abbrev in-02 : List ℕ
+  in-02 = turnedText version01 version02 text
 
-  pub new-reads : readingIn version02 new ≡ readingIn version01 text
-  unfolding turnedText framesFor
-  new-reads =
+  pub reads-02 : readingIn version02 in-02 ≡ readingIn version01 text
+  unfolding turnedText heldTo
+  reads-02 =
       reading-what-was-written 2 (said version01 text h) (readingIn version01 text .releases) (savable version01 text h)
-      (alike-new (said version01 text h))
-      ∙ read-blank version01 text h
+      (alike-02 (said version01 text h))
+      ∙ read-trimmed version01 text h
 
-  new-lawful : readingIn version02 new .checked ≡ Lawful
-  new-lawful = ap (λ r. r .checked) new-reads ∙ h
+  lawful-02 : readingIn version02 in-02 .checked ≡ Lawful
+  lawful-02 = ap (λ r. r .checked) reads-02 ∙ h
 
-  -- the old bytes come back
-  pub old-new-old : turnedText version02 version01 new ≡ text
-  unfolding turnedText framesFor
-  old-new-old = ap (λ r. savedText version01 (r .plan) (r .releases)) new-reads ∙ writing-what-was-read 1 text h
+  -- the version 01 bytes come back
+  pub back-to-01 : turnedText version02 version01 in-02 ≡ text
+  unfolding turnedText heldTo
+  back-to-01 = ap (λ r. savedText version01 (r .plan) (r .releases)) reads-02 ∙ writing-what-was-read 1 text h
 
   -- and nothing stands in their way: the moving costs are one
-  pub old-one-cost : OneCost (readingIn version02 new .plan)
-  old-one-cost =
+  pub one-cost-01 : OneCost (readingIn version02 in-02 .plan)
+  one-cost-01 =
       let plan = reading-plan version01 text h in
       let some : 0 < length (stringsOf (said version01 text h)) =
       omega (arith, many version01 text h, run-is version01 text h .plan .nPos) in
       let lines = lines-one (linesOf text) (lines-checked version01 text h) (subst (λ p. 0 < length (stringsOf p)) plan some) in
-      subst OneCost (sym (ap (λ r. r .plan) new-reads ∙ plan)) lines
+      subst OneCost (sym (ap (λ r. r .plan) reads-02 ∙ plan)) lines
 
   -- verdict, search and run are the same before and after
-  pub same-turned-new : answerOf new ≡ answerOf text
-  unfolding framesFor
-  same-turned-new = same-answer new text (names 2 new new-lawful ∙ new-reads ∙ sym (names 1 text h))
+  pub same-turned-02 : answerOf in-02 ≡ answerOf text
+  unfolding heldTo
+  same-turned-02 = same-answer in-02 text (names 2 in-02 lawful-02 ∙ reads-02 ∙ sym (names 1 text h))
 
--- ---- From new to old
+-- ---- From 02 to 01
 
 module _ (text : List ℕ) (h : readingIn version02 text .checked ≡ Lawful) where
-  abbrev old : List ℕ
-  old = turnedText version02 version01 text
+  abbrev in-01 : List ℕ
+  in-01 = turnedText version02 version01 text
 
   abbrev plan : Plan
   plan = readingIn version02 text .plan
 
   differs : (page : List ℕ) (at : ℕ) → leb (firstOther plan) (plan .n) ≡ true
       → turnedAnswer version02 version01 text page at ≡ Refused CostsDiffer (lineOf (firstOther plan))
-  unfolding turnedAnswer turnCheck alikeCheck hasField any
+  unfolding turnedAnswer turnCheck alikeCheck hasField
   differs page at other = rw (h, other)
 
-  alike : (page : List ℕ) (at : ℕ) → leb (firstOther plan) (plan .n) ≡ false → noRoom page at old ≡ false
-      → turnedAnswer version02 version01 text page at ≡ Text (length old)
-  unfolding turnedAnswer turnCheck alikeCheck hasField any
+  alike : (page : List ℕ) (at : ℕ) → leb (firstOther plan) (plan .n) ≡ false → noRoom page at in-01 ≡ false
+      → turnedAnswer version02 version01 text page at ≡ Text (length in-01)
+  unfolding turnedAnswer turnCheck alikeCheck hasField
   alike page at none fits = rw (h, none, fits)
 
-  pub alike-one : alikeCheck version01 plan ≡ Lawful → OneCost plan
-  unfolding alikeCheck hasField any
-  alike-one fine =
-      let none = refuseIf-not (leb (firstOther plan) (plan .n)) CostsDiffer (lineOf (firstOther plan)) fine in
+  pub alike-one : (line : ℕ) → alikeCheck version01 line plan ≡ Lawful → OneCost plan
+  unfolding alikeCheck hasField
+  alike-one line fine =
+      let none = refuseIf-not (leb (firstOther plan) (plan .n)) CostsDiffer line fine in
       oneCost-of-none plan (many version02 text h) (leb-false (firstOther plan) (plan .n) none)
 
   -- where there is room it works exactly when the moving costs are one
-  pub new-to-old-exactly : (page : List ℕ) (at : ℕ) → noRoom page at old ≡ false
-      → (turnedAnswer version02 version01 text page at ≡ Text (length old)) ↔ OneCost plan
-  new-to-old-exactly page at fits = (
+  pub to-01-exactly : (page : List ℕ) (at : ℕ) → noRoom page at in-01 ≡ false
+      → (turnedAnswer version02 version01 text page at ≡ Text (length in-01)) ↔ OneCost plan
+  to-01-exactly page at fits = (
     λ works.
         by-bool (leb (firstOther plan) (plan .n))
-        (λ other. absurd (refused-not-text CostsDiffer (lineOf (firstOther plan)) (length old) (sym (differs page at other) ∙ works)))
+        (λ other. absurd (refused-not-text CostsDiffer (lineOf (firstOther plan)) (length in-01) (sym (differs page at other) ∙ works)))
         (λ none. oneCost-of-none plan (many version02 text h) (leb-false (firstOther plan) (plan .n) none)),
     λ one. alike page at (lt-leb (firstOther plan) (plan .n) (none-of-oneCost plan (many version02 text h) one)) fits,
   )
 
   -- and else it is 12, whatever the room, with the line of the first string that differs
-  pub new-to-old-differs : (page : List ℕ) (at : ℕ) → (OneCost plan → ⊥)
+  pub to-01-differs : (page : List ℕ) (at : ℕ) → (OneCost plan → ⊥)
       → turnedAnswer version02 version01 text page at ≡ Refused CostsDiffer (lineOf (firstOther plan))
-  new-to-old-differs page at not-one =
+  to-01-differs page at not-one =
       by-bool (leb (firstOther plan) (plan .n))
       (λ other. differs page at other)
       (λ none. absurd (not-one (oneCost-of-none plan (many version02 text h) (leb-false (firstOther plan) (plan .n) none))))
 
   module _ (one : OneCost plan) where
-    pub old-reads : readingIn version01 old ≡ readingIn version02 text
-    unfolding turnedText framesFor
-    old-reads =
+    reads-01 : readingIn version01 in-01 ≡ readingIn version02 text
+    unfolding turnedText heldTo
+    reads-01 =
         reading-what-was-written 1 plan (readingIn version02 text .releases) (savable version02 text h) (λ moving. one)
-        ∙ read-blank version02 text h
+        ∙ read-trimmed version02 text h
 
-    -- the new bytes come back
-    pub new-old-new : turnedText version01 version02 old ≡ text
-    unfolding turnedText framesFor
-    new-old-new = ap (λ r. savedText version02 (r .plan) (r .releases)) old-reads ∙ writing-what-was-read 2 text h
+    -- the version 02 bytes come back
+    pub back-to-02 : turnedText version01 version02 in-01 ≡ text
+    unfolding turnedText heldTo
+    back-to-02 = ap (λ r. savedText version02 (r .plan) (r .releases)) reads-01 ∙ writing-what-was-read 2 text h
 
     -- verdict, search and run are the same before and after
-    pub same-turned-old : answerOf old ≡ answerOf text
-    unfolding framesFor
-    same-turned-old =
-        let lawful : readingIn version01 old .checked ≡ Lawful = ap (λ r. r .checked) old-reads ∙ h in
-        same-answer old text (names 1 old lawful ∙ old-reads ∙ sym (names 2 text h))
+    pub same-turned-01 : answerOf in-01 ≡ answerOf text
+    unfolding heldTo
+    same-turned-01 =
+        let lawful : readingIn version01 in-01 .checked ≡ Lawful = ap (λ r. r .checked) reads-01 ∙ h in
+        same-answer in-01 text (names 1 in-01 lawful ∙ reads-01 ∙ sym (names 2 text h))

@@ -1,23 +1,11 @@
 -- Laws of what the strings with one permission ask: the demand is the sum of two such parts, and each fits the code's word.
-use Prim.Native.Nat.{ℕ, _+_, _-_, _*_, _≤_}
-use mathlib.Core.Path.{_≡_, ap, _∙_}
-use mathlib.Core.List.{List, [], _∷_}
-use native.Mathlib.Omega.{arith}
-use native.Mathlib.Decide.{decLe, ℕ-discrete}
-use native.Mathlib.Nat.{mul-le-mul, le-refl, zero-mul, mul-suc, div-le-self}
-use borrow.Author.Tests.{eq-eqb, ne-eqb}
-use lib.ListN.{length, length-take}
-use Rattle.rules.specs.declared.BatteryString.{BatteryString}
-use Rattle.rules.specs.declared.Plan.{Plan}
-use Rattle.lists.specs.Count.{sumOf}
-use Rattle.rules.specs.Plan.{stringsOf}
-use Rattle.rules.specs.Demand.{movingCost, holdOf, jobs, need, demand}
-use Rattle.lists.proofs.Lists.{All, all-map, sumOf-le, sumOf-eq, sumOf-add}
-use Rattle.laws.proofs.Jobs.{jobs-short, jobs-from, jobs-zero, jobs-mono}
-use Rattle.laws.proofs.Lawful.{LawfulString, LawfulPlan, PlanString, plan-strings}
-use Rattle.lists.proofs.Order.{sumOf-zero}
-use Rattle.laws.proofs.Demand.{holdOf-le, holdOf-other, need-taker, need-keeper}
-use Rattle.verdict.specs.Asked.{askedOf, askedBy}
+use Rattle.base.proofs.Prelude.{ℕ, _+_, _-_, _*_, _≤_, _≡_, ap, _∙_, List, [], _∷_, arith, decLe, ℕ-discrete, mul-le-mul, le-refl, zero-mul, eq-eqb, ne-eqb, length, length-take}
+use native.Mathlib.Nat.{mul-suc, div-le-self}
+use Rattle.rules.specs.{declared.BatteryString.BatteryString, declared.Plan.Plan, Plan.stringsOf, Demand.{movingCost, holdOf, jobs, need, demand}}
+use Rattle.base.specs.Count.{sumOf}
+use Rattle.base.proofs.{Lists.{All, all-map, sumOf-le, sumOf-eq, sumOf-add}, Order.sumOf-zero}
+use Rattle.laws.proofs.{Jobs.{jobs-short, jobs-from, jobs-zero, jobs-mono}, Lawful.{LawfulString, LawfulPlan, PlanString, plan-strings}, Demand.{holdOf-le, holdOf-other, need-taker, need-keeper}}
+use Rattle.verdict.specs.inner.Asked.{askedOf, askedBy}
 
 -- ---- Bounds
 

@@ -1,21 +1,8 @@
 -- Laws of the blocking limit and of the load, as the code meets them.
-use Prim.Native.Nat.{ℕ, _*_, _/_, _≤_, _<_}
-use mathlib.Core.Path.{_≡_}
-use native.Mathlib.Omega.{arith}
-use native.Mathlib.Decide.{decLe}
-use native.Mathlib.Nat.{mul-le-mul, div-le-self}
-use borrow.Author.Tests.{lt-leb}
-use Rattle.rules.specs.declared.BatteryString.{BatteryString}
-use Rattle.rules.specs.declared.Plan.{Plan}
-use Rattle.rules.specs.Plan.{dMin, dMax}
-use Rattle.rules.specs.Demand.{holdOf, blockLimit}
-use Rattle.laws.proofs.Lawful.{LawfulPlan, PlanString, dMax-le}
-use Rattle.laws.proofs.Demand.{holdOf-le, blockLimit-late, blockLimit-interval}
-
--- before the smallest D nothing blocks
-pub blockLimit-early : (p : Plan) (l : ℕ) → l < dMin p → blockLimit p l ≡ 0
-unfolding blockLimit
-blockLimit-early p l h = rw (lt-leb (dMin p) l h)
+use Rattle.base.proofs.Prelude.{ℕ, _*_, _/_, _≤_, arith, decLe, mul-le-mul}
+use native.Mathlib.Nat.{div-le-self}
+use Rattle.rules.specs.{declared.BatteryString.BatteryString, declared.Plan.Plan, Plan.dMax, Demand.{holdOf, blockLimit}}
+use Rattle.laws.proofs.{Lawful.{LawfulPlan, PlanString, dMax-le}, Demand.{holdOf-le, blockLimit-late, blockLimit-interval}}
 
 -- only intervals shorter than the largest D are blocked, and no blocking is longer than its interval
 pub blockLimit-short : (p : Plan) (l : ℕ) → LawfulPlan p → blockLimit p l ≤ 1000

@@ -1,23 +1,14 @@
 -- The pair at which a scan ends is the first broken one of its pairs, and of all pairs where it goes over those at which a count grows.
-use Prim.Native.Nat.{ℕ, _+_}
-use mathlib.Core.Path.{_≡_, refl, sym, ap, _∙_, subst}
-use mathlib.Core.List.{[], _∷_}
-use mathlib.Core.Option.{Option, none, some}
+use Rattle.base.proofs.Prelude.{ℕ, _+_, _≡_, refl, sym, ap, _∙_, subst, [], _∷_, Option, none, some, length}
 use denote.Enum.Declared.{tagOf}
-use types.Run.{OneOf, miss}
-use lib.ListN.{length}
 use Rattle.days.specs.declared.Length.{Length}
-use Rattle.rules.specs.declared.Plan.{Plan}
-use Rattle.rules.specs.declared.Verdict.{Verdict}
-use Rattle.rules.specs.declared.Verdict.the-variants.{Fail}
-use Rattle.rules.specs.declared.Broken.the-variants.{Nowhere, At}
+use Rattle.rules.specs.{declared.Plan.Plan, declared.Verdict.Verdict, declared.Verdict.the-variants.Fail, declared.Broken.the-variants.{Nowhere, At}, Verdict.{Pair, allPairs, firstBroken, brokenAt, compared, judged}}
 use Rattle.rules.proofs.Verdict.{the-type}
-use Rattle.rules.specs.Verdict.{Pair, allPairs, firstBroken, brokenAt, compared, judged}
 use Rattle.laws.proofs.Lawful.{LawfulPlan}
-use Rattle.horizon.proofs.Pairs.{scanFrom}
-use Rattle.horizon.proofs.Verdict.{judged-fail}
-use Rattle.growth.specs.Quick.{quickPairs}
-use Rattle.growth.proofs.Agreeing.{same-break}
+use Rattle.demand.proofs.{Pairs.scanFrom, Verdict.judged-fail}
+use Rattle.demand.specs.Quick.{quickPairs}
+use Rattle.demand.proofs.Agreeing.{same-break}
+use types.Run.{OneOf, miss}
 
 -- what is judged and is no fail has no broken pair
 none-broken : (p : Plan) (first : Option Pair) (k : ℕ) (v : Verdict) → judged p first k ≡ v

@@ -1,19 +1,10 @@
 -- E by place, string after string: the array holds E of the strings passed, and zeros behind them.
 --     holdsTo p i           the same where the first i strings are passed
-use Prim.Native.Nat.{ℕ, _+_, _≤_, _<_}
-use mathlib.Core.Path.{_≡_, sym, ap, _∙_}
-use mathlib.Core.List.{List, [], _∷_, _++_, map, map-append}
-use native.Mathlib.Omega.{arith}
-use native.Mathlib.Numerals.{add-one}
-use lib.ListN.{length, take, getD, set, length-map, length-take}
-use lib.Seq.{take-suc, take-all, length-take-le, getD-take}
-use Rattle.lists.specs.Count.{filled}
-use Rattle.lists.proofs.Filling.{filled-set}
-use Rattle.rules.specs.declared.Plan.{Plan}
-use Rattle.rules.specs.Plan.{stringsOf, noString}
-use Rattle.rules.specs.Demand.{holdOf}
-use Rattle.rules.specs.Figures.{holdsOf}
-use Rattle.verdict.specs.Asked.{Ready}
+use Rattle.base.proofs.Prelude.{ℕ, _+_, _≤_, _<_, _≡_, sym, ap, _∙_, List, [], _∷_, _++_, map, map-append, arith, add-one, length, take, getD, set, length-map, length-take, take-suc, take-all, length-take-le, getD-take}
+use Rattle.base.specs.Count.{filled}
+use Rattle.base.proofs.Filling.{filled-set}
+use Rattle.rules.specs.{declared.Plan.Plan, Plan.{stringsOf, noString}, Demand.holdOf, Figures.holdsOf}
+use Rattle.verdict.specs.inner.Asked.{Ready}
 use Rattle.verdict.proofs.StringSums.{strings-count}
 
 abbrev pub holdsTo : Plan → ℕ → List ℕ

@@ -1,19 +1,11 @@
 -- The pairs of the verdict that pass a test f, as a walk over rows meets them: those that do not are passed by, in a row and over whole
 -- rows.
-use Prim.Native.Nat.{ℕ, zero, suc, _+_, _-_, _≤_, _<_}
-use mathlib.Core.Path.{_≡_, sym, ap, _∙_}
-use mathlib.Core.Bool.{Bool, true, false}
-use mathlib.Core.List.{[], _∷_, _++_}
-use native.Mathlib.Omega.{arith}
-use native.Mathlib.Decide.{decLe}
-use native.Mathlib.Numerals.{add-one}
+use Rattle.base.proofs.Prelude.{ℕ, zero, suc, _+_, _-_, _≤_, _<_, _≡_, sym, ap, _∙_, Bool, true, false, [], _∷_, _++_, arith, decLe, add-one}
 use native.Mathlib.Nat.{add-zero}
-use Rattle.rules.specs.declared.Plan.{Plan}
-use Rattle.lists.specs.Count.{keep}
-use Rattle.rules.specs.Demand.{blockLimit}
-use Rattle.rules.specs.Verdict.{Pair, pairsAt}
-use Rattle.lists.proofs.Order.{keep-yes, keep-no, keep-append}
-use Rattle.horizon.proofs.Pairs.{pair, rowFrom, rows, rows-step, rowFrom-all, rowFrom-step, rowFrom-end}
+use Rattle.rules.specs.{declared.Plan.Plan, Demand.blockLimit, Verdict.{Pair, pairsAt}}
+use Rattle.base.specs.Count.{keep}
+use Rattle.base.proofs.Order.{keep-yes, keep-no, keep-append}
+use Rattle.demand.proofs.Pairs.{pair, rowFrom, rows, rows-step, rowFrom-all, rowFrom-step, rowFrom-end}
 
 module _ (p : Plan) (f : Pair → Bool) where
   -- ---- In a row

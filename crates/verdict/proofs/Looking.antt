@@ -1,32 +1,17 @@
 -- Which pairs the quick verdict looks at, as the code finds them: where the keepers ask for more than a day before, or the takers in the
 -- days that a blocking leaves them; and what a look at a pair does to the walk.
 --     Next p l left b       of the blockings that leave the takers less than `left` of l days, b is the first at which a count grows
-use Prim.Native.Nat.{ℕ, _+_, _-_, _≤_, _<_}
-use mathlib.Core.Path.{_≡_, sym, ap, _∙_}
-use mathlib.Core.Bool.{true, false, cond}
-use mathlib.Core.List.{List, _++_}
-use native.Mathlib.Omega.{arith}
-use native.Mathlib.Decide.{decLe, ℕ-discrete}
-use borrow.Author.Tests.{lt-ltb, le-ltb}
-use lib.Dec.{ltb}
-use lib.ListN.{length, set}
+use Rattle.base.proofs.Prelude.{ℕ, _+_, _-_, _≤_, _<_, _≡_, sym, ap, _∙_, true, false, cond, List, _++_, arith, decLe, ℕ-discrete, lt-ltb, le-ltb, ltb, length, set}
 use Rattle.days.specs.Days.{days}
-use Rattle.rules.specs.declared.Plan.{Plan}
-use Rattle.rules.specs.declared.Verdict.the-variants.{Fail}
-use Rattle.lists.specs.Count.{keep}
-use Rattle.rules.specs.Plan.{dMin}
-use Rattle.rules.specs.Demand.{blockLimit, demand}
-use Rattle.rules.specs.Verdict.{Pair}
-use Rattle.lists.proofs.Filling.{below-set}
+use Rattle.rules.specs.{declared.Plan.Plan, declared.Verdict.the-variants.Fail, Plan.dMin, Demand.{blockLimit, demand}, Verdict.Pair}
+use Rattle.base.specs.Count.{keep}
+use Rattle.base.proofs.Filling.{below-set}
 use Rattle.laws.proofs.Lawful.{LawfulPlan}
-use Rattle.horizon.proofs.Pairs.{pair, rowFrom, scanFrom, scanFrom-good, scanFrom-bad, broken-yes, broken-no}
-use Rattle.growth.specs.Quick.{grows}
-use Rattle.growth.proofs.Rising.{grows-yes, grows-no}
-use Rattle.verdict.specs.Asked.{askedBy}
-use Rattle.verdict.specs.Steps.{Mark, Looked}
-use Rattle.verdict.proofs.Asked.{demand-parts, askedBy-mono}
-use Rattle.verdict.proofs.Stepping.{asked-early}
-use Rattle.verdict.proofs.KeptRows.{kept-here, kept-past}
+use Rattle.demand.proofs.Pairs.{pair, rowFrom, scanFrom, scanFrom-good, scanFrom-bad, broken-yes, broken-no}
+use Rattle.demand.specs.Quick.{grows}
+use Rattle.demand.proofs.Rising.{grows-yes, grows-no}
+use Rattle.verdict.specs.{inner.Asked.askedBy, inner.Steps.{Mark, Looked}}
+use Rattle.verdict.proofs.{Asked.{demand-parts, askedBy-mono}, Stepping.asked-early, KeptRows.{kept-here, kept-past}}
 
 -- ---- Which pairs
 
@@ -36,12 +21,12 @@ module _ (p : Plan) (ok : LawfulPlan p) (l b : ℕ) (pos : 1 ≤ l) where
       let days-left : l - 1 - b ≡ l - b - 1 = omega arith in
       demand-parts p (l - 1) b ok ∙ ap (λ w. b + askedBy p 0 (l - 1) + askedBy p 1 w) days-left
 
-  pub keepers-rise : askedBy p 0 (l - 1) < askedBy p 0 l → grows p (pair l b) ≡ true
+  keepers-rise : askedBy p 0 (l - 1) < askedBy p 0 l → grows p (pair l b) ≡ true
   keepers-rise more =
       let takers = askedBy-mono p 1 (l - b - 1) (l - b) ok (omega arith) in
       grows-yes p (ok .each) l b pos (omega (arith, before, demand-parts p l b ok))
 
-  pub takers-rise : askedBy p 1 (l - b - 1) < askedBy p 1 (l - b) → grows p (pair l b) ≡ true
+  takers-rise : askedBy p 1 (l - b - 1) < askedBy p 1 (l - b) → grows p (pair l b) ≡ true
   takers-rise more =
       let keepers = askedBy-mono p 0 (l - 1) l ok (omega arith) in
       grows-yes p (ok .each) l b pos (omega (arith, before, demand-parts p l b ok))

@@ -1,39 +1,18 @@
 -- From the largest D on nothing blocks, and the walk goes from step to step: at a step a count grows, and between two steps none does.
-use Prim.Native.Nat.{ℕ, _+_, _-_, _≤_, _<_}
-use mathlib.Core.Path.{_≡_, refl, sym, ap, _∙_}
-use mathlib.Core.Bool.{true, false}
-use mathlib.Core.List.{List, [], _∷_, _++_}
-use native.Mathlib.Omega.{arith}
-use native.Mathlib.Decide.{ℕ-discrete}
-use borrow.Author.Tests.{lt-ltb}
+use Rattle.base.proofs.Prelude.{ℕ, _+_, _-_, _≤_, _<_, _≡_, refl, sym, ap, _∙_, true, false, List, [], _∷_, _++_, arith, ℕ-discrete, lt-ltb, ltb, length, getD}
 use denote.Enum.Declared.{tagOf}
-use types.Run.{OneOf, miss}
-use lib.Dec.{ltb}
-use lib.ListN.{length, getD}
 use Rattle.days.specs.Days.{days}
-use Rattle.rules.specs.declared.BatteryString.{BatteryString}
-use Rattle.rules.specs.declared.Plan.{Plan}
-use Rattle.rules.specs.declared.Verdict.{Verdict}
-use Rattle.rules.specs.declared.Verdict.the-variants.{Refused, Overload, Fail, Pass}
+use Rattle.rules.specs.{declared.BatteryString.BatteryString, declared.Plan.Plan, declared.Verdict.Verdict, declared.Verdict.the-variants.{Refused, Overload, Fail, Pass}, Plan.{stringsOf, noString, dMin, dMax}, Demand.{jobs, blockLimit, demand}, Verdict.Pair}
 use Rattle.rules.proofs.Verdict.{the-type}
-use Rattle.lists.specs.Count.{keep, smallestWith}
-use Rattle.rules.specs.Plan.{stringsOf, noString, dMin, dMax}
-use Rattle.rules.specs.Demand.{jobs, blockLimit, demand}
-use Rattle.rules.specs.Verdict.{Pair}
-use Rattle.lists.proofs.Lists.{all-map, all-at, any-at, largest-ge, largest-some, smallestWith-some, smallest-above, smallest-le}
-use Rattle.laws.proofs.Jobs.{jobs-short, jobs-first}
-use Rattle.laws.proofs.Lawful.{LawfulString, LawfulPlan}
-use Rattle.laws.proofs.Demand.{blockLimit-late}
-use Rattle.horizon.proofs.Pairs.{pair, rowFrom, rows, rows-end, scanFrom, scanFrom-end}
-use Rattle.growth.specs.Quick.{countAt, grows}
-use Rattle.growth.proofs.Counts.{countAt-taker, countAt-keeper}
-use Rattle.verdict.specs.Asked.{Ready, askedBy}
-use Rattle.verdict.specs.Steps.{stepAfter, Due, onward}
-use Rattle.verdict.proofs.Asked.{demand-parts}
-use Rattle.verdict.proofs.StringSums.{strings-count}
-use Rattle.verdict.proofs.Stepping.{step-jobs, step-jobs-more, soonest, soonest-past, soonest-within, soonest-asked, soonest-due}
-use Rattle.verdict.proofs.KeptRows.{kept-row, kept-rows}
-use Rattle.verdict.proofs.Looking.{none-rises, look-good, look-bad, look-end}
+use Rattle.base.specs.Count.{keep, smallestWith}
+use Rattle.base.proofs.Lists.{all-map, all-at, any-at, largest-ge, largest-some, smallestWith-some, smallest-above, smallest-le}
+use Rattle.laws.proofs.{Jobs.{jobs-short, jobs-first}, Lawful.{LawfulString, LawfulPlan}, Demand.blockLimit-late}
+use Rattle.demand.proofs.Pairs.{pair, rowFrom, rows, rows-end, scanFrom, scanFrom-end}
+use Rattle.demand.specs.Quick.{countAt, grows}
+use Rattle.demand.proofs.Counts.{countAt-taker, countAt-keeper}
+use Rattle.verdict.specs.{inner.Asked.{Ready, askedBy}, inner.Steps.{stepAfter, Due, onward}}
+use Rattle.verdict.proofs.{Asked.demand-parts, StringSums.strings-count, Stepping.{step-jobs, step-jobs-more, soonest, soonest-past, soonest-within, soonest-asked, soonest-due}, KeptRows.{kept-row, kept-rows}, Looking.{none-rises, look-good, look-bad, look-end}}
+use types.Run.{OneOf, miss}
 
 -- what has ended is not changed by what is left
 pub onward-ended : (p : Plan) (v : Verdict) (qs : List Pair) → OneOf (0 ∷ (1 ∷ (2 ∷ []))) (tagOf the-type v) → onward p v qs ≡ v
@@ -99,7 +78,7 @@ module _ (p : Plan) (ready : Ready p) where
       (omega (arith, jobs-short s (dMax p - 1) above, jobs-first s (dMax p) (dMax-over (found .0) (found .1))))
 
   -- and so is the soonest step of all
-  pub soonest-grows : (l end : ℕ) → l < end → soonest p ready l end < end → grows p (pair (soonest p ready l end) 0) ≡ true
+  soonest-grows : (l end : ℕ) → l < end → soonest p ready l end < end → grows p (pair (soonest p ready l end) 0) ≡ true
   soonest-grows l end h before =
       let m = soonest p ready l end in
       let found = smallestWith-some (stepAfter l) end (stringsOf p) noString before in
@@ -111,7 +90,7 @@ module _ (p : Plan) (ready : Ready p) where
       (omega (arith, step-jobs-more s lawful l m here, step-jobs s lawful l (m - 1) (omega arith) (omega arith)))
 
   -- between two steps none grows
-  pub soonest-still : (l end w : ℕ) → l < w → w < soonest p ready l end → grows p (pair w 0) ≡ false
+  soonest-still : (l end w : ℕ) → l < w → w < soonest p ready l end → grows p (pair w 0) ≡ false
   soonest-still l end w low high =
       let days-left : w - 0 ≡ w = omega arith in
       let takers : askedBy p 1 w ≡ askedBy p 1 (w - 1) =

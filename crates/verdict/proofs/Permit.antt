@@ -1,19 +1,11 @@
 -- Laws of a plan with a set, as a loop over the ten strings makes it: those done, and those left with what is left of the number.
-use Prim.Native.Nat.{ℕ, suc, _+_, _/_, _%_, _≤_, _<_}
-use mathlib.Core.Path.{_≡_, refl, sym, ap, _∙_}
-use mathlib.Core.List.{List, [], _∷_, _++_, append-assoc, append-nil}
-use native.Mathlib.Omega.{arith}
-use native.Mathlib.Numerals.{add-one}
-use lib.ListN.{length, take, drop, getD, set, drop-of-length-le}
-use lib.Seq.{drop-cons, drop-drop, drop-set-lt, take-suc-set, take-all}
-use Rattle.rules.specs.declared.BatteryString.{BatteryString}
-use Rattle.rules.specs.declared.Plan.{Plan}
-use Rattle.rules.specs.Plan.{noString}
-use Rattle.rules.specs.Search.{permit, withSet}
-use Rattle.horizon.proofs.Sets.{permitted, withSet-lawful}
-use Rattle.verdict.specs.Asked.{Ready}
+use Rattle.base.proofs.Prelude.{ℕ, suc, _+_, _/_, _%_, _≤_, _<_, _≡_, refl, sym, ap, _∙_, List, [], _∷_, _++_, append-assoc, append-nil, arith, add-one, length, take, drop, getD, set, drop-of-length-le, drop-cons, drop-drop, take-all}
+use lib.Seq.{drop-set-lt, take-suc-set}
+use Rattle.rules.specs.{declared.BatteryString.BatteryString, declared.Plan.Plan, Plan.noString, Search.{permit, withSet}}
+use Rattle.demand.proofs.Sets.{permitted, withSet-lawful}
+use Rattle.verdict.specs.inner.Asked.{Ready}
 
-pub permit-length : (m : ℕ) (ss : List BatteryString) → length (permit m ss) ≡ length ss
+permit-length : (m : ℕ) (ss : List BatteryString) → length (permit m ss) ≡ length ss
 unfolding permit
 permit-length m [] = refl
 permit-length m (s ∷ ss) = ap suc (permit-length (m / 2) ss)
@@ -31,21 +23,21 @@ unfolding permit
 permit-none m = refl
 
 -- those after the next are still as they were
-pub left-next :
+pub unpermitted-next :
     (all now : List BatteryString) (i : ℕ) (v : BatteryString) → drop i now ≡ drop i all
     → drop (i + 1) (set now i v) ≡ drop (i + 1) all
-left-next all now i v same =
+unpermitted-next all now i v same =
     let past : i < i + 1 = omega arith in
     drop-set-lt (i + 1) now i v past ∙ sym (drop-drop 1 i now) ∙ ap (drop 1) same ∙ drop-drop 1 i all
 
 -- one more string has its permission
-pub done-next :
+pub permitted-next :
     (all now : List BatteryString) (rest i : ℕ) (v : BatteryString)
     → i < length now → i < length all
     → drop i now ≡ drop i all
     → v ≡ permitted (getD now i noString) (rest % 2)
     → take (i + 1) (set now i v) ++ permit (rest / 2) (drop (i + 1) all) ≡ take i now ++ permit rest (drop i all)
-done-next all now rest i v inside within same e =
+permitted-next all now rest i v inside within same e =
     let after : drop (suc i) now ≡ drop (suc i) all =
     ap (λ k. drop k now) (sym (add-one i)) ∙ sym (drop-drop 1 i now) ∙ ap (drop 1) same ∙ drop-drop 1 i all
     ∙ ap (λ k. drop k all) (add-one i) in

@@ -1,11 +1,9 @@
 -- When the loops of this crate may start.
-use mathlib.Core.Path.{_≡_}
-use lib.ListN.{length}
-use Rattle.rules.specs.declared.Plan.{Plan}
+use Rattle.base.proofs.Prelude.{_≡_, length}
+use Rattle.rules.specs.{declared.Plan.Plan, Refusal.planCheck}
 use Rattle.faults.specs.declared.Checked.the-variants.{Lawful}
-use Rattle.rules.specs.Refusal.{planCheck}
 use Rattle.laws.proofs.Lawful.{planCheck-lawful}
-use Rattle.verdict.specs.Asked.{Ready}
+use Rattle.verdict.specs.inner.Asked.{Ready}
 
 -- a plan that the check finds lawful is ready
 pub ready-plan : (p : Plan) → planCheck p ≡ Lawful → length (p .strings) ≡ 10 → Ready p

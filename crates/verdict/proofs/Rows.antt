@@ -2,20 +2,12 @@
 --     Latest p l takers     takers holds, at its remainder by 1,024, what the takers ask within w days, for the latest w before l
 --     Row p l top keepers takers
 --                           in the row of l: its blocking limit, what the keepers ask, what the takers ask within l days and fewer
-use Prim.Native.Nat.{ℕ, _+_, _-_, _%_, _≤_, _<_}
-use mathlib.Core.Path.{_≡_, sym, ap, _∙_}
-use mathlib.Core.List.{List}
-use native.Mathlib.Omega.{arith}
-use native.Mathlib.Decide.{ℕ-discrete}
-use lib.ListN.{length, getD, set, replicate, getD-replicate}
-use lib.Seq.{getD-set-same, getD-set-other}
-use Rattle.rules.specs.declared.Plan.{Plan}
-use Rattle.rules.specs.Demand.{blockLimit, demand}
-use Rattle.laws.proofs.Lawful.{LawfulPlan}
-use Rattle.laws.proofs.Demand.{blockLimit-interval}
-use Rattle.verdict.specs.Asked.{askedBy}
-use Rattle.verdict.proofs.Asked.{askedBy-none, demand-parts}
-use Rattle.verdict.proofs.Blocking.{blockLimit-short}
+use Rattle.base.proofs.Prelude.{ℕ, _+_, _-_, _%_, _≤_, _<_, _≡_, sym, ap, _∙_, List, arith, ℕ-discrete, length, getD, set, replicate, getD-set-same, getD-set-other}
+use lib.ListN.{getD-replicate}
+use Rattle.rules.specs.{declared.Plan.Plan, Demand.{blockLimit, demand}}
+use Rattle.laws.proofs.{Lawful.LawfulPlan, Demand.blockLimit-interval}
+use Rattle.verdict.specs.inner.Asked.{askedBy}
+use Rattle.verdict.proofs.{Asked.{askedBy-none, demand-parts}, Blocking.blockLimit-short}
 
 abbrev pub Latest : Plan → ℕ → List ℕ → Type 0
 Latest p l takers = (w : ℕ) → w < l → l ≤ w + 1024 → getD takers (w % 1024) 0 ≡ askedBy p 1 w

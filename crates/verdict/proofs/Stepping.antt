@@ -1,34 +1,17 @@
 -- Laws of the steps of job counts: where the next one is, that nothing changes before it, and what changes at it.
-use Prim.Native.Nat.{ℕ, suc, _+_, _-_, _*_, _≤_, _<_}
-use mathlib.Core.Path.{_≡_, sym, ap, _∙_}
-use mathlib.Core.Bool.{cond}
-use mathlib.Core.List.{List}
-use native.Mathlib.Omega.{arith}
-use native.Mathlib.Decide.{decLe, ℕ-discrete}
-use native.Mathlib.Nat.{mul-le-mul, le-refl, suc-mul, add-mul, one-mul, mul-zero, zero-mul}
-use borrow.Author.Tests.{eq-eqb, ne-eqb}
-use lib.Dec.{eqb}
-use lib.ListN.{length, getD}
-use lib.Seq.{getD-take}
-use Rattle.rules.specs.declared.BatteryString.{BatteryString}
-use Rattle.rules.specs.declared.Plan.{Plan}
-use Rattle.lists.specs.Count.{smallestWith}
-use Rattle.rules.specs.Plan.{stringsOf, noString, dMin}
-use Rattle.rules.specs.Demand.{holdOf, jobs}
-use Rattle.lists.proofs.Lists.{All, all-map, all-at, sumOf-eq, smallestWith-le, smallestWith-all, smallestWith-above}
-use Rattle.lists.proofs.Order.{all-both, sumOf-zero}
-use Rattle.laws.proofs.Jobs.{jobs-short, jobs-last, jobs-step-after, jobs-until, jobs-at-step}
-use Rattle.laws.proofs.Lawful.{LawfulString}
-use Rattle.growth.proofs.Counts.{early-no-jobs}
-use Rattle.verdict.specs.Asked.{Ready, askedOf, askedBy}
-use Rattle.verdict.specs.Steps.{jobOf, stepAfter, Due}
-use Rattle.verdict.proofs.Asked.{askedOf-yes, askedOf-no}
-use Rattle.verdict.proofs.StringSums.{strings-count, string-at}
+use Rattle.base.proofs.Prelude.{ℕ, suc, _+_, _-_, _*_, _≤_, _<_, _≡_, sym, ap, _∙_, cond, List, arith, decLe, ℕ-discrete, mul-le-mul, le-refl, suc-mul, add-mul, one-mul, mul-zero, zero-mul, eq-eqb, ne-eqb, eqb, length, getD, getD-take}
+use Rattle.rules.specs.{declared.BatteryString.BatteryString, declared.Plan.Plan, Plan.{stringsOf, noString, dMin}, Demand.{holdOf, jobs}}
+use Rattle.base.specs.Count.{smallestWith}
+use Rattle.base.proofs.{Lists.{All, all-map, all-at, sumOf-eq, smallestWith-le, smallestWith-all, smallestWith-above}, Order.{all-both, sumOf-zero}}
+use Rattle.laws.proofs.{Jobs.{jobs-short, jobs-last, jobs-step-after, jobs-until, jobs-at-step}, Lawful.LawfulString}
+use Rattle.demand.proofs.Counts.{early-no-jobs}
+use Rattle.verdict.specs.{inner.Asked.{Ready, askedOf, askedBy}, inner.Steps.{jobOf, stepAfter, Due}}
+use Rattle.verdict.proofs.{Asked.{askedOf-yes, askedOf-no}, StringSums.{strings-count, string-at}}
 
 -- ---- One string
 
 module _ (s : BatteryString) (ok : LawfulString s) where
-  pub step-past : (l : ℕ) → l < stepAfter l s
+  step-past : (l : ℕ) → l < stepAfter l s
   unfolding stepAfter
   step-past l = jobs-step-after s l (ok .tPos)
 
@@ -37,7 +20,7 @@ module _ (s : BatteryString) (ok : LawfulString s) where
   step-jobs l w h k = jobs-until s l w (ok .tPos) h k
 
   -- before the step it is still the next
-  pub step-stays : (l w : ℕ) → l ≤ w → w < stepAfter l s → stepAfter w s ≡ stepAfter l s
+  step-stays : (l w : ℕ) → l ≤ w → w < stepAfter l s → stepAfter w s ≡ stepAfter l s
   unfolding stepAfter
   step-stays l w h k = ap (λ j. j * s .t .0 + s .d .0) (jobs-until s l w (ok .tPos) h k)
 
@@ -46,7 +29,7 @@ module _ (s : BatteryString) (ok : LawfulString s) where
   step-jobs-more l w e = jobs-at-step s l w (ok .tPos) e
 
   -- at the step the next is T days on
-  pub step-next : (l w : ℕ) → w ≡ stepAfter l s → stepAfter w s ≡ w + s .t .0
+  step-next : (l w : ℕ) → w ≡ stepAfter l s → stepAfter w s ≡ w + s .t .0
   unfolding stepAfter
   step-next l w e =
       let more = ap (λ j. j * s .t .0) (jobs-at-step s l w (ok .tPos) e) ∙ add-mul (jobs s l) 1 (s .t .0) in
@@ -97,7 +80,7 @@ module _ (p : Plan) (x : ℕ) (s : BatteryString) where
       ]
 
   module _ (ok : LawfulString s) where
-    pub asked-stays : (l w : ℕ) → l ≤ w → w < stepAfter l s → askedOf p x w s ≡ askedOf p x l s
+    asked-stays : (l w : ℕ) → l ≤ w → w < stepAfter l s → askedOf p x w s ≡ askedOf p x l s
     asked-stays l w h k = asked-jobs w ∙ ap (λ j. j * jobOf p x s) (step-jobs s ok l w h k) ∙ sym (asked-jobs l)
 
     -- as an interval comes, a string whose step is due asks for one job more

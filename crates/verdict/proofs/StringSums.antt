@@ -1,19 +1,11 @@
 -- Laws for loops over the strings of a plan that is ready: the string at a place is lawful, and a sum or an extreme from a place on
 -- takes it and those after it.
-use Prim.Native.Nat.{ℕ, _+_, _≤_, _<_, min, max}
-use mathlib.Core.Path.{_≡_, ap}
-use mathlib.Core.List.{_∷_}
-use native.Mathlib.Omega.{arith}
-use lib.ListN.{length, drop, getD}
-use lib.Seq.{length-take-le, getD-take}
-use Rattle.rules.specs.declared.BatteryString.{BatteryString}
-use Rattle.rules.specs.declared.Plan.{Plan}
-use Rattle.lists.specs.Count.{sumOf, largest, smallest, smallestWith}
-use Rattle.rules.specs.Plan.{stringsOf, noString}
-use Rattle.lists.proofs.FirstN.{part-cons, part-end}
-use Rattle.lists.proofs.Lists.{all-at}
+use Rattle.base.proofs.Prelude.{ℕ, _+_, _≤_, _<_, min, max, _≡_, ap, _∷_, arith, length, drop, getD, length-take-le, getD-take}
+use Rattle.rules.specs.{declared.BatteryString.BatteryString, declared.Plan.Plan, Plan.{stringsOf, noString}}
+use Rattle.base.specs.Count.{sumOf, largest, smallest, smallestWith}
+use Rattle.base.proofs.{FirstN.{part-cons, part-end}, Lists.all-at}
 use Rattle.laws.proofs.Lawful.{PlanString, plan-strings}
-use Rattle.verdict.specs.Asked.{Ready}
+use Rattle.verdict.specs.inner.Asked.{Ready}
 
 module _ (p : Plan) (ready : Ready p) where
   pub strings-count : length (stringsOf p) ≡ p .n

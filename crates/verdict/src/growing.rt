@@ -1,5 +1,5 @@
 // The quick verdict on a lawful plan: overload first, then the pairs at which a job count grows, in order of l, then b.
-use super::demand::work_within;
+use super::asking::work_within;
 use super::limits::largest_d;
 use super::limits::limit;
 use super::limits::load_over;
@@ -18,14 +18,14 @@ ghost use mathlib.Core.Bool.{cond};
 ghost use mathlib.Core.List.{List, _++_};
 ghost use lib.Dec.{ltb};
 ghost use lib.ListN.{getD};
-ghost use Rattle.lists.specs.Count.{keep};
+ghost use Rattle.base.specs.Count.{keep};
 ghost use Rattle.rules.specs.Plan.{multipleOf, dMin, dMax};
 ghost use Rattle.rules.specs.Demand.{demand};
 ghost use Rattle.rules.specs.Verdict.{Pair, allPairs, firstBroken, brokenAt, verdictOf, isPass};
-ghost use Rattle.growth.specs.Quick.{grows, quickPairs, quickOf};
-ghost use Rattle.horizon.proofs.Pairs.{rowFrom, rows, scanFrom};
-ghost use Rattle.verdict.specs.Asked.{Ready, askedBy};
-ghost use Rattle.verdict.specs.Steps.{RowKnown, onward, pairsOf};
+ghost use Rattle.demand.specs.Quick.{grows, quickPairs, quickOf};
+ghost use Rattle.demand.proofs.Pairs.{rowFrom, rows, scanFrom};
+ghost use Rattle.verdict.specs.inner.Asked.{Ready, askedBy};
+ghost use Rattle.verdict.specs.inner.Steps.{RowKnown, onward, pairsOf};
 
 // The mark of a day: one more than the day if the takers ask for more on it, else the mark before.
 fn marked(mark: u32, takers: u32, l: u32) -> u32

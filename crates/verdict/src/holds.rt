@@ -1,5 +1,5 @@
 // E of each string, and the figures of a plan.
-use super::demand::hold;
+use super::asking::hold;
 use super::limits::load_over;
 use faults::Checked;
 use faults::Fault;
@@ -8,7 +8,7 @@ use rules::Plan;
 ghost use mathlib.Core.Path.{_≡_};
 ghost use Rattle.rules.specs.Plan.{multipleOf};
 ghost use Rattle.rules.specs.Figures.{holdsOf, figuresOf, noFigures};
-ghost use Rattle.verdict.specs.Asked.{Ready};
+ghost use Rattle.verdict.specs.inner.Asked.{Ready};
 
 // E by place; 0 where there is no string.
 fn holds_of(p: Plan) -> [u32; 10]

@@ -1,6 +1,6 @@
 // The verdict on a plan, full and quick, the first pair that breaks the rule, the search for permissions, and the plan's figures. No caller
 // is trusted to have checked anything: each entry checks first.
-mod demand;
+mod asking;
 mod growing;
 mod holds;
 mod limits;
@@ -27,7 +27,7 @@ use rules::Verdict;
 ghost use mathlib.Core.Path.{_≡_};
 ghost use Rattle.rules.specs.Refusal.{verdictAnswer, breakAnswer, setAnswer, searchAnswer};
 ghost use Rattle.rules.specs.Figures.{figuresAnswer};
-ghost use Rattle.growth.specs.Quick.{quickAnswer, quickSetAnswer};
+ghost use Rattle.demand.specs.Quick.{quickAnswer, quickSetAnswer};
 
 // The verdict on a plan with the permissions it carries.
 pub fn verdict(p: Plan) -> Verdict

@@ -1,14 +1,14 @@
 // The smallest and the largest D, the blocking limit, and the load.
-use super::demand::hold;
+use super::asking::hold;
 use rules::BatteryString;
 use rules::Plan;
 ghost use mathlib.Core.Path.{_≡_};
 ghost use Prim.Native.Nat.{_≤_, _*_, _/_, min, max};
-ghost use Rattle.lists.specs.Count.{largest};
+ghost use Rattle.base.specs.Count.{largest};
 ghost use Rattle.rules.specs.Plan.{stringsOf, multipleOf, dMin, dMax};
 ghost use Rattle.rules.specs.Demand.{holdOf, blockerHold, blockLimit, load};
 ghost use Rattle.laws.proofs.Lawful.{PlanString};
-ghost use Rattle.verdict.specs.Asked.{Ready};
+ghost use Rattle.verdict.specs.inner.Asked.{Ready};
 
 pub(crate) fn smaller(a: u32, b: u32) -> u32
     ensures { λ r. ⌜ r ≡ min a b ⌝ }

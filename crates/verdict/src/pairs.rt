@@ -1,5 +1,5 @@
 // The verdict on a lawful plan: overload first, then the pairs (l, b) in order of l, then b.
-use super::demand::work_within;
+use super::asking::work_within;
 use super::limits::largest_d;
 use super::limits::limit;
 use super::limits::load_over;
@@ -11,8 +11,8 @@ ghost use mathlib.Core.Path.{_≡_};
 ghost use lib.ListN.{replicate};
 ghost use Rattle.rules.specs.Plan.{multipleOf};
 ghost use Rattle.rules.specs.Verdict.{allPairs, verdictOf};
-ghost use Rattle.horizon.proofs.Pairs.{scanFrom};
-ghost use Rattle.verdict.specs.Asked.{Ready};
+ghost use Rattle.demand.proofs.Pairs.{scanFrom};
+ghost use Rattle.verdict.specs.inner.Asked.{Ready};
 
 // What the takers ask within each of 1,024 numbers of days, before any is known.
 pub(crate) fn none_known() -> [u32; 1024]

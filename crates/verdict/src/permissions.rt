@@ -13,7 +13,7 @@ ghost use lib.Dec.{eqb};
 ghost use lib.Count.{ones as onesOf};
 ghost use Rattle.rules.specs.Plan.{multipleOf};
 ghost use Rattle.rules.specs.Search.{withSet, setPasses, searchOf};
-ghost use Rattle.verdict.specs.Asked.{Ready};
+ghost use Rattle.verdict.specs.inner.Asked.{Ready};
 
 // The string with permission x.
 fn permitted(s: BatteryString, x: u32) -> BatteryString

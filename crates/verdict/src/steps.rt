@@ -1,6 +1,6 @@
 // The intervals at which job counts step. A string's count steps at D and then every T days, so that a step gives the next by one addition.
-use super::demand::hold;
-use super::demand::jobs_in;
+use super::asking::hold;
+use super::asking::jobs_in;
 use super::limits::smaller;
 use rules::BatteryString;
 use rules::Plan;
@@ -8,11 +8,11 @@ ghost use Prim.Native.Nat.{_+_, _-_, _≤_};
 ghost use mathlib.Core.Path.{_≡_};
 ghost use mathlib.Core.Bool.{cond};
 ghost use lib.Dec.{eqb};
-ghost use Rattle.lists.specs.Count.{smallestWith};
+ghost use Rattle.base.specs.Count.{smallestWith};
 ghost use Rattle.rules.specs.Plan.{stringsOf};
 ghost use Rattle.laws.proofs.Lawful.{PlanString};
-ghost use Rattle.verdict.specs.Asked.{Ready, askedBy};
-ghost use Rattle.verdict.specs.Steps.{jobOf, Parted, stepAfter, Due};
+ghost use Rattle.verdict.specs.inner.Asked.{Ready, askedBy};
+ghost use Rattle.verdict.specs.inner.Steps.{jobOf, Parted, stepAfter, Due};
 
 // Of each string its T, and what a job of it asks where it may not take the bank and where it may: 0 in one of the two.
 pub(crate) struct Parts {

@@ -1,15 +1,7 @@
 -- The first moving cost that differs, from what the code compares: the cost of each string with that of the first.
-use Prim.Native.Nat.{ℕ, _+_, _-_, _≤_, _<_}
-use mathlib.Core.Path.{_≡_, sym, ap, _∙_, subst}
-use mathlib.Core.Bool.{true, false, not}
-use native.Mathlib.Omega.{arith}
-use borrow.Author.Tests.{eq-eqb, ne-eqb}
-use lib.ListN.{getD}
-use lib.Seq.{getD-take}
-use Rattle.lists.proofs.Least.{leastFrom-unique, leastFrom-none}
-use Rattle.rules.specs.declared.BatteryString.{BatteryString}
-use Rattle.rules.specs.declared.Plan.{Plan}
-use Rattle.rules.specs.Plan.{stringsOf, stringAt, noString}
+use Rattle.base.proofs.Prelude.{ℕ, _+_, _-_, _≤_, _<_, _≡_, sym, ap, _∙_, subst, true, false, not, arith, eq-eqb, ne-eqb, getD, getD-take}
+use Rattle.base.proofs.Least.{leastFrom-unique, leastFrom-none}
+use Rattle.rules.specs.{declared.BatteryString.BatteryString, declared.Plan.Plan, Plan.{stringsOf, stringAt, noString}}
 use Rattle.writing.specs.Saved.{costDiffers, firstOther}
 
 -- the moving cost of the string after i others

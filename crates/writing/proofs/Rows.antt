@@ -1,30 +1,14 @@
 -- Lines of one length, written one after the other into a part of a page: a string's line, or a release's.
 --     Rows before part i    the lines of the first i stand at the head of the part, and what stood behind them stays
-use Prim.Native.Nat.{ℕ, _+_, _-_, _*_, _≤_, _<_, suc}
-use mathlib.Core.Path.{_≡_, sym, ap, _∙_, subst}
-use mathlib.Core.List.{List, [], _∷_, _++_, flatMap, append-nil}
-use native.Mathlib.Omega.{arith}
-use native.Mathlib.Numerals.{add-one}
-use native.Mathlib.Nat.{suc-mul, mul-le-mul-right}
-use lib.ListN.{length, take, drop, getD, length-append}
-use lib.Seq.{take-suc, take-all, length-take-le}
-use borrow.Rule.Slice.PartMut.{putMid}
-use Rattle.rules.specs.declared.BatteryString.{BatteryString}
-use Rattle.rules.specs.declared.Plan.{Plan}
-use Rattle.rules.specs.declared.Release.{Release}
-use Rattle.rules.specs.declared.Releases.{Releases}
-use Rattle.rules.specs.Plan.{stringsOf}
-use Rattle.rules.specs.Release.{releasesOf}
-use Rattle.rules.specs.Layout.{Field, Layout, Frames, lineSize}
-use Rattle.writing.specs.declared.cells.Cell.{Cell}
-use Rattle.writing.specs.Written.{frameBytes, lineText, headerSays, stringSays, releaseSays, headerText, stringText, releaseText, planText}
-use Rattle.writing.specs.Cells.{cellsSize, cellsText, Room, SaysFrame}
-use Rattle.writing.proofs.Texts.{flatMap-append, flatMap-one, flatMap-length, Stands, stands-none, stands-next}
-use Rattle.writing.proofs.Texts.{lineText-length, frameBytes-length, says-line}
+use Rattle.base.proofs.Prelude.{ℕ, _+_, _-_, _*_, _≤_, _<_, suc, _≡_, sym, ap, _∙_, subst, List, [], _∷_, _++_, append-nil, arith, add-one, suc-mul, mul-le-mul-right, length, take, drop, getD, length-append, take-suc, take-all, length-take-le, putMid}
+use mathlib.Core.List.{flatMap}
+use Rattle.rules.specs.{declared.BatteryString.BatteryString, declared.Plan.Plan, declared.Release.Release, declared.Releases.Releases, Plan.stringsOf, Release.releasesOf, Layout.{Layout, Version, lineSize, headerFrame, stringFrame, releaseFrame}}
+use Rattle.writing.specs.{declared.cells.Cell.Cell, Written.{frameBytes, lineText, headerSays, stringSays, releaseSays, headerText, stringText, releaseText, planText}, inner.Cells.{cellsSize, cellsText, Room, SaysFrame}}
+use Rattle.writing.proofs.Texts.{flatMap-append, flatMap-one, flatMap-length, TextStands, stands-none, stands-next, lineText-length, frameBytes-length, says-line}
 
 module _ {ℓ} {A : Type ℓ} (f : A → List ℕ) (k : ℕ) (each : (x : A) → length (f x) ≡ k) (xs : List A) (z : A) where
   abbrev pub Rows : List ℕ → List ℕ → ℕ → Type 0
-  Rows before part i = Stands before (flatMap f (take i xs)) part
+  Rows before part i = TextStands before (flatMap f (take i xs)) part
 
   pub rows-start : (before : List ℕ) → Rows before before 0
   unfolding flatMap
@@ -42,13 +26,14 @@ module _ {ℓ} {A : Type ℓ} (f : A → List ℕ) (k : ℕ) (each : (x : A) →
       → next ≡ f (getD xs i z) ++ drop k (take (length part - i * k) (drop (i * k) part))
       → Rows before (putMid (i * k) (length part - i * k) part next) (i + 1)
   rows-next before part next i s h room got =
-      subst (λ text. Stands before text (putMid (i * k) (length part - i * k) part next)) (sym (step i h))
+      subst (λ text. TextStands before text (putMid (i * k) (length part - i * k) part next)) (sym (step i h))
       (stands-next before (flatMap f (take i xs)) (f (getD xs i z)) part next (i * k) k s (so-far i (omega arith)) (each (getD xs i z))
       room got)
 
   -- all of them stand
-  pub rows-end : (before part : List ℕ) (i : ℕ) → Rows before part i → i ≡ length xs → part ≡ flatMap f xs ++ drop (length xs * k) before
-  rows-end before part i s e =
+  pub rows-written : (before part : List ℕ) (i : ℕ) → Rows before part i → i ≡ length xs
+      → part ≡ flatMap f xs ++ drop (length xs * k) before
+  rows-written before part i s e =
       let all : take i xs ≡ xs = take-all i xs (omega arith) in
       s .is ∙ rw (all, flatMap-length f k each xs)
 
@@ -61,44 +46,43 @@ module _ {ℓ} {A : Type ℓ} (f : A → List ℕ) (k : ℕ) (each : (x : A) →
 
 -- ---- The lines of a plan
 
-module _ (v : Frames) where
-  pub stringText-length : (s : BatteryString) → length (stringText v s) ≡ lineSize (v .string)
+frame-long : {F : Type 0} (l : Layout F) (says : F → ℕ) → length (lineText (frameBytes l says)) ≡ lineSize l
+frame-long l says = lineText-length (frameBytes l says) ∙ ap (λ k. k * 2 + 1) (frameBytes-length l says)
+
+module _ (v : Version) where
+  pub stringText-length : (s : BatteryString) → length (stringText v s) ≡ lineSize (stringFrame v)
   unfolding stringText
-  stringText-length s =
-      lineText-length (frameBytes (v .string) (stringSays s)) ∙ ap (λ k. k * 2 + 1) (frameBytes-length (v .string) (stringSays s))
+  stringText-length s = frame-long (stringFrame v) (stringSays s)
 
-  pub releaseText-length : (r : Release) → length (releaseText v r) ≡ lineSize (v .release)
+  pub releaseText-length : (r : Release) → length (releaseText v r) ≡ lineSize (releaseFrame v)
   unfolding releaseText
-  releaseText-length r =
-      lineText-length (frameBytes (v .release) (releaseSays r)) ∙ ap (λ k. k * 2 + 1) (frameBytes-length (v .release) (releaseSays r))
+  releaseText-length r = frame-long (releaseFrame v) (releaseSays r)
 
-  pub headerText-length : (p : Plan) → length (headerText v p) ≡ lineSize (v .header)
+  pub headerText-length : (p : Plan) → length (headerText v p) ≡ lineSize (headerFrame v)
   unfolding headerText
-  headerText-length p =
-      lineText-length (frameBytes (v .header) (headerSays (v .version) p))
-      ∙ ap (λ k. k * 2 + 1) (frameBytes-length (v .header) (headerSays (v .version) p))
+  headerText-length p = frame-long (headerFrame v) (headerSays (v .number) p)
 
--- what put_frame leaves, for cells that say a frame
-pub line-put : (cells : List Cell) (count : ℕ) (l : Layout) (says : Field → ℕ) (part next : List ℕ) → SaysFrame cells count l says
-    → next ≡ (cellsText (take count cells) ++ (0x0a ∷ [])) ++ drop (cellsSize (take count cells) * 2 + 1) part
-    → next ≡ lineText (frameBytes l says) ++ drop (lineSize l) part
-line-put cells count l says part next s got =
-    got ∙ ap (λ t. t ++ drop (cellsSize (take count cells) * 2 + 1) part) (says-line cells count l says s)
-    ∙ ap (λ k. lineText (frameBytes l says) ++ drop (k * 2 + 1) part) (s .size)
+module _ {F : Type 0} (cells : List Cell) (count : ℕ) (l : Layout F) (says : F → ℕ) where
+  -- what put_frame leaves, for cells that say a frame
+  pub line-put : (part next : List ℕ) → SaysFrame cells count l says
+      → next ≡ (cellsText (take count cells) ++ (0x0a ∷ [])) ++ drop (cellsSize (take count cells) * 2 + 1) part
+      → next ≡ lineText (frameBytes l says) ++ drop (lineSize l) part
+  line-put part next s got =
+      got ∙ ap (λ t. t ++ drop (cellsSize (take count cells) * 2 + 1) part) (says-line l says cells count s)
+      ∙ ap (λ k. lineText (frameBytes l says) ++ drop (k * 2 + 1) part) (s .size)
 
--- and what it asks
-pub line-room : (cells : List Cell) (count : ℕ) (l : Layout) (says : Field → ℕ) (k : ℕ) → SaysFrame cells count l says → count ≤ 7
-    → lineSize l ≤ k → Room cells count k
-line-room cells count l says k s few room =
-    record { few = few; there = omega (arith, s .seven); bytes = omega (arith, ap (λ n. n * 2 + 1) (s .size)) }
+  -- and what it asks
+  pub line-room : (k : ℕ) → SaysFrame cells count l says → count ≤ 7 → lineSize l ≤ k → Room cells count k
+  line-room k s few room =
+      record { few = few; there = omega (arith, s .seven); bytes = omega (arith, ap (λ n. n * 2 + 1) (s .size)) }
 
 -- ---- The whole text
 
 -- how long the text of so many strings and releases is
-abbrev pub longAs : Frames → ℕ → ℕ → ℕ
-longAs v n count = lineSize (v .header) + n * lineSize (v .string) + count * lineSize (v .release)
+abbrev pub longAs : Version → ℕ → ℕ → ℕ
+longAs v n count = lineSize (headerFrame v) + n * lineSize (stringFrame v) + count * lineSize (releaseFrame v)
 
-module _ (v : Frames) (p : Plan) (rs : Releases) (strings-many : length (stringsOf p) ≡ p .n)
+module _ (v : Version) (p : Plan) (rs : Releases) (strings-many : length (stringsOf p) ≡ p .n)
     (releases-many : length (releasesOf rs) ≡ rs .count)
   where
     abbrev strings : List ℕ
@@ -107,15 +91,15 @@ module _ (v : Frames) (p : Plan) (rs : Releases) (strings-many : length (strings
     abbrev releases : List ℕ
     releases = flatMap (releaseText v) (releasesOf rs)
 
-    pub strings-long : length strings ≡ p .n * lineSize (v .string)
+    pub strings-long : length strings ≡ p .n * lineSize (stringFrame v)
     strings-long =
-        flatMap-length (stringText v) (lineSize (v .string)) (stringText-length v) (stringsOf p)
-        ∙ ap (λ n. n * lineSize (v .string)) strings-many
+        flatMap-length (stringText v) (lineSize (stringFrame v)) (stringText-length v) (stringsOf p)
+        ∙ ap (λ n. n * lineSize (stringFrame v)) strings-many
 
-    pub releases-long : length releases ≡ rs .count * lineSize (v .release)
+    releases-long : length releases ≡ rs .count * lineSize (releaseFrame v)
     releases-long =
-        flatMap-length (releaseText v) (lineSize (v .release)) (releaseText-length v) (releasesOf rs)
-        ∙ ap (λ n. n * lineSize (v .release)) releases-many
+        flatMap-length (releaseText v) (lineSize (releaseFrame v)) (releaseText-length v) (releasesOf rs)
+        ∙ ap (λ n. n * lineSize (releaseFrame v)) releases-many
 
     pub text-long : length (planText v p (releasesOf rs)) ≡ longAs v (p .n) (rs .count)
     unfolding planText

@@ -1,35 +1,15 @@
 -- What is answered and what the page holds: a refusal of the plan, no room, or the text in its place.
-use Prim.Native.Nat.{ℕ, _-_, _≤_, _<_}
-use mathlib.Core.Path.{_≡_, refl, sym, ap, _∙_}
-use mathlib.Core.Bool.{Bool, true, false, _||_}
-use mathlib.Core.List.{List, _++_}
-use native.Mathlib.Omega.{arith}
-use borrow.Author.Tests.{lt-ltb, le-ltb, le-leb, lt-leb}
-use lib.Dec.{ltb, leb}
-use lib.ListN.{length, take, drop, length-drop}
-use lib.Seq.{length-take-le, drop-drop}
-use borrow.Rule.Slice.PartMut.{putMid}
-use Rattle.lists.specs.Count.{All}
-use Rattle.lists.proofs.Lists.{all-by}
-use Rattle.faults.specs.declared.Fault.{Fault}
-use Rattle.faults.specs.declared.Fault.the-variants.{NoRoom, CostsDiffer}
-use Rattle.faults.specs.declared.Checked.the-variants as checked
-use Rattle.rules.specs.declared.Plan.{Plan}
-use Rattle.rules.specs.declared.Releases.{Releases}
-use Rattle.rules.specs.Plan.{stringsOf}
-use Rattle.rules.specs.Release.{releasesOf, noRelease}
-use Rattle.rules.specs.Refusal.{runCheck}
-use Rattle.rules.specs.Layout.{Frames, version01}
+use Rattle.base.proofs.Prelude.{ℕ, _-_, _≤_, _<_, _≡_, refl, sym, ap, _∙_, Bool, true, false, _||_, List, _++_, arith, lt-ltb, le-ltb, le-leb, lt-leb, ltb, leb, length, take, drop, length-drop, length-take-le, drop-drop, putMid}
+use Rattle.base.specs.Count.{All}
+use Rattle.base.proofs.Lists.{by-bool, all-by}
+use Rattle.faults.specs.{declared.Fault.Fault, declared.Fault.the-variants.{NoRoom, CostsDiffer}}
+use Rattle.faults.proofs.Checks.{then-first, then-lawful}
+use Rattle.rules.specs.{declared.Plan.Plan, declared.Releases.Releases, Plan.stringsOf, Release.{releasesOf, noRelease}, Refusal.runCheck, Layout.{Version, hasField, headerFrame, Common}}
 use Rattle.laws.specs.Lawful.{LawfulRun}
-use Rattle.laws.proofs.Releases.{runCheck-lawful}
-use Rattle.laws.proofs.ReleaseList.{release-lawful}
-use Rattle.writing.specs.declared.Saved.the-variants.{Refused, Text}
-use Rattle.writing.specs.Written.{planText}
-use Rattle.writing.specs.Saved.{savedText, noRoom, saveCheck, savedAnswer, savedPage}
-use Rattle.writing.specs.Saved.{firstOther, costsCheck, oldCheck, oldAnswer, oldPage}
-use Rattle.writing.specs.Cells.{PlanFits}
-use Rattle.writing.proofs.Texts.{lent-part, lent-back}
-use Rattle.writing.proofs.Rows.{longAs, text-long}
+use Rattle.laws.proofs.{Releases.runCheck-lawful, ReleaseList.release-lawful}
+use Rattle.writing.specs.{declared.Saved.the-variants.{Refused, Text}, Written.planText, Saved.{noRoom, firstOther, alikeCheck, savedText, writableCheck, saveCheck, savedAnswer, savedPage}, inner.Cells.PlanFits}
+use Rattle.writing.proofs.{Texts.{lent-part, lent-back}, Rows.{longAs, text-long}}
+use Rattle.faults.specs.declared.Checked.the-variants as checked
 
 -- ---- Room
 
@@ -50,15 +30,59 @@ unfolding noRoom
 noRoom-fits page at text here h =
     rw (le-ltb (length (drop at page)) (length text) (omega (arith, length-drop at page)), le-ltb (length page) at here)
 
+-- ---- Moving costs
+
+module _ (v : Version) (p : Plan) where
+  module _ (at : ℕ) where
+    -- a header that says no moving cost asks nothing of them
+    pub alike-none : v .header Common ≤ 0 → alikeCheck v at p ≡ checked.Lawful
+    unfolding alikeCheck hasField
+    alike-none none = rw (le-ltb 0 (v .header Common) none)
+
+    pub alike-yes : p .n < firstOther p → alikeCheck v at p ≡ checked.Lawful
+    unfolding alikeCheck
+    alike-yes high = rw (lt-leb (firstOther p) (p .n) high) (by-bool (hasField (headerFrame v) Common) (λ t. rw t) (λ e. rw e))
+
+    pub alike-differs : 0 < v .header Common → firstOther p ≤ p .n → alikeCheck v at p ≡ checked.Refused CostsDiffer at
+    unfolding alikeCheck hasField
+    alike-differs some low = rw (lt-ltb 0 (v .header Common) some, le-leb (firstOther p) (p .n) low)
+
+  pub writable-run : (rs : Releases) → writableCheck v p rs ≡ checked.Lawful → runCheck p rs ≡ checked.Lawful
+  unfolding writableCheck
+  writable-run rs h = then-first (runCheck p rs) (alikeCheck v (firstOther p) p) h
+
+  -- so a lawful plan can be written where each string says its own moving cost
+  pub writable-own : (rs : Releases) → v .header Common ≤ 0 → runCheck p rs ≡ checked.Lawful → writableCheck v p rs ≡ checked.Lawful
+  unfolding writableCheck
+  writable-own rs none h = then-lawful (runCheck p rs) _ h ∙ alike-none (firstOther p) none
+
+-- ---- How long the text of a lawful plan is
+
+module _ (v : Version) (p : Plan) (rs : Releases) (run : runCheck p rs ≡ checked.Lawful) (ten : length (p .strings) ≡ 10)
+    (thousand : length (rs .list) ≡ 1000)
+  where
+    run-is : LawfulRun p rs
+    run-is = runCheck-lawful p rs run
+
+    strings-many : length (stringsOf p) ≡ p .n
+    strings-many = length-take-le (p .n) (p .strings) (omega (arith, run-is .plan .nMax))
+
+    releases-many : length (releasesOf rs) ≡ rs .count
+    releases-many = length-take-le (rs .count) (rs .list) (omega (arith, run-is .few))
+
+    pub saved-long : length (savedText v p rs) ≡ longAs v (p .n) (rs .count)
+    unfolding savedText
+    saved-long = text-long v p rs strings-many releases-many
+
 -- ---- The answer and the page
 
-module _ (v : Frames) (p : Plan) (rs : Releases) (page : List ℕ) (at : ℕ) where
-  pub saved-refused : (f : Fault) (k : ℕ) → runCheck p rs ≡ checked.Refused f k
+module _ (v : Version) (p : Plan) (rs : Releases) (page : List ℕ) (at : ℕ) where
+  pub saved-refused : (f : Fault) (k : ℕ) → writableCheck v p rs ≡ checked.Refused f k
       → (savedAnswer v p rs page at ≡ Refused f k) × (savedPage v p rs page at ≡ page)
   unfolding savedAnswer savedPage saveCheck
   saved-refused f k h = (rw h, rw h)
 
-  module _ (lawful : runCheck p rs ≡ checked.Lawful) where
+  module _ (lawful : writableCheck v p rs ≡ checked.Lawful) where
     saved-full : noRoom page at (savedText v p rs) ≡ true
         → (savedAnswer v p rs page at ≡ Refused NoRoom 0) × (savedPage v p rs page at ≡ page)
     unfolding savedAnswer savedPage saveCheck
@@ -68,23 +92,19 @@ module _ (v : Frames) (p : Plan) (rs : Releases) (page : List ℕ) (at : ℕ) wh
     saved-beyond h = saved-full (noRoom-beyond page at (savedText v p rs) h)
 
     module _ (ten : length (p .strings) ≡ 10) (thousand : length (rs .list) ≡ 1000) where
-      run-is : LawfulRun p rs
-      run-is = runCheck-lawful p rs lawful
+      lawful-is : LawfulRun p rs
+      lawful-is = run-is v p rs (writable-run v p rs lawful) ten thousand
 
-      strings-many : length (stringsOf p) ≡ p .n
-      strings-many = length-take-le (p .n) (p .strings) (omega (arith, run-is .plan .nMax))
+      long-is : length (savedText v p rs) ≡ longAs v (p .n) (rs .count)
+      long-is = saved-long v p rs (writable-run v p rs lawful) ten thousand
 
-      releases-many : length (releasesOf rs) ≡ rs .count
-      releases-many = length-take-le (rs .count) (rs .list) (omega (arith, run-is .few))
-
-      pub saved-long : length (savedText v p rs) ≡ longAs v (p .n) (rs .count)
-      unfolding savedText
-      saved-long = text-long v p rs strings-many releases-many
+      many-is : length (stringsOf p) ≡ p .n
+      many-is = strings-many v p rs (writable-run v p rs lawful) ten thousand
 
       -- long is what the code computes
       module _ (long : ℕ) (counted : long ≡ longAs v (p .n) (rs .count)) where
         pub saved-short : length page - at < long → (savedAnswer v p rs page at ≡ Refused NoRoom 0) × (savedPage v p rs page at ≡ page)
-        saved-short h = saved-full (noRoom-short page at (savedText v p rs) (omega (arith, saved-long)))
+        saved-short h = saved-full (noRoom-short page at (savedText v p rs) (omega (arith, long-is)))
 
         module _ (here : at ≤ length page) (room : long ≤ length page - at) where
           -- what the writer of the plan asks of the part that it is lent
@@ -94,15 +114,15 @@ module _ (v : Frames) (p : Plan) (rs : Releases) (page : List ℕ) (at : ℕ) wh
               let lent : length (take (length page - at) (drop at page)) ≡ length page - at = ap length (lent-part at page)
               ∙ length-drop at page in
               record {
-                strings = record { some = run-is .plan .nPos; few = run-is .plan .nMax; ten = ten; bytes = omega arith };
-                releases = record { few = run-is .few; thousand = thousand; places = places; bytes = omega arith };
-                bytes = omega (arith, saved-long);
+                strings = record { some = lawful-is .plan .nPos; few = lawful-is .plan .nMax; ten = ten; bytes = omega arith };
+                releases = record { few = lawful-is .few; thousand = thousand; places = places; bytes = omega arith };
+                bytes = omega (arith, long-is);
               }
             where
               places : All (λ r. r .place ≤ 10) (releasesOf rs)
               places =
                   all-by (λ r. r .place ≤ 10) (releasesOf rs) noRelease
-                  (λ i h. omega (arith, release-lawful p (releasesOf rs) (run-is .none-bad) i h .within, strings-many, run-is .plan .nMax))
+                  (λ i h. omega (arith, release-lawful p (releasesOf rs) (lawful-is .none-bad) i h .within, many-is, lawful-is .plan .nMax))
 
           -- the part comes back with the text at its head
           pub saved-written : (next : List ℕ)
@@ -112,26 +132,8 @@ module _ (v : Frames) (p : Plan) (rs : Releases) (page : List ℕ) (at : ℕ) wh
           unfolding savedAnswer savedPage saveCheck savedText
           saved-written next got =
               let text = planText v p (releasesOf rs) in
-              let size : length text ≡ long = saved-long ∙ sym counted in
+              let size : length text ≡ long = long-is ∙ sym counted in
               let fits = noRoom-fits page at text here (omega arith) in (
                 rw (lawful, fits, size),
                 rw (lawful, fits) (sym (lent-back at page next here ∙ rw (got, lent-part at page, drop-drop (length text) at page))),
               )
-
--- ---- In version 01 the moving costs are looked at between the plan and the room
-
-module _ (p : Plan) (rs : Releases) (page : List ℕ) (at : ℕ) where
-  pub old-refused : (f : Fault) (k : ℕ) → runCheck p rs ≡ checked.Refused f k
-      → (oldAnswer p rs page at ≡ Refused f k) × (oldPage p rs page at ≡ page)
-  unfolding oldAnswer oldPage oldCheck
-  old-refused f k h = (rw h, rw h)
-
-  module _ (lawful : runCheck p rs ≡ checked.Lawful) where
-    pub old-differs : firstOther p ≤ p .n → (oldAnswer p rs page at ≡ Refused CostsDiffer (firstOther p)) × (oldPage p rs page at ≡ page)
-    unfolding oldAnswer oldPage oldCheck costsCheck
-    old-differs h = (rw (lawful, le-leb (firstOther p) (p .n) h), rw (lawful, le-leb (firstOther p) (p .n) h))
-
-    pub old-alike : p .n < firstOther p
-        → (oldAnswer p rs page at ≡ savedAnswer version01 p rs page at) × (oldPage p rs page at ≡ savedPage version01 p rs page at)
-    unfolding oldAnswer oldPage oldCheck costsCheck savedAnswer savedPage saveCheck
-    old-alike h = (rw (lawful, lt-leb (firstOther p) (p .n) h), rw (lawful, lt-leb (firstOther p) (p .n) h))

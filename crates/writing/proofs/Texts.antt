@@ -1,19 +1,11 @@
 -- Texts written one after the other into a part of a page, and the lengths of what is written.
-use Prim.Native.Nat.{ℕ, zero, suc, _+_, _-_, _*_, _/_, _%_, _≤_, _<_}
-use mathlib.Core.Path.{_≡_, refl, sym, ap, _∙_}
-use mathlib.Core.List.{List, [], _∷_, _++_, flatMap, append-assoc, append-nil}
-use native.Mathlib.Omega.{arith}
-use native.Mathlib.Decide.{decLe}
-use native.Mathlib.Numerals.{add-one}
-use native.Mathlib.Nat.{zero-mul, suc-mul, not-suc-le-zero, le-of-suc-le-suc}
-use lib.ListN.{length, take, drop, getD, set, length-append, length-drop}
-use lib.Seq.{take-append-seam, drop-append-seam, drop-drop, drop-at, length-take-le, take-all, take-suc, drop-length}
-use borrow.Rule.Slice.PartMut.{putMid, postOf, post-is, same-len-mid}
-use Rattle.lists.specs.Count.{sumOf}
-use Rattle.rules.specs.Layout.{Field, Sized, Layout, sizeOf, frameSize}
-use Rattle.writing.specs.declared.cells.Cell.{Cell}
-use Rattle.writing.specs.Written.{numberBytes, byteText, frameBytes, lineText}
-use Rattle.writing.specs.Cells.{numberText, cellText, cellsSize, cellsText, SaysFrame}
+use Rattle.base.proofs.Prelude.{ℕ, zero, suc, _+_, _-_, _*_, _/_, _%_, _≤_, _<_, _≡_, refl, sym, ap, _∙_, List, [], _∷_, _++_, append-assoc, append-nil, arith, decLe, add-one, zero-mul, suc-mul, not-suc-le-zero, le-of-suc-le-suc, length, take, drop, getD, set, length-append, length-drop, take-append-seam, drop-drop, drop-at, length-take-le, take-all, take-suc, putMid}
+use mathlib.Core.List.{flatMap}
+use lib.Seq.{drop-append-seam, drop-length}
+use borrow.Rule.Slice.PartMut.{postOf, post-is, same-len-mid}
+use Rattle.base.specs.Count.{sumOf}
+use Rattle.rules.specs.Layout.{Layout, sizeOf, frameSize}
+use Rattle.writing.specs.{declared.cells.Cell.Cell, Written.{numberBytes, byteText, frameBytes, lineText}, inner.Cells.{numberText, cellText, cellsSize, cellsText, SaysFrame}}
 
 -- ---- Lists
 
@@ -40,7 +32,7 @@ module _ {ℓ κ} {A : Type ℓ} {B : Type κ} (f : A → List B) where
 
 module _ (before : List ℕ) where
   -- the part holds the text t; the next part is handed on and comes back with the text u
-  pub next-text : (t u part : List ℕ) → part ≡ t ++ drop (length t) before
+  next-text : (t u part : List ℕ) → part ≡ t ++ drop (length t) before
       → take (length t) part ++ (u ++ drop (length u) (drop (length t) part)) ≡ (t ++ u) ++ drop (length t + length u) before
   next-text t u part is =
       let front : take (length t) part ≡ t = ap (take (length t)) is ∙ take-append-seam t (drop (length t) before) in
@@ -109,11 +101,11 @@ cellsText-length (c ∷ cs) =
 
 -- ---- Numbers, from the last byte on
 
-pub numberText-none : (n : ℕ) → numberText 0 n ≡ []
+numberText-none : (n : ℕ) → numberText 0 n ≡ []
 unfolding numberText numberBytes flatMap
 numberText-none n = refl
 
-pub numberText-last : (k n : ℕ) → numberText (suc k) n ≡ numberText k (n / 256) ++ byteText (n % 256)
+numberText-last : (k n : ℕ) → numberText (suc k) n ≡ numberText k (n / 256) ++ byteText (n % 256)
 unfolding numberText numberBytes
 numberText-last k n =
     flatMap-append byteText (numberBytes k (n / 256)) (n % 256 ∷ [])
@@ -177,16 +169,16 @@ cellsSize-within cs z i (suc k) h within =
 -- ---- A text that stands at the head of a part
 
 -- the part holds the text, and behind it what stood there before
-pub record Stands (before text part : List ℕ) : Type 0 where
+pub record TextStands (before text part : List ℕ) : Type 0 where
   pub size : length part ≡ length before
   pub is : part ≡ text ++ drop (length text) before
 
-pub stands-none : (before : List ℕ) → Stands before [] before
+pub stands-none : (before : List ℕ) → TextStands before [] before
 stands-none before = record { size = refl; is = refl }
 
 -- a text at the head of the whole part
 pub stands-first : (before t part : List ℕ) (size : ℕ) → length t ≡ size → size ≤ length before → part ≡ t ++ drop size before
-    → Stands before t part
+    → TextStands before t part
 stands-first before t part size long room got =
     record {
       size = ap length got ∙ omega (arith, length-append t (drop size before), length-drop size before);
@@ -194,9 +186,9 @@ stands-first before t part size long room got =
     }
 
 -- what follows is written into the next part
-pub stands-next : (before t u part next : List ℕ) (a size : ℕ) → Stands before t part → length t ≡ a → length u ≡ size
+pub stands-next : (before t u part next : List ℕ) (a size : ℕ) → TextStands before t part → length t ≡ a → length u ≡ size
     → a + size ≤ length part
-    → next ≡ u ++ drop size (take (length part - a) (drop a part)) → Stands before (t ++ u) (putMid a (length part - a) part next)
+    → next ≡ u ++ drop size (take (length part - a) (drop a part)) → TextStands before (t ++ u) (putMid a (length part - a) part next)
 stands-next before t u part next a size stands long more room got =
     let here : a ≤ length part = omega arith in
     let counted = got ∙ ap (λ k. u ++ drop k (take (length part - a) (drop a part))) (sym more) in
@@ -231,24 +223,24 @@ unfolding lineText
 lineText-length frame = length-append (flatMap byteText frame) (0x0a ∷ []) ∙ ap (λ k. k + 1)
     (flatMap-length byteText 2 byteText-length frame)
 
-fields-length : (fields : List Sized) (says : Field → ℕ)
-    → length (flatMap (λ s. numberBytes (s .size) (says (s .field))) fields) ≡ sizeOf fields
-unfolding flatMap
-fields-length [] says = refl
-fields-length (s ∷ fields) says =
-    let rest = fields-length fields says in
-    omega (
-      arith,
-      length-append (numberBytes (s .size) (says (s .field))) (flatMap (λ f. numberBytes (f .size) (says (f .field))) fields),
-      numberBytes-length (s .size) (says (s .field)),
-    )
+module _ {F : Type 0} (l : Layout F) (says : F → ℕ) where
+  fields-length : (fields : List F) → length (flatMap (λ f. numberBytes (l .size f) (says f)) fields) ≡ sizeOf (l .size) fields
+  unfolding flatMap
+  fields-length [] = refl
+  fields-length (g ∷ fields) =
+      let rest = fields-length fields in
+      omega (
+        arith,
+        length-append (numberBytes (l .size g) (says g)) (flatMap (λ f. numberBytes (l .size f) (says f)) fields),
+        numberBytes-length (l .size g) (says g),
+      )
 
-pub frameBytes-length : (l : Layout) (says : Field → ℕ) → length (frameBytes l says) ≡ frameSize l
-unfolding frameBytes
-frameBytes-length l says = omega (arith, fields-length (l .fields) says)
+  pub frameBytes-length : length (frameBytes l says) ≡ frameSize l
+  unfolding frameBytes
+  frameBytes-length = omega (arith, fields-length (l .fields))
 
--- what put_frame writes for cells that say a frame
-pub says-line : (cells : List Cell) (count : ℕ) (l : Layout) (says : Field → ℕ) → SaysFrame cells count l says
-    → cellsText (take count cells) ++ (0x0a ∷ []) ≡ lineText (frameBytes l says)
-unfolding lineText
-says-line cells count l says s = ap (λ digits. digits ++ (0x0a ∷ [])) (s .text)
+  -- what put_frame writes for cells that say a frame
+  pub says-line : (cells : List Cell) (count : ℕ) → SaysFrame cells count l says
+      → cellsText (take count cells) ++ (0x0a ∷ []) ≡ lineText (frameBytes l says)
+  unfolding lineText
+  says-line cells count s = ap (λ digits. digits ++ (0x0a ∷ [])) (s .text)

@@ -2,4 +2,4 @@
 pub mod Written
 pub mod Saved
 pub mod Said
-pub mod Cells
+pub mod inner

@@ -16,7 +16,7 @@ use Rattle.rules.specs.declared.BatteryString.{BatteryString}
 use Rattle.rules.specs.declared.Plan.{Plan}
 use Rattle.rules.specs.declared.Release.{Release}
 use Rattle.rules.specs.Plan.{stringsOf, stringAt}
-use Rattle.rules.specs.Layout.{Field, Layout, Frames}
+use Rattle.rules.specs.Layout.{HeaderField, StringField, ReleaseField, Layout, Version, headerFrame, stringFrame, releaseFrame}
 use Rattle.rules.specs.Layout as layout
 
 unfoldable pub numberBytes : ℕ → ℕ → List ℕ
@@ -29,63 +29,42 @@ digitText v = cond (ltb v 10) (0x30 + v) (0x57 + v)
 unfoldable pub byteText : ℕ → List ℕ
 byteText b = digitText (b / 16) ∷ digitText (b % 16) ∷ []
 
-unfoldable pub frameBytes : Layout → (Field → ℕ) → List ℕ
-frameBytes l says = l .kind ∷ flatMap (λ s. numberBytes (s .size) (says (s .field))) (l .fields)
+unfoldable pub frameBytes : {F : Type 0} → Layout F → (F → ℕ) → List ℕ
+frameBytes l says = l .kind ∷ flatMap (λ f. numberBytes (l .size f) (says f)) (l .fields)
 
 unfoldable pub lineText : List ℕ → List ℕ
 lineText frame = flatMap byteText frame ++ (0x0a ∷ [])
 
--- ---- What the fields say; a field that a frame does not have says nothing
+-- ---- What the fields say
 
-abbrev pub headerSays : ℕ → Plan → Field → ℕ
-headerSays version p layout.Version = version
-headerSays version p layout.Count = p .n
-headerSays version p layout.Moving = stringAt p 1 .a .0
-headerSays version p layout.Run = p .run .0
-headerSays version p layout.X = 0
-headerSays version p layout.T = 0
-headerSays version p layout.C = 0
-headerSays version p layout.D = 0
-headerSays version p layout.Place = 0
-headerSays version p layout.Day = 0
-headerSays version p layout.Need = 0
+abbrev pub headerSays : ℕ → Plan → HeaderField → ℕ
+headerSays number p layout.Number = number
+headerSays number p layout.Count = p .n
+headerSays number p layout.Common = stringAt p 1 .a .0
+headerSays number p layout.Run = p .run .0
 
-abbrev pub stringSays : BatteryString → Field → ℕ
-stringSays s layout.Version = 0
-stringSays s layout.Count = 0
-stringSays s layout.Moving = s .a .0
-stringSays s layout.Run = 0
+abbrev pub stringSays : BatteryString → StringField → ℕ
 stringSays s layout.X = s .x
 stringSays s layout.T = s .t .0
 stringSays s layout.C = s .c .0
 stringSays s layout.D = s .d .0
-stringSays s layout.Place = 0
-stringSays s layout.Day = 0
-stringSays s layout.Need = 0
+stringSays s layout.Own = s .a .0
 
-abbrev pub releaseSays : Release → Field → ℕ
-releaseSays r layout.Version = 0
-releaseSays r layout.Count = 0
-releaseSays r layout.Moving = 0
-releaseSays r layout.Run = 0
-releaseSays r layout.X = 0
-releaseSays r layout.T = 0
-releaseSays r layout.C = 0
-releaseSays r layout.D = 0
+abbrev pub releaseSays : Release → ReleaseField → ℕ
 releaseSays r layout.Place = r .place
 releaseSays r layout.Day = r .day .0
 releaseSays r layout.Need = r .need .0
 
 -- ---- The text
 
-unfoldable pub headerText : Frames → Plan → List ℕ
-headerText v p = lineText (frameBytes (v .header) (headerSays (v .version) p))
+unfoldable pub headerText : Version → Plan → List ℕ
+headerText v p = lineText (frameBytes (headerFrame v) (headerSays (v .number) p))
 
-unfoldable pub stringText : Frames → BatteryString → List ℕ
-stringText v s = lineText (frameBytes (v .string) (stringSays s))
+unfoldable pub stringText : Version → BatteryString → List ℕ
+stringText v s = lineText (frameBytes (stringFrame v) (stringSays s))
 
-unfoldable pub releaseText : Frames → Release → List ℕ
-releaseText v r = lineText (frameBytes (v .release) (releaseSays r))
+unfoldable pub releaseText : Version → Release → List ℕ
+releaseText v r = lineText (frameBytes (releaseFrame v) (releaseSays r))
 
-unfoldable pub planText : Frames → Plan → List Release → List ℕ
+unfoldable pub planText : Version → Plan → List Release → List ℕ
 planText v p rs = headerText v p ++ flatMap (stringText v) (stringsOf p) ++ flatMap (releaseText v) rs

@@ -5,7 +5,7 @@ ghost use mathlib.Core.Path.{_≡_};
 ghost use mathlib.Core.List.{[], _∷_, _++_};
 ghost use Prim.Native.Nat.{_+_, _*_};
 ghost use lib.ListN.{length, take, drop};
-ghost use Rattle.writing.specs.Cells.{cellsSize, cellsText, Room};
+ghost use Rattle.writing.specs.inner.Cells.{cellsSize, cellsText, Room};
 
 // What a frame says in one place, its kind or a field: the number, and in how many bytes.
 pub(crate) struct Cell {

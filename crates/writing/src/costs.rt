@@ -1,11 +1,16 @@
-// Whether the strings of a plan have one moving cost, as version 01 can say it.
+// Whether a version can say a plan: version 01 has one moving cost for all strings.
+use faults::Checked;
+use faults::Fault;
+use layouts::Version;
 use rules::Plan;
+use rules::Releases;
 ghost use mathlib.Core.Path.{_≡_};
 ghost use Prim.Native.Nat.{_≤_};
-ghost use Rattle.writing.specs.Saved.{firstOther};
+ghost use Rattle.layouts.specs.inner.Versions.{meantBy, Known};
+ghost use Rattle.writing.specs.Saved.{firstOther, alikeCheck, writableCheck};
 
 // The first place whose moving cost is another than that of place 1; the place after the last where none is.
-pub(crate) fn first_other(p: Plan) -> usize
+fn first_other(p: Plan) -> usize
     requires { ⌜ (1 ≤ p .n) × (p .n ≤ 10) ⌝ }
     ensures exact { λ r. ⌜ r ≡ firstOther p ⌝ }
 {
@@ -21,4 +26,35 @@ pub(crate) fn first_other(p: Plan) -> usize
         i += 1;
     }
     n + 1
+}
+
+// 12 with that place, where the header says one moving cost for all strings.
+fn alike_check(p: Plan, version: Version) -> Checked
+    requires { ⌜ Known version ⌝ }
+    requires { ⌜ (1 ≤ p .n) × (p .n ≤ 10) ⌝ }
+    ensures exact { λ r. ⌜ r ≡ alikeCheck (meantBy version) (firstOther p) p ⌝ }
+{
+    if version.common.size == 0 {
+        return Checked::Lawful;
+    }
+    let other = first_other(p);
+    if p.n < other {
+        return Checked::Lawful;
+    }
+    Checked::Refused {
+        fault: Fault::CostsDiffer,
+        at: other,
+    }
+}
+
+// 4 to 8 as for numbers, then 12.
+pub(crate) fn writable_check(p: Plan, rs: Releases, version: Version) -> Checked
+    requires { ⌜ Known version ⌝ }
+    ensures exact { λ r. ⌜ r ≡ writableCheck (meantBy version) p rs ⌝ }
+{
+    let checked = bounds::run_check(p, rs);
+    match checked {
+        Checked::Lawful => alike_check(p, version),
+        Checked::Refused { fault, at } => Checked::Refused { fault, at },
+    }
 }

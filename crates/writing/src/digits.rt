@@ -4,7 +4,7 @@ ghost use mathlib.Core.List.{[], _∷_, _++_};
 ghost use Prim.Native.Nat.{_*_, _≤_, _<_};
 ghost use lib.ListN.{length, drop};
 ghost use Rattle.writing.specs.Written.{digitText, byteText};
-ghost use Rattle.writing.specs.Cells.{numberText};
+ghost use Rattle.writing.specs.inner.Cells.{numberText};
 
 fn digit(v: u32) -> u8
     requires { ⌜ v < 16 ⌝ }

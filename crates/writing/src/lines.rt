@@ -3,7 +3,6 @@ use super::cells::put_frame;
 use super::says::header_cells;
 use super::says::release_cells;
 use super::says::string_cells;
-use layouts::RELEASE_LINE;
 use layouts::Version;
 use rules::Plan;
 use rules::Releases;
@@ -13,17 +12,17 @@ ghost use Prim.Native.Nat.{_*_};
 ghost use lib.ListN.{length, drop};
 ghost use Rattle.rules.specs.Plan.{stringsOf};
 ghost use Rattle.rules.specs.Release.{releasesOf};
-ghost use Rattle.rules.specs.Layout.{version01, lineSize};
-ghost use Rattle.layouts.specs.Versions.{framesBy, Known};
+ghost use Rattle.rules.specs.Layout.{lineSize, stringFrame, releaseFrame};
+ghost use Rattle.layouts.specs.inner.Versions.{meantBy, Known};
 ghost use Rattle.writing.specs.Written.{stringText, releaseText, planText};
-ghost use Rattle.writing.specs.Cells.{StringsFit, ReleasesFit, PlanFits};
+ghost use Rattle.writing.specs.inner.Cells.{StringsFit, ReleasesFit, PlanFits};
 
 // A line for each string.
 fn put_strings(part: &mut [u8], p: Plan, version: Version)
     requires { ⌜ Known version ⌝ }
-    requires { ⌜ StringsFit (framesBy version) p (length (now part)) ⌝ }
-    ensures exact { λ r. ⌜ now (part .exit) ≡ flatMap (stringText (framesBy version)) (stringsOf p)
-        ++ drop (length (stringsOf p) * lineSize (framesBy version .string)) (now (part .entry)) ⌝ }
+    requires { ⌜ StringsFit (meantBy version) p (length (now part)) ⌝ }
+    ensures exact { λ r. ⌜ now (part .exit) ≡ flatMap (stringText (meantBy version)) (stringsOf p)
+        ++ drop (length (stringsOf p) * lineSize (stringFrame (meantBy version))) (now (part .entry)) ⌝ }
 {
     let n = p.n;
     let strings = p.strings;
@@ -36,18 +35,20 @@ fn put_strings(part: &mut [u8], p: Plan, version: Version)
     }
 }
 
-// A line for each release; all versions write it alike.
-fn put_releases(part: &mut [u8], rs: Releases)
-    requires { ⌜ ReleasesFit version01 rs (length (now part)) ⌝ }
-    ensures exact { λ r. ⌜ now (part .exit) ≡ flatMap (releaseText version01) (releasesOf rs)
-        ++ drop (length (releasesOf rs) * lineSize (version01 .release)) (now (part .entry)) ⌝ }
+// A line for each release.
+fn put_releases(part: &mut [u8], rs: Releases, version: Version)
+    requires { ⌜ Known version ⌝ }
+    requires { ⌜ ReleasesFit (meantBy version) rs (length (now part)) ⌝ }
+    ensures exact { λ r. ⌜ now (part .exit) ≡ flatMap (releaseText (meantBy version)) (releasesOf rs)
+        ++ drop (length (releasesOf rs) * lineSize (releaseFrame (meantBy version))) (now (part .entry)) ⌝ }
 {
     let count = rs.count;
     let list = rs.list;
+    let line = version.release.line;
     let mut i: usize = 0;
     while i < count {
         let r = list[i];
-        put_frame(&mut part[i * RELEASE_LINE..], release_cells(r), 4);
+        put_frame(&mut part[i * line..], release_cells(r, version), 4);
         i += 1;
     }
 }
@@ -55,13 +56,13 @@ fn put_releases(part: &mut [u8], rs: Releases)
 // The whole text: header, strings, releases.
 pub(crate) fn put_plan(part: &mut [u8], p: Plan, rs: Releases, version: Version)
     requires { ⌜ Known version ⌝ }
-    requires { ⌜ PlanFits (framesBy version) p rs (length (now part)) ⌝ }
-    ensures exact { λ r. ⌜ now (part .exit) ≡ planText (framesBy version) p (releasesOf rs)
-        ++ drop (length (planText (framesBy version) p (releasesOf rs))) (now (part .entry)) ⌝ }
+    requires { ⌜ PlanFits (meantBy version) p rs (length (now part)) ⌝ }
+    ensures exact { λ r. ⌜ now (part .exit) ≡ planText (meantBy version) p (releasesOf rs)
+        ++ drop (length (planText (meantBy version) p (releasesOf rs))) (now (part .entry)) ⌝ }
 {
     let header = version.header.line;
     let strings = p.n * version.string.line;
     put_frame(part, header_cells(p, version), 5);
     put_strings(&mut part[header..], p, version);
-    put_releases(&mut part[header + strings..], rs);
+    put_releases(&mut part[header + strings..], rs, version);
 }

@@ -1,9 +1,8 @@
 // What the frames of a plan say, cell by cell, in the layouts that the reader goes by.
 use super::cells::Cell;
 use layouts::HEADER_COUNT;
-use layouts::HEADER_VERSION;
+use layouts::HEADER_NUMBER;
 use layouts::KIND;
-use layouts::RELEASE;
 use layouts::RELEASE_DAY;
 use layouts::RELEASE_NEED;
 use layouts::RELEASE_PLACE;
@@ -16,16 +15,16 @@ use rules::BatteryString;
 use rules::Plan;
 use rules::Release;
 ghost use Prim.Native.Nat.{_≤_};
-ghost use Rattle.rules.specs.Layout.{version01};
-ghost use Rattle.layouts.specs.Versions.{framesBy, Known};
+ghost use Rattle.rules.specs.Layout.{headerFrame, stringFrame, releaseFrame};
+ghost use Rattle.layouts.specs.inner.Versions.{meantBy, Known};
 ghost use Rattle.writing.specs.Written.{headerSays, stringSays, releaseSays};
-ghost use Rattle.writing.specs.Cells.{SaysFrame};
+ghost use Rattle.writing.specs.inner.Cells.{SaysFrame};
 
 // The header: its kind and four fields. A moving cost for all strings is that of the first.
 pub(crate) fn header_cells(p: Plan, version: Version) -> [Cell; 7]
     requires { ⌜ Known version ⌝ }
     requires { ⌜ (1 ≤ p .n) × (p .n ≤ 10) ⌝ }
-    ensures exact { λ r. ⌜ SaysFrame r 5 (framesBy version .header) (headerSays (framesBy version .version) p) ⌝ }
+    ensures exact { λ r. ⌜ SaysFrame r 5 (headerFrame (meantBy version)) (headerSays (meantBy version .number) p) ⌝ }
 {
     let strings = p.strings;
     let first = strings[0];
@@ -36,7 +35,7 @@ pub(crate) fn header_cells(p: Plan, version: Version) -> [Cell; 7]
             value: version.header.kind,
         },
         Cell {
-            size: HEADER_VERSION.size,
+            size: HEADER_NUMBER.size,
             value: version.number,
         },
         Cell {
@@ -59,7 +58,7 @@ pub(crate) fn header_cells(p: Plan, version: Version) -> [Cell; 7]
 // A string: its kind and five fields.
 pub(crate) fn string_cells(s: BatteryString, version: Version) -> [Cell; 7]
     requires { ⌜ Known version ⌝ }
-    ensures exact { λ r. ⌜ SaysFrame r 6 (framesBy version .string) (stringSays s) ⌝ }
+    ensures exact { λ r. ⌜ SaysFrame r 6 (stringFrame (meantBy version)) (stringSays s) ⌝ }
 {
     let none = Cell { size: 0, value: 0 };
     [
@@ -92,15 +91,16 @@ pub(crate) fn string_cells(s: BatteryString, version: Version) -> [Cell; 7]
 }
 
 // A release: its kind and three fields.
-pub(crate) fn release_cells(r: Release) -> [Cell; 7]
+pub(crate) fn release_cells(r: Release, version: Version) -> [Cell; 7]
+    requires { ⌜ Known version ⌝ }
     requires { ⌜ r .place ≤ 10 ⌝ }
-    ensures exact { λ cells. ⌜ SaysFrame cells 4 (version01 .release) (releaseSays r) ⌝ }
+    ensures exact { λ cells. ⌜ SaysFrame cells 4 (releaseFrame (meantBy version)) (releaseSays r) ⌝ }
 {
     let none = Cell { size: 0, value: 0 };
     [
         Cell {
             size: KIND.size,
-            value: RELEASE.kind,
+            value: version.release.kind,
         },
         Cell {
             size: RELEASE_PLACE.size,

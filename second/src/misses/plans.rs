@@ -10,6 +10,7 @@ use crate::rules::rule::passes;
 /// Any plan; its N is often too short for a miss.
 pub fn any_plan(chance: &mut Chance) -> Plan {
     let mut plan = match chance.below(6) {
+        0 if chance.below(20) == 0 => crowded(chance),
         0 | 1 => border(chance).outside,
         2 => contrast(chance),
         3 => choices(chance),
@@ -21,6 +22,26 @@ pub fn any_plan(chance: &mut Chance) -> Plan {
     };
     plan.days = chance.between(1, 120);
     plan
+}
+
+/// Short strings that ask for every day there is, and a long one that asks for a day more: a list that misses has about 1,000 releases.
+fn crowded(chance: &mut Chance) -> Plan {
+    let few: Length = [1, 2, 4, 5, 8][chance.below(5) as usize];
+    let long: Length = [960, 1_000][chance.below(2) as usize];
+    let string = |t, x| BatteryString {
+        x,
+        t,
+        c: 1,
+        d: t,
+        moving: 0,
+    };
+    let mut strings: Vec<BatteryString> = (0..few).map(|_| string(few, 0)).collect();
+    strings.push(string(long, chance.below(2)));
+    Plan {
+        days: 1,
+        strings,
+        releases: Vec::new(),
+    }
 }
 
 /// A small plan that fails by its moving costs alone: with free moving it would pass.

@@ -1,19 +1,9 @@
 -- `answers::answer` meets its contract: what reading finds decides between the refusal and the three answers.
-use Prim.Native.Nat.{ℕ}
-use mathlib.Core.Path.{_≡_, refl, sym, ap, _∙_}
-use mathlib.Core.List.{List}
-use borrow.Author.Needs.{needs}
+use Rattle.base.proofs.Prelude.{ℕ, _≡_, refl, sym, ap, _∙_, List, needs}
 use Rattle.faults.specs.declared.Fault.{Fault}
-use Rattle.faults.specs.declared.Checked.the-variants as checked
-use Rattle.rules.specs.declared.Reading.{Reading}
-use Rattle.rules.specs.declared.Verdict.{Verdict}
-use Rattle.rules.specs.declared.Assign.{Assign}
-use Rattle.rules.specs.declared.Outcome.{Outcome}
-use Rattle.rules.specs.declared.Answer.the-variants.{Refused, Answered}
-use Rattle.rules.specs.Refusal.{verdictAnswer, searchAnswer, runAnswer}
-use Rattle.rules.specs.Text.{readingOf}
-use Rattle.rules.specs.Answer.{answered, answerOf}
+use Rattle.rules.specs.{declared.Reading.Reading, declared.Verdict.Verdict, declared.Assign.Assign, declared.Outcome.Outcome, declared.Answer.the-variants.{Refused, Answered}, Refusal.{verdictAnswer, searchAnswer, runAnswer}, Text.readingOf, Answer.{answered, answerOf}}
 use Rattle.answers.proofs.answer.Statement.{statement}
+use Rattle.faults.specs.declared.Checked.the-variants as checked
 use Rattle.answers.proofs.answer.Tie as tie
 
 -- what was read decides the answer
@@ -30,24 +20,6 @@ refused : (text : List ℕ) (r : Reading) (f : Fault) (at : ℕ) → r ≡ readi
     → Refused f at ≡ answerOf text
 unfolding answered
 refused text r f at e told = ap (λ k. answered k r) (sym told) ∙ whole text r e
-
-read-requires : tie.Need-read-requires
-read-requires c κs = search needs
-
-enum-told : tie.Need-enum-told
-enum-told c = search needs
-
-verdict-requires : tie.Need-verdict-requires
-verdict-requires c κs = search needs
-
-search-requires : tie.Need-search-requires
-search-requires c κs = search needs
-
-run-requires : tie.Need-run-requires
-run-requires c κs = search needs
-
-enum-known-checked : tie.Need-enum-known-checked
-enum-known-checked c = search needs
 
 returns : tie.Need-returns
 returns c =
@@ -66,13 +38,6 @@ returns-2 c =
 
 pub answer-spec : {M : Type 1} → statement M
 answer-spec =
-    tie.close
-    (tie.spec
-    read-requires
-    enum-told
-    verdict-requires
-    search-requires
-    run-requires
-    enum-known-checked
-    returns
-    returns-2)
+    tie.close (tie.spec
+    (λ c κs. search needs) (λ c. search needs) (λ c κs. search needs) (λ c κs. search needs) (λ c κs. search needs)
+    (λ c. search needs) returns returns-2)

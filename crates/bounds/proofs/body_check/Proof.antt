@@ -1,24 +1,8 @@
 -- `bounds::body_check` meets its contract: the strings decide first, then H.
-use mathlib.Core.Path.{sym, _∙_}
-use borrow.Author.Needs.{needs}
+use Rattle.base.proofs.Prelude.{sym, _∙_, needs}
 use Rattle.faults.proofs.Checks.{then-lawful, then-refused}
 use Rattle.bounds.proofs.body_check.Statement.{statement}
 use Rattle.bounds.proofs.body_check.Tie as tie
-
-strings-check-requires : tie.Need-strings-check-requires
-strings-check-requires c κs = search needs
-
-enum-told : tie.Need-enum-told
-enum-told c = search needs
-
-multiple-check-requires : tie.Need-multiple-check-requires
-multiple-check-requires c κs = search needs
-
-enum-known-strings : tie.Need-enum-known-strings
-enum-known-strings c = search needs
-
-refused-requires : tie.Need-refused-requires
-refused-requires c κs = search needs
 
 returns : tie.Need-returns
 returns c =
@@ -32,12 +16,6 @@ returns-2 c =
 
 pub body-check-spec : {M : Type 1} → statement M
 body-check-spec =
-    tie.close
-    (tie.spec
-    strings-check-requires
-    enum-told
-    multiple-check-requires
-    enum-known-strings
-    refused-requires
-    returns
+    tie.close (tie.spec
+    (λ c κs. search needs) (λ c. search needs) (λ c κs. search needs) (λ c. search needs) (λ c κs. search needs) returns
     returns-2)

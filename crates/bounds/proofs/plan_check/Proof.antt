@@ -1,25 +1,9 @@
 -- `bounds::plan_check` meets its contract: n and N decide first, then the strings and H.
-use mathlib.Core.Path.{sym, _∙_}
-use borrow.Author.Needs.{needs}
+use Rattle.base.proofs.Prelude.{sym, _∙_, needs}
 use Rattle.rules.specs.Refusal.{planCheck}
 use Rattle.faults.proofs.Checks.{then-lawful, then-refused}
 use Rattle.bounds.proofs.plan_check.Statement.{statement}
 use Rattle.bounds.proofs.plan_check.Tie as tie
-
-head-check-requires : tie.Need-head-check-requires
-head-check-requires c κs = search needs
-
-enum-told : tie.Need-enum-told
-enum-told c = search needs
-
-body-check-requires : tie.Need-body-check-requires
-body-check-requires c κs = search needs
-
-enum-known-head : tie.Need-enum-known-head
-enum-known-head c = search needs
-
-refused-requires : tie.Need-refused-requires
-refused-requires c κs = search needs
 
 returns : tie.Need-returns
 unfolding planCheck
@@ -35,12 +19,6 @@ returns-2 c =
 
 pub plan-check-spec : {M : Type 1} → statement M
 plan-check-spec =
-    tie.close
-    (tie.spec
-    head-check-requires
-    enum-told
-    body-check-requires
-    enum-known-head
-    refused-requires
-    returns
+    tie.close (tie.spec
+    (λ c κs. search needs) (λ c. search needs) (λ c κs. search needs) (λ c. search needs) (λ c κs. search needs) returns
     returns-2)

@@ -1,18 +1,9 @@
 -- `bounds::set_check` meets its contract: n and N decide first, then the set, then the strings and H.
-use Prim.Native.Nat.{ℕ, _^_, _≤_, _<_}
-use mathlib.Core.Path.{_≡_, sym, _∙_}
-use native.Mathlib.Omega.{arith}
-use borrow.Author.Tests.{le-leb, lt-leb}
-use borrow.Author.Needs.{needs}
-use Rattle.rules.specs.declared.Plan.{Plan}
-use Rattle.faults.specs.declared.Fault.the-variants.{OutOfBounds}
-use Rattle.faults.specs.declared.Checked.the-variants.{Lawful, Refused}
-use Rattle.rules.specs.Plan.{stringsOf}
-use Rattle.rules.specs.Refusal.{headCheck, stringsCheck, multipleCheck, setCheck}
-use Rattle.faults.specs.Checks.{then}
+use Rattle.base.proofs.Prelude.{ℕ, _^_, _≤_, _<_, _≡_, sym, _∙_, arith, le-leb, lt-leb, needs}
+use Rattle.rules.specs.{declared.Plan.Plan, Plan.stringsOf, Refusal.{headCheck, stringsCheck, multipleCheck, setCheck}}
+use Rattle.faults.specs.{declared.Fault.the-variants.OutOfBounds, declared.Checked.the-variants.{Lawful, Refused}, Checks.then}
 use Rattle.faults.proofs.Checks.{then-lawful, then-refused}
-use Rattle.laws.proofs.Lawful.{headCheck-lawful}
-use Rattle.laws.proofs.Powers.{shift-is-sets}
+use Rattle.laws.proofs.{Lawful.headCheck-lawful, Powers.shift-is-sets}
 use Rattle.bounds.proofs.set_check.Statement.{statement}
 use Rattle.bounds.proofs.set_check.Tie as tie
 
@@ -35,35 +26,11 @@ lawful c = sym (c .before .before .head-check .ensures) ∙ c .enum-told .given 
 few : (c : tie.After-enum-told) → planOf c .n ≤ 10
 few c = headCheck-lawful _ _ _ (lawful c) .nMax
 
-head-check-requires : tie.Need-head-check-requires
-head-check-requires c κs = search needs
-
-enum-told : tie.Need-enum-told
-enum-told c = search needs
-
-cast-if1 : tie.Need-cast-if1
-cast-if1 c = omega (arith, few c)
-
-shl-if1 : tie.Need-shl-if1
-shl-if1 c = omega (arith, few c)
-
-refused-requires : tie.Need-refused-requires
-refused-requires c κs = search needs
-
 returns : tie.Need-returns
 returns c =
     let told = c .before .before in
     let p = planOf told in
     c .refused .ensures ∙ sym (set-refuses p _ (lawful told) (omega (arith, shift-is-sets (p .n) (few told))))
-
-body-check-requires : tie.Need-body-check-requires
-body-check-requires c κs = search needs
-
-enum-known-head : tie.Need-enum-known-head
-enum-known-head c = search needs
-
-refused-requires-2 : tie.Need-refused-requires-2
-refused-requires-2 c κs = search needs
 
 returns-2 : tie.Need-returns-2
 returns-2 c =
@@ -79,16 +46,7 @@ returns-3 c =
 
 pub set-check-spec : {M : Type 1} → statement M
 set-check-spec =
-    tie.close
-    (tie.spec
-    head-check-requires
-    enum-told
-    cast-if1
-    shl-if1
-    refused-requires
-    returns
-    body-check-requires
-    enum-known-head
-    refused-requires-2
-    returns-2
+    tie.close (tie.spec
+    (λ c κs. search needs) (λ c. search needs) (λ c. omega (arith, few c)) (λ c. omega (arith, few c))
+    (λ c κs. search needs) returns (λ c κs. search needs) (λ c. search needs) (λ c κs. search needs) returns-2
     returns-3)

@@ -1,19 +1,7 @@
 -- `calendar::date_of` meets its contract: the day lies in its year and in its month.
-use Prim.Native.Nat.{_+_}
-use native.Mathlib.Omega.{arith}
-use borrow.Author.Needs.{needs}
-use Rattle.calendar.proofs.Places.{februaryOf-most, februaryOf-year, placed-date}
-use Rattle.calendar.proofs.date_of.Statement.{statement}
+use Rattle.base.proofs.Prelude.{_+_, arith, needs}
+use Rattle.calendar.proofs.{Places.{februaryOf-most, februaryOf-year, placed-date}, date_of.Statement.statement}
 use Rattle.calendar.proofs.date_of.Tie as tie
-
-in-year-requires : tie.Need-in-year-requires
-in-year-requires c κs = search needs
-
-add-year : tie.Need-add-year
-add-year c = search needs
-
-february-requires : tie.Need-february-requires
-february-requires c κs = search needs
 
 in-month-requires : tie.Need-in-month-requires
 in-month-requires c κs =
@@ -21,9 +9,6 @@ in-month-requires c κs =
     let y = 2000 + found .in-year .result .whole in
     let is = c .february .ensures in
     (omega (arith, februaryOf-most y), omega (arith, found .in-year .ensures .within, februaryOf-year y))
-
-add-t6 : tie.Need-add-t6
-add-t6 c = search needs
 
 returns : tie.Need-returns
 returns c =
@@ -33,4 +18,6 @@ returns c =
     placed-date _ _ _ _ _ (found .in-year .ensures) (rw (february .february .ensures) at (month .in-month .ensures))
 
 pub date-of-spec : {M : Type 1} → statement M
-date-of-spec = tie.close (tie.spec in-year-requires add-year february-requires in-month-requires add-t6 returns)
+date-of-spec =
+    tie.close (tie.spec
+    (λ c κs. search needs) (λ c. search needs) (λ c κs. search needs) in-month-requires (λ c. search needs) returns)

@@ -1,28 +1,12 @@
 -- `calendar::number_of` meets its contract: the days before the year, before the month and before the day, added up.
-use Prim.Native.Nat.{_+_, _-_}
-use mathlib.Core.Path.{_≡_, ap, _∙_}
-use native.Mathlib.Omega.{arith}
-use borrow.Author.Needs.{needs}
-use lib.ListN.{take}
-use Rattle.lists.specs.Count.{sumOf}
-use Rattle.calendar.specs.Years.{monthsWith, monthLengths}
-use Rattle.calendar.specs.Numbers.{daysBeforeYear, daysBeforeMonth, dayNumber}
-use Rattle.calendar.proofs.Existing.{Existing, existing, dayNumber-last}
-use Rattle.calendar.proofs.Places.{februaryOf-most}
-use Rattle.calendar.proofs.number_of.Statement.{statement}
+use Rattle.base.proofs.Prelude.{_+_, _-_, _≡_, ap, _∙_, arith, needs, take}
+use Rattle.base.specs.Count.{sumOf}
+use Rattle.calendar.specs.{Years.{monthsWith, monthLengths}, Numbers.{daysBeforeYear, daysBeforeMonth, dayNumber}}
+use Rattle.calendar.proofs.{Existing.{Existing, existing, dayNumber-last}, Places.februaryOf-most, number_of.Statement.statement}
 use Rattle.calendar.proofs.number_of.Tie as tie
 
 there : (c : tie.Start) → Existing (c .args .d)
 there c = existing (c .args .d) (c .pre)
-
-sub-year-start : tie.Need-sub-year-start
-sub-year-start c = there (c .before .before) .from-2000
-
-year-start-requires : tie.Need-year-start-requires
-year-start-requires c κs = omega (arith, there (c .before .before) .to-2399)
-
-february-requires : tie.Need-february-requires
-february-requires c κs = search needs
 
 month-start-requires : tie.Need-month-start-requires
 month-start-requires c κs =
@@ -50,26 +34,14 @@ add-result c =
     let start = c .before .before .before .before .before in
     omega (arith, counted c, dayNumber-last (start .args .d) (there start))
 
-sub-result : tie.Need-sub-result
-sub-result c = there (c .before .before .before .before .before .before) .first
-
 add-result-2 : tie.Need-add-result-2
 add-result-2 c =
     let start = c .before .before .before .before .before .before in
     omega (arith, counted (c .before), dayNumber-last (start .args .d) (there start))
 
-returns : tie.Need-returns
-returns c = counted (c .before)
-
 pub number-of-spec : {M : Type 1} → statement M
 number-of-spec =
-    tie.close
-    (tie.spec
-    sub-year-start
-    year-start-requires
-    february-requires
-    month-start-requires
-    add-result
-    sub-result
-    add-result-2
-    returns)
+    tie.close (tie.spec
+    (λ c. there (c .before .before) .from-2000) (λ c κs. omega (arith, there (c .before .before) .to-2399))
+    (λ c κs. search needs) month-start-requires add-result
+    (λ c. there (c .before .before .before .before .before .before) .first) add-result-2 (λ c. counted (c .before)))

@@ -1,26 +1,10 @@
 -- `desk_answer` meets its contract: the page that the lines are written on holds the answer's lines and no other text.
-use mathlib.Core.Path.{_≡_, refl, ap, _∙_}
-use native.Mathlib.Omega.{arith}
-use borrow.Author.Needs.{needs}
-use lib.ListN.{length, length-map}
+use Rattle.base.proofs.Prelude.{_≡_, refl, ap, _∙_, arith, needs, length, length-map}
 use Rattle.rules.specs.Lines.{linesFor}
 use Rattle.lines.specs.Pages.{pageOf, textOf}
 use Rattle.lines.proofs.Growing.{textOf-pageOf, len-is}
-use Rattle.entries.proofs.Telling.{text-as}
-use Rattle.entries.proofs.desk_answer.Statement.{statement}
+use Rattle.entries.proofs.{Telling.text-as, desk_answer.Statement.statement}
 use Rattle.entries.proofs.desk_answer.Tie as tie
-
-answer-requires : tie.Need-answer-requires
-answer-requires c κs = search needs
-
-written-requires : tie.Need-written-requires
-written-requires c κs = search needs
-
-tell-text-requires : tie.Need-tell-text-requires
-tell-text-requires c κs = search needs
-
-same-length : tie.Need-same-length
-same-length c = search needs
 
 returns : tie.Need-returns
 returns c =
@@ -35,4 +19,5 @@ returns c =
 
 pub desk-answer-spec : {M : Type 1} → statement M
 desk-answer-spec =
-    tie.close (tie.spec answer-requires written-requires tell-text-requires same-length returns)
+    tie.close (tie.spec
+    (λ c κs. search needs) (λ c κs. search needs) (λ c κs. search needs) (λ c. search needs) returns)

@@ -1,22 +1,8 @@
 -- `desk_day` meets its contract: the row is what the calendar answers.
-use mathlib.Core.Path.{ap, _∙_}
-use borrow.Author.Needs.{needs}
+use Rattle.base.proofs.Prelude.{ap, _∙_, needs}
 use Rattle.entries.specs.Told.{dayRow}
-use Rattle.entries.proofs.Telling.{told-as}
-use Rattle.entries.proofs.desk_day.Statement.{statement}
+use Rattle.entries.proofs.{Telling.told-as, desk_day.Statement.statement}
 use Rattle.entries.proofs.desk_day.Tie as tie
-
-day-number-requires : tie.Need-day-number-requires
-day-number-requires c κs = search needs
-
-day-row-requires : tie.Need-day-row-requires
-day-row-requires c κs = search needs
-
-tell-requires : tie.Need-tell-requires
-tell-requires c κs = search needs
-
-same-length : tie.Need-same-length
-same-length c = search needs
 
 returns : tie.Need-returns
 returns c =
@@ -27,4 +13,5 @@ returns c =
 
 pub desk-day-spec : {M : Type 1} → statement M
 desk-day-spec =
-    tie.close (tie.spec day-number-requires day-row-requires tell-requires same-length returns)
+    tie.close (tie.spec
+    (λ c κs. search needs) (λ c κs. search needs) (λ c κs. search needs) (λ c. search needs) returns)

@@ -1,27 +1,10 @@
 -- `desk_quick` meets its contract: the numbers are the plan, and the row is what the answer says.
-use mathlib.Core.Path.{refl}
-use borrow.Author.Needs.{needs}
-use Rattle.growth.specs.Quick.{quickAnswer}
+use Rattle.base.proofs.Prelude.{refl, needs}
+use Rattle.demand.specs.Quick.{quickAnswer}
 use Rattle.rules.specs.Said.{verdictSays}
 use Rattle.entries.specs.Told.{rowOf}
-use Rattle.entries.proofs.Telling.{told-plan}
-use Rattle.entries.proofs.desk_quick.Statement.{statement}
+use Rattle.entries.proofs.{Telling.told-plan, desk_quick.Statement.statement}
 use Rattle.entries.proofs.desk_quick.Tie as tie
-
-plan-given-requires : tie.Need-plan-given-requires
-plan-given-requires c κs = search needs
-
-quick-requires : tie.Need-quick-requires
-quick-requires c κs = search needs
-
-verdict-row-requires : tie.Need-verdict-row-requires
-verdict-row-requires c κs = search needs
-
-tell-requires : tie.Need-tell-requires
-tell-requires c κs = search needs
-
-same-length : tie.Need-same-length
-same-length c = search needs
 
 returns : tie.Need-returns
 returns c =
@@ -35,11 +18,6 @@ returns c =
 
 pub desk-quick-spec : {M : Type 1} → statement M
 desk-quick-spec =
-    tie.close
-    (tie.spec
-    plan-given-requires
-    quick-requires
-    verdict-row-requires
-    tell-requires
-    same-length
+    tie.close (tie.spec
+    (λ c κs. search needs) (λ c κs. search needs) (λ c κs. search needs) (λ c κs. search needs) (λ c. search needs)
     returns)

@@ -1,27 +1,9 @@
 -- `desk_verdict_with` meets its contract: the numbers are the plan, and the row is what the answer says.
-use mathlib.Core.Path.{refl}
-use borrow.Author.Needs.{needs}
-use Rattle.rules.specs.Refusal.{setAnswer}
-use Rattle.rules.specs.Said.{verdictSays}
+use Rattle.base.proofs.Prelude.{refl, needs}
+use Rattle.rules.specs.{Refusal.setAnswer, Said.verdictSays}
 use Rattle.entries.specs.Told.{rowOf}
-use Rattle.entries.proofs.Telling.{told-plan}
-use Rattle.entries.proofs.desk_verdict_with.Statement.{statement}
+use Rattle.entries.proofs.{Telling.told-plan, desk_verdict_with.Statement.statement}
 use Rattle.entries.proofs.desk_verdict_with.Tie as tie
-
-plan-given-requires : tie.Need-plan-given-requires
-plan-given-requires c κs = search needs
-
-verdict-with-requires : tie.Need-verdict-with-requires
-verdict-with-requires c κs = search needs
-
-verdict-row-requires : tie.Need-verdict-row-requires
-verdict-row-requires c κs = search needs
-
-tell-requires : tie.Need-tell-requires
-tell-requires c κs = search needs
-
-same-length : tie.Need-same-length
-same-length c = search needs
 
 returns : tie.Need-returns
 returns c =
@@ -36,11 +18,6 @@ returns c =
 
 pub desk-verdict-with-spec : {M : Type 1} → statement M
 desk-verdict-with-spec =
-    tie.close
-    (tie.spec
-    plan-given-requires
-    verdict-with-requires
-    verdict-row-requires
-    tell-requires
-    same-length
+    tie.close (tie.spec
+    (λ c κs. search needs) (λ c κs. search needs) (λ c κs. search needs) (λ c κs. search needs) (λ c. search needs)
     returns)

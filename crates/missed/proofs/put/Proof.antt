@@ -1,29 +1,7 @@
 -- `put` meets its contract: each answer of the search for releases is shown as it is to be.
-use borrow.Author.Needs.{needs}
-use Rattle.missed.proofs.AsFound.{put-refused, put-passes, put-none, put-many, put-shown}
-use Rattle.missed.proofs.put.Statement.{statement}
+use Rattle.base.proofs.Prelude.{needs}
+use Rattle.missed.proofs.{AsFound.{put-refused, put-passes, put-none, put-many, put-shown}, put.Statement.statement}
 use Rattle.missed.proofs.put.Tie as tie
-
-releases-that-miss-requires : tie.Need-releases-that-miss-requires
-releases-that-miss-requires c κs = search needs
-
-enum-known-missing : tie.Need-enum-known-missing
-enum-known-missing c = search needs
-
-enum-told : tie.Need-enum-told
-enum-told c = search needs
-
-enum-told-2 : tie.Need-enum-told-2
-enum-told-2 c = search needs
-
-enum-told-3 : tie.Need-enum-told-3
-enum-told-3 c = search needs
-
-enum-known-missing-2 : tie.Need-enum-known-missing-2
-enum-known-missing-2 c = search needs
-
-show-requires : tie.Need-show-requires
-show-requires c κs = search needs
 
 returns : tie.Need-returns
 returns c =
@@ -53,9 +31,6 @@ returns-4 c =
     put-many (g .p) (found .releases-that-miss .result) (g .page .now) (g .at) (found .releases-that-miss .ensures)
     (c .enum-told3 .given .1)
 
-same-length : tie.Need-same-length
-same-length c = search needs
-
 returns-5 : tie.Need-returns-5
 returns-5 c =
     let show = c .before .before in
@@ -67,18 +42,6 @@ returns-5 c =
 
 pub put-spec : {M : Type 1} → statement M
 put-spec =
-    tie.close
-    (tie.spec
-    releases-that-miss-requires
-    enum-known-missing
-    enum-told
-    enum-told-2
-    enum-told-3
-    enum-known-missing-2
-    show-requires
-    returns
-    returns-2
-    returns-3
-    returns-4
-    same-length
-    returns-5)
+    tie.close (tie.spec
+    (λ c κs. search needs) (λ c. search needs) (λ c. search needs) (λ c. search needs) (λ c. search needs)
+    (λ c. search needs) (λ c κs. search needs) returns returns-2 returns-3 returns-4 (λ c. search needs) returns-5)

@@ -1,26 +1,18 @@
 -- `reading::read_body` meets its contract: the strings decide first, then what follows them.
-use Prim.Native.Nat.{ℕ, _≤_}
-use mathlib.Core.Path.{_≡_, sym, ap, _∙_}
-use mathlib.Core.List.{List}
-use native.Mathlib.Omega.{arith}
-use borrow.Author.Needs.{needs}
+use Rattle.base.proofs.Prelude.{ℕ, _≤_, _≡_, sym, ap, _∙_, List, arith, needs}
 use Rattle.faults.specs.declared.Checked.the-variants.{Lawful}
-use Rattle.rules.specs.Layout.{Frames, Count}
-use Rattle.rules.specs.Text.{nIn, stringLinesCheck}
-use Rattle.layouts.specs.Versions.{framesBy}
+use Rattle.rules.specs.{Layout.{Version, Count, headerFrame}, Text.{nIn, stringLinesCheck}}
+use Rattle.layouts.specs.inner.Versions.{meantBy}
 use Rattle.layouts.proofs.Versions.{count-place, header-line, header-line-short}
-use Rattle.reading.specs.Positions.{linesFrom, lineAt, stringsAt, StringsRead}
-use Rattle.reading.proofs.Said.{field-room, field-said}
-use Rattle.reading.proofs.StringLines.{strings-stand}
-use Rattle.reading.proofs.Whole.{header-few, header-inside, planned, body-rest, body-refused}
-use Rattle.reading.proofs.read_body.Statement.{statement}
+use Rattle.reading.specs.inner.Positions.{linesFrom, lineAt, stringsAt, StringsRead}
+use Rattle.reading.proofs.{Said.{field-room, field-said}, StringLines.strings-stand, Whole.{header-few, header-inside, planned, body-rest, body-refused}, read_body.Statement.statement}
 use Rattle.reading.proofs.read_body.Tie as tie
 
 abbrev textOf : tie.Start → List ℕ
 textOf b = b .args .text .now
 
-abbrev versionOf : tie.Start → Frames
-versionOf b = framesBy (b .args .version)
+abbrev versionOf : tie.Start → Version
+versionOf b = meantBy (b .args .version)
 
 abbrev begin : tie.After-field-at → tie.Start
 begin c = c .before .before
@@ -38,7 +30,7 @@ unfolding nIn
 n-read c =
     let b = begin c in
     c .field-at .ensures
-    ∙ field-said (textOf b) 0 (versionOf b .header) Count _ (count-place (b .args .version .number)) (b .pre .1 .frame)
+    ∙ field-said (textOf b) 0 (headerFrame (versionOf b)) Count _ (count-place (b .args .version .number)) (b .pre .1 .frame)
 
 few : (c : tie.After-field-at) → c .field-at .result ≤ 10
 few c = omega (arith, n-read c, header-few (versionOf (begin c)) _ (begin c .pre .1))
@@ -72,10 +64,7 @@ strings c =
 field-at-requires : tie.Need-field-at-requires
 field-at-requires c κs =
     let b = c .before in
-    field-room (textOf b) 0 (versionOf b .header) Count _ (count-place (b .args .version .number)) (b .pre .1 .frame) (omega arith)
-
-cast-n : tie.Need-cast-n
-cast-n c = search needs
+    field-room (textOf b) 0 (headerFrame (versionOf b)) Count _ (count-place (b .args .version .number)) (b .pre .1 .frame) (omega arith)
 
 string-lines-check-requires : tie.Need-string-lines-check-requires
 string-lines-check-requires c κs =
@@ -84,24 +73,12 @@ string-lines-check-requires c κs =
     let short = header-line-short (b .args .version) (b .pre .0) in
     (b .pre .0, (b .pre .1 .frame, (omega (arith, start-is b), omega arith, few c)))
 
-enum-told : tie.Need-enum-told
-enum-told c = search needs
-
 plan-in-requires : tie.Need-plan-in-requires
 plan-in-requires c κs =
     let read = reading (c .before .before) in
     let b = begin read in
     let stand = strings-stand (versionOf b) _ _ (stringsAt (versionOf b)) 2 _ (header-inside (versionOf b) _ (b .pre .1)) (lawful c) in
     (b .pre .0, (b .pre .1 .frame, ((start-is b, n-read read, few read), rw (start-is b) stand)))
-
-read-rest-requires : tie.Need-read-rest-requires
-read-rest-requires c κs = (begin (told c) .pre .0, strings c)
-
-enum-known-strings : tie.Need-enum-known-strings
-enum-known-strings c = search needs
-
-refusal-requires : tie.Need-refusal-requires
-refusal-requires c κs = search needs
 
 returns : tie.Need-returns
 returns c = c .read-rest .ensures ∙ sym (body-rest (versionOf (begin (told (c .before)))) _ _ (strings (c .before)))
@@ -120,15 +97,6 @@ returns-2 c =
 
 pub read-body-spec : {M : Type 1} → statement M
 read-body-spec =
-    tie.close
-    (tie.spec
-    field-at-requires
-    cast-n
-    string-lines-check-requires
-    enum-told
-    plan-in-requires
-    read-rest-requires
-    enum-known-strings
-    refusal-requires
-    returns
-    returns-2)
+    tie.close (tie.spec
+    field-at-requires (λ c. search needs) string-lines-check-requires (λ c. search needs) plan-in-requires
+    (λ c κs. (begin (told c) .pre .0, strings c)) (λ c. search needs) (λ c κs. search needs) returns returns-2)

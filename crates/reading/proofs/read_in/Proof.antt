@@ -1,16 +1,10 @@
 -- `reading::read_in` meets its contract: the length decides first, then the first line, then the body.
-use Prim.Native.Nat.{ℕ}
-use mathlib.Core.Path.{_≡_, sym, _∙_}
-use mathlib.Core.List.{List}
-use native.Mathlib.Omega.{arith}
-use borrow.Author.Needs.{needs}
+use Rattle.base.proofs.Prelude.{ℕ, _≡_, sym, _∙_, List, arith, needs}
 use Rattle.faults.specs.declared.Checked.the-variants.{Lawful}
-use Rattle.rules.specs.Layout.{Frames}
-use Rattle.rules.specs.Text.{headerCheck}
-use Rattle.layouts.specs.Versions.{framesBy}
-use Rattle.reading.specs.Positions.{lineAt}
-use Rattle.reading.proofs.Whole.{header-read, read-long, read-empty, read-refused, read-body}
-use Rattle.reading.proofs.read_in.Statement.{statement}
+use Rattle.rules.specs.{Layout.Version, Text.headerCheck}
+use Rattle.layouts.specs.inner.Versions.{meantBy}
+use Rattle.reading.specs.inner.Positions.{lineAt}
+use Rattle.reading.proofs.{Whole.{header-read, read-long, read-empty, read-refused, read-body}, read_in.Statement.statement}
 use Rattle.reading.proofs.read_in.Tie as tie
 
 abbrev start : tie.After-header-check → tie.Start
@@ -19,44 +13,26 @@ start c = c .before .before .before .before
 abbrev textOf : tie.Start → List ℕ
 textOf s = s .args .text .now
 
-abbrev versionOf : tie.Start → Frames
-versionOf s = framesBy (s .args .version)
+abbrev versionOf : tie.Start → Version
+versionOf s = meantBy (s .args .version)
 
 -- what the header's check said
 lawful : (c : tie.After-enum-told)
     → headerCheck (versionOf (start (c .before .before))) (lineAt (textOf (start (c .before .before))) 0) ≡ Lawful
 lawful c = sym (c .before .before .header-check .ensures) ∙ c .enum-told .given .1
 
-refusal-requires : tie.Need-refusal-requires
-refusal-requires c κs = search needs
-
 returns : tie.Need-returns
 returns c = c .refusal .ensures ∙ sym (read-long (versionOf (c .before .before .before)) _ (c .before .if1 .taken))
-
-refusal-requires-2 : tie.Need-refusal-requires-2
-refusal-requires-2 c κs = search needs
 
 returns-2 : tie.Need-returns-2
 returns-2 c =
     let first = c .before .before in
     c .refusal2 .ensures ∙ sym (read-empty (versionOf (first .before .before)) _ (first .if1 .left) (c .before .if2 .taken))
 
-header-check-requires : tie.Need-header-check-requires
-header-check-requires c κs = search needs
-
-enum-told : tie.Need-enum-told
-enum-told c = search needs
-
 read-body-requires : tie.Need-read-body-requires
 read-body-requires c κs =
     let s = start (c .before .before) in
     (s .pre, header-read (versionOf s) _ (lawful c))
-
-enum-known-header : tie.Need-enum-known-header
-enum-known-header c = search needs
-
-refusal-requires-3 : tie.Need-refusal-requires-3
-refusal-requires-3 c κs = search needs
 
 returns-3 : tie.Need-returns-3
 returns-3 c =
@@ -74,16 +50,6 @@ returns-4 c =
 
 pub read-in-spec : {M : Type 1} → statement M
 read-in-spec =
-    tie.close
-    (tie.spec
-    refusal-requires
-    returns
-    refusal-requires-2
-    returns-2
-    header-check-requires
-    enum-told
-    read-body-requires
-    enum-known-header
-    refusal-requires-3
-    returns-3
-    returns-4)
+    tie.close (tie.spec
+    (λ c κs. search needs) returns (λ c κs. search needs) returns-2 (λ c κs. search needs) (λ c. search needs)
+    read-body-requires (λ c. search needs) (λ c κs. search needs) returns-3 returns-4)

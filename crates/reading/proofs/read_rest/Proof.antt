@@ -1,38 +1,20 @@
 -- `reading::read_rest` meets its contract: H decides first, then the release lines.
-use mathlib.Core.Path.{sym, _∙_}
-use native.Mathlib.Omega.{arith}
-use borrow.Author.Needs.{needs}
-use Rattle.rules.specs.Layout.{Frames}
-use Rattle.layouts.specs.Versions.{framesBy}
-use Rattle.reading.proofs.Whole.{strings-few, rest-list, rest-refused}
-use Rattle.reading.proofs.read_rest.Statement.{statement}
+use Rattle.base.proofs.Prelude.{sym, _∙_, arith, needs}
+use Rattle.rules.specs.Layout.{Version}
+use Rattle.layouts.specs.inner.Versions.{meantBy}
+use Rattle.reading.proofs.{Whole.{strings-few, rest-list, rest-refused}, read_rest.Statement.statement}
 use Rattle.reading.proofs.read_rest.Tie as tie
 
 abbrev begin : tie.After-multiple-check → tie.Start
 begin c = c .before .before .before
 
-abbrev versionOf : tie.Start → Frames
-versionOf b = framesBy (b .args .version)
+abbrev versionOf : tie.Start → Version
+versionOf b = meantBy (b .args .version)
 
 add-multiple-check : tie.Need-add-multiple-check
 add-multiple-check c =
     let b = c .before .before in
     omega (arith, strings-few (versionOf b) _ _ (b .pre .1))
-
-multiple-check-requires : tie.Need-multiple-check-requires
-multiple-check-requires c κs = search needs
-
-enum-told : tie.Need-enum-told
-enum-told c = search needs
-
-read-list-requires : tie.Need-read-list-requires
-read-list-requires c κs = begin (c .before .before) .pre
-
-enum-known-multiple : tie.Need-enum-known-multiple
-enum-known-multiple c = search needs
-
-refusal-requires : tie.Need-refusal-requires
-refusal-requires c κs = search needs
 
 returns : tie.Need-returns
 returns c =
@@ -52,13 +34,6 @@ returns-2 c =
 
 pub read-rest-spec : {M : Type 1} → statement M
 read-rest-spec =
-    tie.close
-    (tie.spec
-    add-multiple-check
-    multiple-check-requires
-    enum-told
-    read-list-requires
-    enum-known-multiple
-    refusal-requires
-    returns
-    returns-2)
+    tie.close (tie.spec
+    add-multiple-check (λ c κs. search needs) (λ c. search needs) (λ c κs. begin (c .before .before) .pre)
+    (λ c. search needs) (λ c κs. search needs) returns returns-2)

@@ -1,30 +1,12 @@
 -- `run::run_days` meets its contract: at the start of each day the code stands where the definition does.
-use Prim.Native.Nat.{ℕ, _-_, _≤_, _<_}
-use mathlib.Core.Path.{_≡_, refl, sym, ap, _∙_}
-use mathlib.Core.List.{List}
-use mathlib.Core.Logic.{⊎-elim}
-use native.Mathlib.Omega.{arith}
-use native.Mathlib.Decide.{ℕ-discrete}
-use borrow.Author.Tests.{ltb-true, ltb-false}
-use lib.ListN.{length, take, getD, length-map}
-use lib.Seq.{length-take-le, getD-take}
-use Rattle.days.specs.declared.Day.{Day}
-use Rattle.days.specs.Days.{day}
-use Rattle.rules.specs.declared.Plan.{Plan}
-use Rattle.rules.specs.declared.Release.{Release}
-use Rattle.rules.specs.declared.Outcome.the-variants.{Miss}
-use Rattle.rules.specs.Release.{noRelease, releasesOf}
-use Rattle.rules.specs.Run.{emptySlot, lateAt, lateOn, runOf}
-use Rattle.run.specs.Tally.{tallyOf}
-use Rattle.lists.proofs.Order.{take-map}
-use Rattle.laws.proofs.History.{runOf-late}
+use Rattle.base.proofs.Prelude.{ℕ, _-_, _≤_, _<_, _≡_, refl, sym, ap, _∙_, List, ⊎-elim, arith, ℕ-discrete, ltb-true, ltb-false, length, take, getD, length-map, length-take-le, getD-take}
+use Rattle.days.specs.{declared.Day.Day, Days.day}
+use Rattle.rules.specs.{declared.Plan.Plan, declared.Release.Release, declared.Outcome.the-variants.Miss, Release.{noRelease, releasesOf}, Run.{emptySlot, lateAt, lateOn, runOf}}
+use Rattle.run.specs.inner.Tally.{tallyOf}
+use Rattle.base.proofs.Order.{take-map}
+use Rattle.laws.proofs.{History.runOf-late, ReleaseList.{LawfulRelease, release-lawful, listed-sorted}}
 use Rattle.slots.proofs.Questions.{late-asked}
-use Rattle.laws.proofs.ReleaseList.{LawfulRelease, release-lawful, listed-sorted}
-use Rattle.run.proofs.MayJoin.{listed-joins}
-use Rattle.run.proofs.State.{joined-affords}
-use Rattle.run.proofs.Counting.{tallyOf-under, runOf-tally}
-use Rattle.run.proofs.Daily.{Standing, Joining, Joined, standing-start, standing-late, joining-start, joining-more, joined-last, joined-before, joined-quiet, standing-next}
-use Rattle.run.proofs.run_days.Statement.{statement}
+use Rattle.run.proofs.{MayJoin.listed-joins, State.joined-affords, Counting.{tallyOf-under, runOf-tally}, Daily.{Standing, Joining, Joined, standing-start, standing-late, joining-start, joining-more, joined-last, joined-before, joined-quiet, standing-next}, run_days.Statement.statement}
 use Rattle.run.proofs.run_days.Tie as tie
 
 abbrev Inv-loop2 : tie.InvT-loop2
@@ -74,23 +56,11 @@ listed : (c : tie.Start Inv-loop2 μ-loop2 Inv-loop μ-loop) (i : ℕ) → i < c
     → LawfulRelease (c .args .p) (getD (c .args .rs .list) i noRelease)
 listed c i h = rw (read-is c i h) at (release-lawful (c .args .p) (releasesOf (c .args .rs)) (c .pre .none-bad) i (omega (arith, whole c)))
 
-day-after-requires : tie.Need-day-after-requires Inv-loop2 μ-loop2 Inv-loop μ-loop
-day-after-requires c κs = omega (arith, c .pre .plan .runMax)
-
-empty-slots-requires : tie.Need-empty-slots-requires Inv-loop2 μ-loop2 Inv-loop μ-loop
-empty-slots-requires c κs = tt
-
 loop-holds : tie.Need-loop-holds Inv-loop2 μ-loop2 Inv-loop μ-loop
 loop-holds c =
     let g = c .before .before .before .before .args in
     let first = ap (take (g .p .n)) (c .empty-slots .ensures) ∙ take-map emptySlot (g .p .n) (g .p .strings) in
     (omega arith, standing-start first refl)
-
-before-requires : tie.Need-before-requires Inv-loop2 μ-loop2 Inv-loop μ-loop
-before-requires c κs = tt
-
-chosen-place-requires : tie.Need-chosen-place-requires Inv-loop2 μ-loop2 Inv-loop μ-loop
-chosen-place-requires c κs = tt
 
 -- ---- Step 1
 
@@ -120,29 +90,11 @@ returns c =
     let miss = missed-on o (λ z. c .if2 .taken (late ∙ z)) in
     rw late (sym miss)
 
-loop2-holds : tie.Need-loop2-holds Inv-loop2 μ-loop2 Inv-loop μ-loop
-loop2-holds c = joining-start (today (c .before) .loop .inv .1)
-
-mul-r : tie.Need-mul-r Inv-loop2 μ-loop2 Inv-loop μ-loop
-mul-r c = omega arith
-
-array-copy-out-r : tie.Need-array-copy-out-r Inv-loop2 μ-loop2 Inv-loop μ-loop
-array-copy-out-r c = omega arith
-
-add-join : tie.Need-add-join Inv-loop2 μ-loop2 Inv-loop μ-loop
-add-join c = omega arith
-
 join-requires : tie.Need-join-requires Inv-loop2 μ-loop2 Inv-loop μ-loop
 join-requires c κs =
     let i = c .before .before .before .before .before in
     let s = start (today (i .before .before)) in
     listed-joins (s .args .p) _ (s .pre .plan) (ten s) (listed s (i .loop2 .next) (omega arith))
-
-add-next : tie.Need-add-next Inv-loop2 μ-loop2 Inv-loop μ-loop
-add-next c = omega arith
-
-loop2-less : tie.Need-loop2-less Inv-loop2 μ-loop2 Inv-loop μ-loop
-loop2-less c = omega arith
 
 loop2-again : tie.Need-loop2-again Inv-loop2 μ-loop2 Inv-loop μ-loop
 loop2-again c =
@@ -231,18 +183,12 @@ late-is-last c =
     c .chosen-place2 .ensures ∙ late-asked _ _ ∙ ap (λ t. lateAt t (take (planOf o .n) (o .loop .slots))) last
     ∙ standing-late (o .loop .inv .1)
 
-chosen-place-requires-2 : tie.Need-chosen-place-requires-2 Inv-loop2 μ-loop2 Inv-loop μ-loop
-chosen-place-requires-2 c κs = tt
-
 returns-2 : tie.Need-returns-2 Inv-loop2 μ-loop2 Inv-loop μ-loop
 returns-2 c =
     let o = evening (c .before) in
     let late = late-is-last (c .before) in
     let miss = missed-on o (λ z. c .if4 .taken (late ∙ z)) in
     ap (λ k. Miss (day k) (c .before .chosen-place2 .result)) (over (c .before)) ∙ ap (Miss (day (o .loop .today .0))) late ∙ sym miss
-
-clean-requires : tie.Need-clean-requires Inv-loop2 μ-loop2 Inv-loop μ-loop
-clean-requires c κs = tt
 
 returns-3 : tie.Need-returns-3 Inv-loop2 μ-loop2 Inv-loop μ-loop
 returns-3 c =
@@ -257,32 +203,8 @@ returns-3 c =
 
 pub run-days-spec : {M : Type 1} → statement M
 run-days-spec =
-    tie.close
-    (tie.spec
-    Inv-loop2
-    μ-loop2
-    Inv-loop
-    μ-loop
-    day-after-requires
-    empty-slots-requires
-    loop-holds
-    before-requires
-    chosen-place-requires
-    returns
-    loop2-holds
-    mul-r
-    array-copy-out-r
-    add-join
-    join-requires
-    add-next
-    loop2-less
-    loop2-again
-    rest-of-day-requires
-    counted-requires
-    day-after-requires-2
-    loop-less
-    loop-again
-    chosen-place-requires-2
-    returns-2
-    clean-requires
-    returns-3)
+    tie.close (tie.spec
+    Inv-loop2 μ-loop2 Inv-loop μ-loop (λ c κs. omega (arith, c .pre .plan .runMax)) (λ c κs. tt) loop-holds (λ c κs. tt)
+    (λ c κs. tt) returns (λ c. joining-start (today (c .before) .loop .inv .1)) (λ c. omega arith) (λ c. omega arith)
+    (λ c. omega arith) join-requires (λ c. omega arith) (λ c. omega arith) loop2-again rest-of-day-requires
+    counted-requires day-after-requires-2 loop-less loop-again (λ c κs. tt) returns-2 (λ c κs. tt) returns-3)

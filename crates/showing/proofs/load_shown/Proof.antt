@@ -1,27 +1,10 @@
 -- `showing::load_shown` meets its contract: the figures say H and the load, or the refusal.
-use mathlib.Core.Path.{ap, _∙_}
-use borrow.Author.Needs.{needs}
+use Rattle.base.proofs.Prelude.{ap, _∙_, needs}
 use Rattle.faults.specs.declared.Checked.the-variants.{Lawful}
 use Rattle.lines.specs.Pages.{pageOf}
 use Rattle.showing.specs.Shown.{loadShown}
-use Rattle.showing.proofs.Figured.{checked-is, load-is}
-use Rattle.showing.proofs.load_shown.Statement.{statement}
+use Rattle.showing.proofs.{Figured.{checked-is, load-is}, load_shown.Statement.statement}
 use Rattle.showing.proofs.load_shown.Tie as tie
-
-figures-requires : tie.Need-figures-requires
-figures-requires c κs = search needs
-
-enum-told : tie.Need-enum-told
-enum-told c = search needs
-
-load-line-requires : tie.Need-load-line-requires
-load-line-requires c κs = search needs
-
-enum-known-checked : tie.Need-enum-known-checked
-enum-known-checked c = search needs
-
-refused-requires : tie.Need-refused-requires
-refused-requires c κs = search needs
 
 returns : tie.Need-returns
 unfolding loadShown
@@ -43,12 +26,6 @@ returns-2 c =
 
 pub load-shown-spec : {M : Type 1} → statement M
 load-shown-spec =
-    tie.close
-    (tie.spec
-    figures-requires
-    enum-told
-    load-line-requires
-    enum-known-checked
-    refused-requires
-    returns
+    tie.close (tie.spec
+    (λ c κs. search needs) (λ c. search needs) (λ c κs. search needs) (λ c. search needs) (λ c κs. search needs) returns
     returns-2)

@@ -1,24 +1,14 @@
 -- `showing::release_shown` meets its contract: the release stands below the count and in the list.
-use mathlib.Core.Path.{_≡_, ap, _∙_}
-use native.Mathlib.Omega.{arith}
-use borrow.Author.Needs.{needs}
-use lib.ListN.{length, length-map}
+use Rattle.base.proofs.Prelude.{_≡_, ap, _∙_, arith, needs, length, length-map}
 use Rattle.lines.specs.Pages.{pageOf}
-use Rattle.showing.proofs.InPlace.{blank-shown, release-none, release-there}
-use Rattle.showing.proofs.release_shown.Statement.{statement}
+use Rattle.showing.proofs.{InPlace.{blank-shown, release-none, release-there}, release_shown.Statement.statement}
 use Rattle.showing.proofs.release_shown.Tie as tie
-
-blank-requires : tie.Need-blank-requires
-blank-requires c κs = search needs
 
 returns : tie.Need-returns
 returns c =
     let start = c .before .before in
     let small = c .before .if1 .taken in
     blank-shown _ _ (c .blank .ensures) (release-none (start .args .rs) (start .args .k) (λ low high room. omega arith))
-
-blank-requires-2 : tie.Need-blank-requires-2
-blank-requires-2 c κs = search needs
 
 returns-2 : tie.Need-returns-2
 returns-2 c =
@@ -30,24 +20,12 @@ returns-2 c =
 places : (c : tie.Start) → length (c .args .rs .list) ≡ 1000
 places c = simp length-map at (c .good .0 .1 .1 .1 .0 .1 .0 .1)
 
-blank-requires-3 : tie.Need-blank-requires-3
-blank-requires-3 c κs = search needs
-
 returns-3 : tie.Need-returns-3
 returns-3 c =
     let start = c .before .before .before .before in
     let past = c .before .if3 .taken in
     let thousand = places start in
     blank-shown _ _ (c .blank3 .ensures) (release-none (start .args .rs) (start .args .k) (λ low high room. omega arith))
-
-mul-release : tie.Need-mul-release
-mul-release c = search needs
-
-array-copy-out-release : tie.Need-array-copy-out-release
-array-copy-out-release c = search needs
-
-release-line-requires : tie.Need-release-line-requires
-release-line-requires c κs = search needs
 
 returns-4 : tie.Need-returns-4
 returns-4 c =
@@ -58,15 +36,6 @@ returns-4 c =
 
 pub release-shown-spec : {M : Type 1} → statement M
 release-shown-spec =
-    tie.close
-    (tie.spec
-    blank-requires
-    returns
-    blank-requires-2
-    returns-2
-    blank-requires-3
-    returns-3
-    mul-release
-    array-copy-out-release
-    release-line-requires
-    returns-4)
+    tie.close (tie.spec
+    (λ c κs. search needs) returns (λ c κs. search needs) returns-2 (λ c κs. search needs) returns-3 (λ c. search needs)
+    (λ c. search needs) (λ c κs. search needs) returns-4)

@@ -1,28 +1,16 @@
 -- `showing::string_in` meets its contract: the string and its E stand at one place.
-use Prim.Native.Nat.{_-_, _≤_}
-use mathlib.Core.Path.{_≡_, ap, _∙_}
-use native.Mathlib.Omega.{arith}
-use borrow.Author.Needs.{needs}
-use lib.ListN.{length, getD, length-map}
+use Rattle.base.proofs.Prelude.{_-_, _≤_, _≡_, ap, _∙_, arith, needs, length, getD, length-map}
 use Rattle.rules.specs.Plan.{noString}
-use Rattle.lines.specs.Pages.{pageOf}
-use Rattle.lines.specs.Shown.{stringLine}
+use Rattle.lines.specs.{Pages.pageOf, Shown.stringLine}
 use Rattle.laws.proofs.Lawful.{planCheck-lawful}
-use Rattle.showing.proofs.InPlace.{blank-shown, string-none, string-there}
-use Rattle.showing.proofs.string_in.Statement.{statement}
+use Rattle.showing.proofs.{InPlace.{blank-shown, string-none, string-there}, string_in.Statement.statement}
 use Rattle.showing.proofs.string_in.Tie as tie
-
-blank-requires : tie.Need-blank-requires
-blank-requires c κs = search needs
 
 returns : tie.Need-returns
 returns c =
     let start = c .before .before in
     let small = c .before .if1 .taken in
     blank-shown _ _ (c .blank .ensures) (string-none (start .args .p) (start .args .place) (λ low high. omega arith))
-
-blank-requires-2 : tie.Need-blank-requires-2
-blank-requires-2 c κs = search needs
 
 returns-2 : tie.Need-returns-2
 returns-2 c =
@@ -33,21 +21,6 @@ returns-2 c =
 -- a lawful plan has at most ten strings
 few : (c : tie.Start) → c .args .p .n ≤ 10
 few c = planCheck-lawful (c .args .p) (c .pre .0) .nMax
-
-mul-s : tie.Need-mul-s
-mul-s c = omega (arith, few (c .before .before .before))
-
-array-copy-out-s : tie.Need-array-copy-out-s
-array-copy-out-s c = omega (arith, few (c .before .before .before))
-
-mul-string-line : tie.Need-mul-string-line
-mul-string-line c = omega (arith, few (c .before .before .before .before))
-
-array-read-string-line : tie.Need-array-read-string-line
-array-read-string-line c = omega (arith, few (c .before .before .before .before))
-
-string-line-requires : tie.Need-string-line-requires
-string-line-requires c κs = search needs
 
 returns-3 : tie.Need-returns-3
 returns-3 c =
@@ -62,15 +35,8 @@ returns-3 c =
 
 pub string-in-spec : {M : Type 1} → statement M
 string-in-spec =
-    tie.close
-    (tie.spec
-    blank-requires
-    returns
-    blank-requires-2
-    returns-2
-    mul-s
-    array-copy-out-s
-    mul-string-line
-    array-read-string-line
-    string-line-requires
-    returns-3)
+    tie.close (tie.spec
+    (λ c κs. search needs) returns (λ c κs. search needs) returns-2
+    (λ c. omega (arith, few (c .before .before .before))) (λ c. omega (arith, few (c .before .before .before)))
+    (λ c. omega (arith, few (c .before .before .before .before))) (λ c. omega (arith, few (c .before .before .before .before)))
+    (λ c κs. search needs) returns-3)

@@ -1,16 +1,9 @@
 -- `showing::string_shown` meets its contract: the figures say E by place, or the refusal.
-use borrow.Author.Needs.{needs}
+use Rattle.base.proofs.Prelude.{needs}
 use Rattle.faults.specs.declared.Checked.the-variants.{Lawful}
 use Rattle.showing.specs.Shown.{stringShown}
-use Rattle.showing.proofs.Figured.{checked-is, holds-are}
-use Rattle.showing.proofs.string_shown.Statement.{statement}
+use Rattle.showing.proofs.{Figured.{checked-is, holds-are}, string_shown.Statement.statement}
 use Rattle.showing.proofs.string_shown.Tie as tie
-
-figures-requires : tie.Need-figures-requires
-figures-requires c κs = search needs
-
-enum-told : tie.Need-enum-told
-enum-told c = search needs
 
 string-in-requires : tie.Need-string-in-requires
 string-in-requires c κs =
@@ -18,12 +11,6 @@ string-in-requires c κs =
     let p = found .before .args .p in
     let said = c .enum-told .given .1 in
     (checked-is p _ (found .figures .ensures) Lawful said, holds-are p _ (found .figures .ensures) said)
-
-enum-known-checked : tie.Need-enum-known-checked
-enum-known-checked c = search needs
-
-refused-requires : tie.Need-refused-requires
-refused-requires c κs = search needs
 
 returns : tie.Need-returns
 unfolding stringShown
@@ -43,12 +30,6 @@ returns-2 c =
 
 pub string-shown-spec : {M : Type 1} → statement M
 string-shown-spec =
-    tie.close
-    (tie.spec
-    figures-requires
-    enum-told
-    string-in-requires
-    enum-known-checked
-    refused-requires
-    returns
+    tie.close (tie.spec
+    (λ c κs. search needs) (λ c. search needs) string-in-requires (λ c. search needs) (λ c κs. search needs) returns
     returns-2)

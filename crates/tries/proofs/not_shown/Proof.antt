@@ -1,12 +1,10 @@
 -- `tries::not_shown` meets its contract: whether the rule breaks with free moving decides.
-use mathlib.Core.Path.{_≡_, sym, ap, _∙_}
-use borrow.Author.Needs.{needs}
+use Rattle.base.proofs.Prelude.{_≡_, sym, ap, _∙_, needs}
 use Rattle.rules.specs.Refusal.{breakAnswer}
-use Rattle.missing.specs.Missing.{freely}
-use Rattle.missing.proofs.Freely.{freely-lawful}
+use Rattle.exact.specs.Missing.{freely}
+use Rattle.exact.proofs.Freely.{freely-lawful}
 use Rattle.tries.specs.Tries.{unfound}
-use Rattle.tries.proofs.Breaks.{broken-nowhere, broken-there}
-use Rattle.tries.proofs.not_shown.Statement.{statement}
+use Rattle.tries.proofs.{Breaks.{said-nowhere, said-there}, not_shown.Statement.statement}
 use Rattle.tries.proofs.not_shown.Tie as tie
 
 -- it was asked of the plan with free moving
@@ -18,14 +16,14 @@ returns c =
     let ask = c .before in
     let start = ask .before .before in
     let p = start .args .p in
-    sym (ap unfound (broken-nowhere (freely p) (freely-lawful p (start .pre .lawful)) _ (asked ask) (c .match .keys2)))
+    sym (ap unfound (said-nowhere (freely p) (freely-lawful p (start .pre .lawful)) _ (asked ask) (c .match .keys2)))
 
 returns-2 : tie.Need-returns-2
 returns-2 c =
     let ask = c .before .before in
     let start = ask .before .before in
     let p = start .args .p in
-    sym (ap unfound (broken-there (freely p) (freely-lawful p (start .pre .lawful)) _ (asked ask) _ _ (c .enum-told .given .1)))
+    sym (ap unfound (said-there (freely p) (freely-lawful p (start .pre .lawful)) _ (asked ask) _ _ (c .enum-told .given .1)))
 
 pub not-shown-spec : {M : Type 1} → statement M
 not-shown-spec = tie.close (tie.spec (λ c κs. search needs) (λ c κs. search needs) (λ c. search needs) returns returns-2)

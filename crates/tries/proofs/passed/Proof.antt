@@ -1,21 +1,8 @@
 -- `tries::passed` meets its contract: by cases.
-use mathlib.Core.Path.{sym, ap}
-use borrow.Author.Needs.{needs}
+use Rattle.base.proofs.Prelude.{sym, ap, needs}
 use Rattle.rules.specs.Verdict.{isPass}
 use Rattle.tries.proofs.passed.Statement.{statement}
 use Rattle.tries.proofs.passed.Tie as tie
-
-enum-told : tie.Need-enum-told
-enum-told c = search needs
-
-enum-told-2 : tie.Need-enum-told-2
-enum-told-2 c = search needs
-
-enum-told-3 : tie.Need-enum-told-3
-enum-told-3 c = search needs
-
-enum-told-4 : tie.Need-enum-told-4
-enum-told-4 c = search needs
 
 returns : tie.Need-returns
 unfolding isPass
@@ -35,5 +22,6 @@ returns-4 c = sym (ap isPass (c .enum-told4 .given .1))
 
 pub passed-spec : {M : Type 1} → statement M
 passed-spec =
-    tie.close
-    (tie.spec enum-told enum-told-2 enum-told-3 enum-told-4 returns returns-2 returns-3 returns-4)
+    tie.close (tie.spec
+    (λ c. search needs) (λ c. search needs) (λ c. search needs) (λ c. search needs) returns returns-2 returns-3
+    returns-4)

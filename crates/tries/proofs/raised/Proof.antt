@@ -1,7 +1,5 @@
 -- `tries::raised` meets its contract: the larger of the two.
-use Prim.Native.Nat.{max}
-use mathlib.Core.Path.{_≡_, ap}
-use native.Mathlib.Omega.{arith}
+use Rattle.base.proofs.Prelude.{max, _≡_, ap, arith}
 use Rattle.days.specs.Days.{days}
 use Rattle.tries.proofs.raised.Statement.{statement}
 use Rattle.tries.proofs.raised.Tie as tie

@@ -1,16 +1,11 @@
 -- `tries::releases_that_miss` meets its contract: the check decides, then what is shown for a lawful plan.
-use Prim.Native.Nat.{ℕ}
-use mathlib.Core.Path.{_≡_, sym, _∙_}
-use borrow.Author.Needs.{needs}
-use lib.ListN.{length-map}
+use Rattle.base.proofs.Prelude.{ℕ, _≡_, sym, _∙_, needs, length-map}
 use Rattle.faults.specs.declared.Fault.{Fault}
-use Rattle.faults.specs.declared.Checked.the-variants as checked
-use Rattle.rules.specs.declared.Plan.{Plan}
-use Rattle.rules.specs.Refusal.{planCheck}
+use Rattle.rules.specs.{declared.Plan.Plan, Refusal.planCheck}
 use Rattle.verdict.proofs.Readiness.{ready-plan}
-use Rattle.tries.specs.declared.Missing.the-variants.{Refused}
-use Rattle.tries.specs.Tries.{unlisted, missingOf, missingAnswer}
+use Rattle.tries.specs.{declared.Missing.the-variants.Refused, Tries.{unlisted, missingOf, missingAnswer}}
 use Rattle.tries.proofs.releases_that_miss.Statement.{statement}
+use Rattle.faults.specs.declared.Checked.the-variants as checked
 use Rattle.tries.proofs.releases_that_miss.Tie as tie
 
 missing-lawful : (p : Plan) → planCheck p ≡ checked.Lawful → missingAnswer p ≡ missingOf p
@@ -21,12 +16,6 @@ missing-refused : (p : Plan) (f : Fault) (at : ℕ) → planCheck p ≡ checked.
 unfolding missingAnswer
 missing-refused p f at h = rw h
 
-plan-check-requires : tie.Need-plan-check-requires
-plan-check-requires c κs = search needs
-
-enum-told : tie.Need-enum-told
-enum-told c = search needs
-
 -- what the check said
 lawful : (c : tie.After-enum-told) → planCheck (c .before .before .before .args .p) ≡ checked.Lawful
 lawful c = sym (c .before .before .plan-check .ensures) ∙ c .enum-told .given .1
@@ -35,12 +24,6 @@ shown-for-requires : tie.Need-shown-for-requires
 shown-for-requires c κs =
     let start = c .before .before .before in
     ready-plan (start .args .p) (lawful c) (simp length-map at (start .good .0 .1 .1 .1 .1 .0 .1 .0 .1))
-
-enum-known-checked : tie.Need-enum-known-checked
-enum-known-checked c = search needs
-
-without-list-requires : tie.Need-without-list-requires
-without-list-requires c κs = search needs
 
 returns : tie.Need-returns
 returns c =
@@ -56,12 +39,6 @@ returns-2 c =
 
 pub releases-that-miss-spec : {M : Type 1} → statement M
 releases-that-miss-spec =
-    tie.close
-    (tie.spec
-    plan-check-requires
-    enum-told
-    shown-for-requires
-    enum-known-checked
-    without-list-requires
-    returns
+    tie.close (tie.spec
+    (λ c κs. search needs) (λ c. search needs) shown-for-requires (λ c. search needs) (λ c κs. search needs) returns
     returns-2)

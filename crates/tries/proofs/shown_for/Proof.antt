@@ -1,21 +1,11 @@
 -- `tries::shown_for` meets its contract: the quick verdict passes exactly the plans that the full one passes; else the search decides.
-use Prim.Native.Nat.{_≤_}
-use mathlib.Core.Path.{_≡_, sym, ap, _∙_, subst}
-use mathlib.Core.Bool.{true, false}
-use mathlib.Core.Option.{Option, some}
-use native.Mathlib.Omega.{arith}
-use borrow.Author.Needs.{needs}
+use Rattle.base.proofs.Prelude.{_≤_, _≡_, sym, ap, _∙_, subst, true, false, Option, some, arith, needs}
 use Rattle.days.specs.Days.{days}
-use Rattle.rules.specs.declared.Plan.{Plan}
-use Rattle.rules.specs.Verdict.{verdictOf, isPass}
+use Rattle.rules.specs.{declared.Plan.Plan, Verdict.{verdictOf, isPass}}
 use Rattle.laws.proofs.LawfulChecked.{lawful-checked}
-use Rattle.growth.proofs.Answers.{quick-lawful}
-use Rattle.growth.proofs.Agreeing.{quick-passes}
-use Rattle.tries.specs.declared.Missing.the-variants.{Passes, Found}
-use Rattle.tries.specs.Tries.{Try, found, raised, foundAs, unlisted, missingOf}
-use Rattle.tries.specs.Openings.{tryOf, Small, Finds}
-use Rattle.tries.proofs.Searching.{finds-none}
-use Rattle.tries.proofs.shown_for.Statement.{statement}
+use Rattle.demand.proofs.{Answers.quick-lawful, Agreeing.quick-passes}
+use Rattle.tries.specs.{declared.Missing.the-variants.{Passes, Found}, Tries.{Try, found, raised, foundAs, unlisted, missingOf}, inner.Openings.{tryOf, Small, Finds}}
+use Rattle.tries.proofs.{Searching.finds-none, shown_for.Statement.statement}
 use Rattle.tries.proofs.shown_for.Tie as tie
 
 passing-shown : (p : Plan) → isPass (verdictOf p) ≡ true → missingOf p ≡ unlisted Passes
@@ -25,12 +15,6 @@ passing-shown p t = rw t
 tried-shown : (p : Plan) (y : Option Try) → isPass (verdictOf p) ≡ false → found p ≡ y → missingOf p ≡ foundAs p y
 unfolding missingOf
 tried-shown p y e f = rw (e, f)
-
-quick-requires : tie.Need-quick-requires
-quick-requires c κs = search needs
-
-passed-requires : tie.Need-passed-requires
-passed-requires c κs = search needs
 
 -- whether the plan passes
 pass-is : (c : tie.After-passed) → isPass (verdictOf (c .before .before .args .p)) ≡ c .passed .result
@@ -42,19 +26,10 @@ pass-is c =
     ∙ ap isPass (sym (quick-lawful p (lawful-checked p ok)) ∙ sym (c .before .quick .ensures))
     ∙ sym (c .passed .ensures)
 
-without-list-requires : tie.Need-without-list-requires
-without-list-requires c κs = search needs
-
 returns : tie.Need-returns
 returns c =
     let asked = c .before .before in
     c .without-list .ensures ∙ sym (passing-shown (asked .before .before .args .p) (pass-is asked ∙ c .before .if1 .taken))
-
-first-that-misses-requires : tie.Need-first-that-misses-requires
-first-that-misses-requires c κs = search needs
-
-enum-known-found : tie.Need-enum-known-found
-enum-known-found c = search needs
 
 -- the try that is found, and that it is small
 shown : (c : tie.After-found) →
@@ -69,22 +44,10 @@ add-raised c =
     let is = shown (c .before .before) in
     omega (arith, is .0 .soon, is .1)
 
-raised-requires : tie.Need-raised-requires
-raised-requires c κs = search needs
-
 listed-requires : tie.Need-listed-requires
 listed-requires c κs =
     let is = shown (c .before .before .before) in
     (c .before .before .before .before .before .before .before .before .before .pre, (is .0, is .1))
-
-enum-told : tie.Need-enum-told
-enum-told c = search needs
-
-not-shown-requires : tie.Need-not-shown-requires
-not-shown-requires c κs = search needs
-
-without-list-requires-2 : tie.Need-without-list-requires-2
-without-list-requires-2 c κs = search needs
 
 returns-2 : tie.Need-returns-2
 returns-2 c =
@@ -109,19 +72,7 @@ returns-3 c =
 
 pub shown-for-spec : {M : Type 1} → statement M
 shown-for-spec =
-    tie.close
-    (tie.spec
-    quick-requires
-    passed-requires
-    without-list-requires
-    returns
-    first-that-misses-requires
-    enum-known-found
-    add-raised
-    raised-requires
-    listed-requires
-    enum-told
-    not-shown-requires
-    without-list-requires-2
-    returns-2
-    returns-3)
+    tie.close (tie.spec
+    (λ c κs. search needs) (λ c κs. search needs) (λ c κs. search needs) returns (λ c κs. search needs)
+    (λ c. search needs) add-raised (λ c κs. search needs) listed-requires (λ c. search needs) (λ c κs. search needs)
+    (λ c κs. search needs) returns-2 returns-3)

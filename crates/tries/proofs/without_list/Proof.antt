@@ -1,12 +1,7 @@
 -- `tries::without_list` meets its contract: a thousand places with no release.
-use mathlib.Core.Path.{ap}
-use borrow.Author.Needs.{needs}
-use lib.ListN.{replicate}
+use Rattle.base.proofs.Prelude.{ap, needs, replicate}
 use Rattle.tries.proofs.without_list.Statement.{statement}
 use Rattle.tries.proofs.without_list.Tie as tie
-
-no-release-requires : tie.Need-no-release-requires
-no-release-requires c κs = search needs
 
 returns : tie.Need-returns
 returns c =
@@ -14,4 +9,4 @@ returns c =
     (c .no-release .ensures)
 
 pub without-list-spec : {M : Type 1} → statement M
-without-list-spec = tie.close (tie.spec no-release-requires returns)
+without-list-spec = tie.close (tie.spec (λ c κs. search needs) returns)

@@ -1,9 +1,7 @@
 -- `bounds::periods::common_divisor` meets its contract: each step keeps the greatest common divisor, and with 0 it is the number itself.
-use mathlib.Core.Path.{_≡_, refl, sym, ap, _∙_}
-use native.Mathlib.Omega.{arith}
-use native.Mathlib.Nat.{mod-lt}
-use Rattle.numbers.specs.Divisors.{gcd}
-use Rattle.numbers.proofs.Divisors.{gcd-rec, gcd-zero-right}
+use Rattle.base.proofs.Prelude.{_≡_, refl, sym, ap, _∙_, arith, mod-lt}
+use Rattle.base.specs.Divisors.{gcd}
+use Rattle.base.proofs.Divisors.{gcd-rec, gcd-zero-right}
 use Rattle.bounds.proofs.periods.common_divisor.Statement.{statement}
 use Rattle.bounds.proofs.periods.common_divisor.Tie as tie
 
@@ -13,18 +11,6 @@ Inv-loop a b number₀ divisor₀ number divisor = gcd number divisor ≡ gcd a 
 abbrev μ-loop : tie.MeasureT-loop
 μ-loop a b number₀ divisor₀ number divisor = divisor
 
-loop-holds : tie.Need-loop-holds Inv-loop μ-loop
-loop-holds c = refl
-
-rem-rest : tie.Need-rem-rest Inv-loop μ-loop
-rem-rest c = omega arith
-
-loop-less : tie.Need-loop-less Inv-loop μ-loop
-loop-less c = mod-lt (c .before .loop .number) (c .loop-test .taken)
-
-loop-again : tie.Need-loop-again Inv-loop μ-loop
-loop-again c = gcd-rec (c .before .loop .number) (c .before .loop .divisor) ∙ c .before .loop .inv
-
 returns : tie.Need-returns Inv-loop μ-loop
 returns c =
     let at = c .before .loop in
@@ -33,4 +19,6 @@ returns c =
 
 pub common-divisor-spec : {M : Type 1} → statement M
 common-divisor-spec =
-    tie.close (tie.spec Inv-loop μ-loop loop-holds rem-rest loop-less loop-again returns)
+    tie.close (tie.spec
+    Inv-loop μ-loop (λ c. refl) (λ c. omega arith) (λ c. mod-lt (c .before .loop .number) (c .loop-test .taken))
+    (λ c. gcd-rec (c .before .loop .number) (c .before .loop .divisor) ∙ c .before .loop .inv) returns)

@@ -1,13 +1,7 @@
 -- `bounds::periods::multiple` meets its contract: H so far is the least common multiple of the strings done.
-use Prim.Native.Nat.{_-_}
-use mathlib.Core.Path.{_≡_, ap, _∙_}
-use native.Mathlib.Omega.{arith}
-use borrow.Author.Needs.{needs}
-use lib.ListN.{length, take, length-map}
+use Rattle.base.proofs.Prelude.{_-_, _≡_, ap, _∙_, arith, needs, length, take, length-map}
 use Rattle.rules.specs.Plan.{stringsOf}
-use Rattle.bounds.proofs.ByPlace.{take-min}
-use Rattle.bounds.proofs.LeastMultiple.{Done, done-start, done-next, done-past, done-end}
-use Rattle.bounds.proofs.periods.multiple.Statement.{statement}
+use Rattle.bounds.proofs.{ByPlace.take-min, LeastMultiple.{Done, done-start, done-next, done-past, done-end}, periods.multiple.Statement.statement}
 use Rattle.bounds.proofs.periods.multiple.Tie as tie
 
 abbrev Inv-loop : tie.InvT-loop
@@ -27,34 +21,13 @@ counted c =
     let p = c .before .args .p in
     ap (λ k. take k (p .strings)) (c .counted .ensures) ∙ take-min (p .n) 10 (p .strings) (ten (c .before))
 
-counted-requires : tie.Need-counted-requires Inv-loop μ-loop
-counted-requires c κs = search needs
-
-loop-holds : tie.Need-loop-holds Inv-loop μ-loop
-loop-holds c = done-start _ _ (omega (arith, c .before .counted .ensures, ten (c .before .before)))
-
 -- ---- A string
-
-mul-s : tie.Need-mul-s Inv-loop μ-loop
-mul-s c = omega arith
-
-array-copy-out-s : tie.Need-array-copy-out-s Inv-loop μ-loop
-array-copy-out-s c = omega (arith, ten (c .before .before .before .before))
-
-next-multiple-requires : tie.Need-next-multiple-requires Inv-loop μ-loop
-next-multiple-requires c κs = omega arith
 
 returns : tie.Need-returns Inv-loop μ-loop
 returns c =
     let at = c .before .before .before .before in
     done-past _ _ _ _ _ (at .loop .inv) (c .before .before .before .loop-test .taken) (c .before .next-multiple .ensures) _
     (counted (at .before .before)) (c .if1 .taken)
-
-add-i : tie.Need-add-i Inv-loop μ-loop
-add-i c = omega arith
-
-loop-less : tie.Need-loop-less Inv-loop μ-loop
-loop-less c = omega arith
 
 loop-again : tie.Need-loop-again Inv-loop μ-loop
 loop-again c =
@@ -63,22 +36,11 @@ loop-again c =
 
 -- ---- The end
 
-returns-2 : tie.Need-returns-2 Inv-loop μ-loop
-returns-2 c = done-end _ _ _ _ _ (counted (c .before .before .before)) (c .before .loop .inv) (c .loop-test .left)
-
 pub multiple-spec : {M : Type 1} → statement M
 multiple-spec =
-    tie.close
-    (tie.spec
-    Inv-loop
-    μ-loop
-    counted-requires
-    loop-holds
-    mul-s
-    array-copy-out-s
-    next-multiple-requires
-    returns
-    add-i
-    loop-less
-    loop-again
-    returns-2)
+    tie.close (tie.spec
+    Inv-loop μ-loop (λ c κs. search needs)
+    (λ c. done-start _ _ (omega (arith, c .before .counted .ensures, ten (c .before .before)))) (λ c. omega arith)
+    (λ c. omega (arith, ten (c .before .before .before .before))) (λ c κs. omega arith) returns (λ c. omega arith)
+    (λ c. omega arith) loop-again
+    (λ c. done-end _ _ _ _ _ (counted (c .before .before .before)) (c .before .loop .inv) (c .loop-test .left)))

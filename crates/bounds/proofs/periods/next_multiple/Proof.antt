@@ -1,17 +1,11 @@
 -- `bounds::periods::next_multiple` meets its contract: h over the divisor, times t, is the least common multiple, and the test before the
 -- product says on which side of the bound it lies.
-use Prim.Native.Nat.{ℕ, zero, _*_, _/_, _≤_, _<_}
-use mathlib.Core.Path.{_≡_, sym, ap, _∙_}
-use native.Mathlib.Omega.{arith}
-use native.Mathlib.Nat.{le-div-iff-mul-le, div-lt-iff-lt-mul}
-use borrow.Author.Needs.{needs}
-use Rattle.numbers.specs.Divisors.{gcd}
-use Rattle.numbers.specs.Multiples.{lcm}
-use Rattle.numbers.proofs.Divisors.{gcd-pos}
-use Rattle.numbers.proofs.Multiples.{lcm-div-mul, lcm-pos, lcm-zero-right}
-use Rattle.bounds.specs.Capped.{capped}
-use Rattle.bounds.proofs.LeastMultiple.{capped-in, capped-out}
-use Rattle.bounds.proofs.periods.next_multiple.Statement.{statement}
+use Rattle.base.proofs.Prelude.{ℕ, zero, _*_, _/_, _≤_, _<_, _≡_, sym, ap, _∙_, arith, div-lt-iff-lt-mul, needs}
+use native.Mathlib.Nat.{le-div-iff-mul-le}
+use Rattle.base.specs.{Divisors.gcd, Multiples.lcm}
+use Rattle.base.proofs.{Divisors.gcd-pos, Multiples.{lcm-div-mul, lcm-pos, lcm-zero-right}}
+use Rattle.bounds.specs.inner.Capped.{capped}
+use Rattle.bounds.proofs.{LeastMultiple.{capped-in, capped-out}, periods.next_multiple.Statement.statement}
 use Rattle.bounds.proofs.periods.next_multiple.Tie as tie
 
 positive : (h t d : ℕ) → d ≡ gcd h t → zero < h → zero < d
@@ -32,18 +26,6 @@ module _ (h t d : ℕ) (divisor : d ≡ gcd h t) (some : zero < t) where
   within : zero < h → h / d * t ≤ 100000 → capped 100000 (lcm h t) ≡ h / d * t
   within low high = capped-in 100000 (lcm h t) (lcm-pos h t low some) (omega (arith, product)) ∙ sym product
 
-returns : tie.Need-returns
-returns c = sym (none _ _ (omega arith))
-
-common-divisor-requires : tie.Need-common-divisor-requires
-common-divisor-requires c κs = search needs
-
-div-part : tie.Need-div-part
-div-part c = positive _ _ _ (c .common-divisor .ensures) (omega arith)
-
-div-if2 : tie.Need-div-if2
-div-if2 c = search needs
-
 abbrev start : tie.Else2 → tie.Start
 start c = c .before .before .before
 
@@ -52,9 +34,6 @@ fits : (c : tie.Else2) → start c .args .h / c .before .common-divisor .result 
 fits c =
     let some : zero < start c .args .t = omega arith in
     le-div-iff-mul-le some .0 (c .if2 .left)
-
-mul-result : tie.Need-mul-result
-mul-result c = omega (arith, fits c)
 
 returns-2 : tie.Need-returns-2
 returns-2 c =
@@ -68,4 +47,7 @@ returns-3 c =
 
 pub next-multiple-spec : {M : Type 1} → statement M
 next-multiple-spec =
-    tie.close (tie.spec returns common-divisor-requires div-part div-if2 mul-result returns-2 returns-3)
+    tie.close (tie.spec
+    (λ c. sym (none _ _ (omega arith))) (λ c κs. search needs)
+    (λ c. positive _ _ _ (c .common-divisor .ensures) (omega arith)) (λ c. search needs) (λ c. omega (arith, fits c))
+    returns-2 returns-3)

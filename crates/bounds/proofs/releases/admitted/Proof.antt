@@ -1,16 +1,7 @@
 -- `bounds::releases::admitted` meets its contract: each test that ends it denies one of the facts that `admits` tests.
-use Prim.Native.Nat.{ℕ, _-_, _≤_, _<_}
-use mathlib.Core.Path.{_≡_, sym, ap, _∙_}
-use native.Mathlib.Omega.{arith}
-use borrow.Author.Needs.{needs}
-use borrow.Author.Tests.{ltb-true, ltb-false}
-use lib.ListN.{length, length-map, getD}
-use Rattle.rules.specs.declared.BatteryString.{BatteryString}
-use Rattle.rules.specs.declared.Plan.{Plan}
-use Rattle.rules.specs.Plan.{stringAt, noString}
-use Rattle.bounds.proofs.ByPlace.{stringAt-is, stringAt-out}
-use Rattle.bounds.proofs.Seen.{admits-not, admits-apart}
-use Rattle.bounds.proofs.releases.admitted.Statement.{statement}
+use Rattle.base.proofs.Prelude.{ℕ, _-_, _≤_, _<_, _≡_, sym, ap, _∙_, arith, needs, ltb-true, ltb-false, length, length-map, getD}
+use Rattle.rules.specs.{declared.BatteryString.BatteryString, declared.Plan.Plan, Plan.{stringAt, noString}}
+use Rattle.bounds.proofs.{ByPlace.{stringAt-is, stringAt-out}, Seen.{admits-not, admits-apart}, releases.admitted.Statement.statement}
 use Rattle.bounds.proofs.releases.admitted.Tie as tie
 
 -- C and T of the string at a place, as the array has them
@@ -19,12 +10,6 @@ work-at p i h k = ap (λ (s : BatteryString). s .c .0) (stringAt-is p i h k)
 
 period-at : (p : Plan) (i : ℕ) → 1 ≤ i → i ≤ p .n → stringAt p i .t ≡ getD (p .strings) (i - 1) noString .t
 period-at p i h k = ap (λ (s : BatteryString). s .t) (stringAt-is p i h k)
-
-returns : tie.Need-returns
-returns c = sym (admits-not _ _ _ _ (λ h. omega arith))
-
-returns-2 : tie.Need-returns-2
-returns-2 c = sym (admits-not _ _ _ _ (λ h. omega arith))
 
 -- there is no eleventh string
 returns-3 : tie.Need-returns-3
@@ -36,35 +21,17 @@ returns-3 c =
     let nothing : stringAt p i .c .0 ≡ 0 = ap (λ (s : BatteryString). s .c .0) (stringAt-out p i (omega arith)) in
     sym (admits-not _ _ _ _ (λ h. omega arith))
 
-mul-s : tie.Need-mul-s
-mul-s c = search needs
-
-array-copy-out-s : tie.Need-array-copy-out-s
-array-copy-out-s c = search needs
-
-returns-4 : tie.Need-returns-4
-returns-4 c = sym (admits-not _ _ _ _ (λ h. omega arith))
-
 returns-5 : tie.Need-returns-5
 returns-5 c =
     let g = c .before .before .before .before .before .before .before .before .before .args in
     let work = work-at (g .p) (g .r .place) (omega arith) (omega arith) in
     sym (admits-not _ _ _ _ (λ h. omega arith))
 
-returns-6 : tie.Need-returns-6
-returns-6 c = sym (admits-not _ _ _ _ (λ h. omega arith))
-
-before-requires : tie.Need-before-requires
-before-requires c κs = search needs
-
 returns-7 : tie.Need-returns-7
 returns-7 c =
     let g = c .before .before .before .before .before .before .before .before .before .before .before .before .before .before .args in
     let late : g .r .day .0 < g .latest .0 = ltb-true _ _ (sym (c .before .before2 .ensures) ∙ c .if7 .taken) in
     sym (admits-not _ _ _ _ (λ h. omega arith))
-
-too-soon-requires : tie.Need-too-soon-requires
-too-soon-requires c κs = search needs
 
 returns-8 : tie.Need-returns-8
 returns-8 c =
@@ -79,17 +46,8 @@ returns-8 c =
 
 pub admitted-spec : {M : Type 1} → statement M
 admitted-spec =
-    tie.close
-    (tie.spec
-    returns
-    returns-2
-    returns-3
-    mul-s
-    array-copy-out-s
-    returns-4
-    returns-5
-    returns-6
-    before-requires
-    returns-7
-    too-soon-requires
+    tie.close (tie.spec
+    (λ c. sym (admits-not _ _ _ _ (λ h. omega arith))) (λ c. sym (admits-not _ _ _ _ (λ h. omega arith))) returns-3
+    (λ c. search needs) (λ c. search needs) (λ c. sym (admits-not _ _ _ _ (λ h. omega arith))) returns-5
+    (λ c. sym (admits-not _ _ _ _ (λ h. omega arith))) (λ c κs. search needs) returns-7 (λ c κs. search needs)
     returns-8)

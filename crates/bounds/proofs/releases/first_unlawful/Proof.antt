@@ -1,18 +1,8 @@
 -- `bounds::releases::first_unlawful` meets its contract: before each release the walk holds (`Walk`), and each way out is a law of it.
-use Prim.Native.Nat.{ℕ, zero, suc, _-_, _≤_}
-use mathlib.Core.Path.{_≡_, refl, sym, ap, _∙_}
-use mathlib.Core.Bool.{Bool, true}
-use native.Mathlib.Omega.{arith}
-use borrow.Author.Needs.{needs}
-use borrow.Author.Tests.{not-true, not-false}
-use lib.ListN.{take, getD, length-map, replicate}
-use Rattle.rules.specs.declared.Release.{Release}
-use Rattle.rules.specs.Release.{firstUnlawful, releasesOf, noRelease}
-use Rattle.bounds.specs.declared.releases.Last.the-variants.{Never}
-use Rattle.bounds.specs.Seen.{rememberedOf, admits}
-use Rattle.bounds.proofs.ByPlace.{take-min}
-use Rattle.bounds.proofs.ReleaseWalk.{Walk, walk-start, walk-bad, walk-end, walk-low, walk-high, walk-next}
-use Rattle.bounds.proofs.releases.first_unlawful.Statement.{statement}
+use Rattle.base.proofs.Prelude.{ℕ, zero, suc, _-_, _≤_, _≡_, refl, sym, ap, _∙_, Bool, true, arith, needs, not-true, not-false, take, getD, length-map, replicate}
+use Rattle.rules.specs.{declared.Release.Release, Release.{firstUnlawful, releasesOf, noRelease}}
+use Rattle.bounds.specs.{declared.releases.Last.the-variants.Never, inner.Seen.{rememberedOf, admits}}
+use Rattle.bounds.proofs.{ByPlace.take-min, ReleaseWalk.{Walk, walk-start, walk-bad, releases-walked, walk-low, walk-high, walk-next}, releases.first_unlawful.Statement.statement}
 use Rattle.bounds.proofs.releases.first_unlawful.Tie as tie
 
 abbrev Inv-loop : tie.InvT-loop
@@ -26,9 +16,6 @@ nevers zero k = refl
 nevers (suc n) zero = refl
 nevers (suc n) (suc k) = nevers n k
 
-smaller-requires : tie.Need-smaller-requires Inv-loop μ-loop
-smaller-requires c κs = search needs
-
 loop-holds : tie.Need-loop-holds Inv-loop μ-loop
 loop-holds c =
     let start = c .before .before in
@@ -37,21 +24,6 @@ loop-holds c =
     (simp length-map at (start .good .0 .1 .1 .1 .1 .0 .1 .0 .1))
     refl
     (nevers 10)
-
-mul-r : tie.Need-mul-r Inv-loop μ-loop
-mul-r c = omega arith
-
-array-copy-out-r : tie.Need-array-copy-out-r Inv-loop μ-loop
-array-copy-out-r c = omega arith
-
-remembered-requires : tie.Need-remembered-requires Inv-loop μ-loop
-remembered-requires c κs = search needs
-
-admitted-requires : tie.Need-admitted-requires Inv-loop μ-loop
-admitted-requires c κs = search needs
-
-add-result : tie.Need-add-result Inv-loop μ-loop
-add-result c = omega arith
 
 -- the releases that count are those of the list
 counted : (c : tie.At-loop Inv-loop μ-loop)
@@ -92,47 +64,15 @@ low c = walk-low (turn (c .before) .loop .inv) (passed c)
 high : (c : tie.Else1 Inv-loop μ-loop) → reached (turn (c .before)) .place ≤ 10
 high c = walk-high (turn (c .before) .loop .inv) (passed c)
 
-sub-last : tie.Need-sub-last Inv-loop μ-loop
-sub-last c = low c
-
-mul-last : tie.Need-mul-last Inv-loop μ-loop
-mul-last c = omega (arith, high c)
-
-array-set-from-last : tie.Need-array-set-from-last Inv-loop μ-loop
-array-set-from-last c = omega (arith, low c, high c)
-
-add-i : tie.Need-add-i Inv-loop μ-loop
-add-i c = omega arith
-
-loop-less : tie.Need-loop-less Inv-loop μ-loop
-loop-less c = omega arith
-
-loop-again : tie.Need-loop-again Inv-loop μ-loop
-loop-again c = walk-next (turn (c .before) .loop .inv) (omega arith) (passed c)
-
 returns-2 : tie.Need-returns-2 Inv-loop μ-loop
 returns-2 c =
     let at = c .before in
-    walk-end (at .loop .inv) (c .loop-test .left) ∙ ap (firstUnlawful (at .before .before .before .args .p)) (counted at)
+    releases-walked (at .loop .inv) (c .loop-test .left) ∙ ap (firstUnlawful (at .before .before .before .args .p)) (counted at)
 
 pub first-unlawful-spec : {M : Type 1} → statement M
 first-unlawful-spec =
-    tie.close
-    (tie.spec
-    Inv-loop
-    μ-loop
-    smaller-requires
-    loop-holds
-    mul-r
-    array-copy-out-r
-    remembered-requires
-    admitted-requires
-    add-result
-    returns
-    sub-last
-    mul-last
-    array-set-from-last
-    add-i
-    loop-less
-    loop-again
-    returns-2)
+    tie.close (tie.spec
+    Inv-loop μ-loop (λ c κs. search needs) loop-holds (λ c. omega arith) (λ c. omega arith) (λ c κs. search needs)
+    (λ c κs. search needs) (λ c. omega arith) returns (λ c. low c) (λ c. omega (arith, high c))
+    (λ c. omega (arith, low c, high c)) (λ c. omega arith) (λ c. omega arith)
+    (λ c. walk-next (turn (c .before) .loop .inv) (omega arith) (passed c)) returns-2)

@@ -1,28 +1,9 @@
 -- `bounds::releases::too_soon` meets its contract: the gap to the last release is shorter than t where the day comes before its end.
-use mathlib.Core.Path.{sym, _∙_}
-use borrow.Author.Needs.{needs}
+use Rattle.base.proofs.Prelude.{sym, _∙_, needs}
 use Rattle.days.proofs.Days.{gapOf-shorter, gapOf-sooner}
-use Rattle.bounds.specs.Seen.{tooSoon}
+use Rattle.bounds.specs.inner.Seen.{tooSoon}
 use Rattle.bounds.proofs.releases.too_soon.Statement.{statement}
 use Rattle.bounds.proofs.releases.too_soon.Tie as tie
-
-enum-told : tie.Need-enum-told
-enum-told c = search needs
-
-enum-known-last : tie.Need-enum-known-last
-enum-known-last c = search needs
-
-since-requires : tie.Need-since-requires
-since-requires c κs = search needs
-
-enum-known-length : tie.Need-enum-known-length
-enum-known-length c = search needs
-
-shorter-requires : tie.Need-shorter-requires
-shorter-requires c κs = search needs
-
-enum-told-2 : tie.Need-enum-told-2
-enum-told-2 c = search needs
 
 returns : tie.Need-returns
 unfolding tooSoon
@@ -43,14 +24,6 @@ returns-3 c =
 
 pub too-soon-spec : {M : Type 1} → statement M
 too-soon-spec =
-    tie.close
-    (tie.spec
-    enum-told
-    enum-known-last
-    since-requires
-    enum-known-length
-    shorter-requires
-    enum-told-2
-    returns
-    returns-2
-    returns-3)
+    tie.close (tie.spec
+    (λ c. search needs) (λ c. search needs) (λ c κs. search needs) (λ c. search needs) (λ c κs. search needs)
+    (λ c. search needs) returns returns-2 returns-3)

@@ -1,14 +1,7 @@
 -- `bounds::strings::strings_check` meets its contract: what is left to check, from the place reached on, gives what the whole gives.
-use Prim.Native.Nat.{_+_, _-_, _≤_, _<_}
-use mathlib.Core.Path.{_≡_, refl, sym, ap, _∙_}
-use native.Mathlib.Omega.{arith}
-use borrow.Author.Needs.{needs}
-use borrow.Author.Tests.{not-true, not-false}
-use lib.ListN.{length, take, drop, length-map}
-use Rattle.rules.specs.Plan.{stringsOf}
-use Rattle.rules.specs.Refusal.{stringsCheck}
-use Rattle.bounds.proofs.ByPlace.{take-min, stringsCheck-good, stringsCheck-bad, stringsCheck-end}
-use Rattle.bounds.proofs.strings.strings_check.Statement.{statement}
+use Rattle.base.proofs.Prelude.{_+_, _-_, _≤_, _<_, _≡_, refl, sym, ap, _∙_, arith, needs, not-true, not-false, length, take, drop, length-map}
+use Rattle.rules.specs.{Plan.stringsOf, Refusal.stringsCheck}
+use Rattle.bounds.proofs.{ByPlace.{take-min, stringsCheck-good, stringsCheck-bad, stringsCheck-end}, strings.strings_check.Statement.statement}
 use Rattle.bounds.proofs.strings.strings_check.Tie as tie
 
 abbrev Inv-loop : tie.InvT-loop
@@ -18,23 +11,8 @@ Inv-loop n strings i₀ i =
 abbrev μ-loop : tie.MeasureT-loop
 μ-loop n strings i₀ i = n - i
 
-counted-requires : tie.Need-counted-requires Inv-loop μ-loop
-counted-requires c κs = search needs
-
 loop-holds : tie.Need-loop-holds Inv-loop μ-loop
 loop-holds c = (omega arith, omega arith, simp length-map at (c .before .before .good .0 .1 .1 .1 .1 .0 .1 .0 .1), refl)
-
-mul-s : tie.Need-mul-s Inv-loop μ-loop
-mul-s c = omega arith
-
-array-copy-out-s : tie.Need-array-copy-out-s Inv-loop μ-loop
-array-copy-out-s c = omega arith
-
-string-lawful-requires : tie.Need-string-lawful-requires Inv-loop μ-loop
-string-lawful-requires c κs = search needs
-
-add-t13 : tie.Need-add-t13 Inv-loop μ-loop
-add-t13 c = omega arith
 
 -- the strings that count are those of the plan
 counted : (c : tie.At-loop Inv-loop μ-loop)
@@ -54,12 +32,6 @@ returns c =
     let inside : i < n = omega arith in
     sym (stringsCheck-bad (i + 1) n i (p .strings) inside fits (sym (c .before .string-lawful .ensures) ∙ not-true _ (c .if1 .taken)))
     ∙ at .loop .inv .3 ∙ ap (stringsCheck 1) (counted at)
-
-add-i : tie.Need-add-i Inv-loop μ-loop
-add-i c = omega arith
-
-loop-less : tie.Need-loop-less Inv-loop μ-loop
-loop-less c = omega arith
 
 loop-again : tie.Need-loop-again Inv-loop μ-loop
 loop-again c =
@@ -83,18 +55,6 @@ returns-2 c =
 
 pub strings-check-spec : {M : Type 1} → statement M
 strings-check-spec =
-    tie.close
-    (tie.spec
-    Inv-loop
-    μ-loop
-    counted-requires
-    loop-holds
-    mul-s
-    array-copy-out-s
-    string-lawful-requires
-    add-t13
-    returns
-    add-i
-    loop-less
-    loop-again
-    returns-2)
+    tie.close (tie.spec
+    Inv-loop μ-loop (λ c κs. search needs) loop-holds (λ c. omega arith) (λ c. omega arith) (λ c κs. search needs)
+    (λ c. omega arith) returns (λ c. omega arith) (λ c. omega arith) loop-again returns-2)

@@ -1,6 +1,6 @@
 -- `calendar::listing::between` meets its contract: each `return` has the bound that decides.
-use native.Mathlib.Omega.{arith}
-use Rattle.lists.specs.Count.{keep}
+use Rattle.base.proofs.Prelude.{arith}
+use Rattle.base.specs.Count.{keep}
 use Rattle.faults.proofs.Checks.{inBounds-yes, inBounds-not}
 use Rattle.calendar.proofs.listing.between.Statement.{statement}
 use Rattle.calendar.proofs.listing.between.Tie as tie

@@ -1,12 +1,7 @@
 -- `calendar::listing::count_days` meets its contract: what is found so far and what is left make the whole.
-use Prim.Native.Nat.{_+_, _-_, _≤_}
-use mathlib.Core.Path.{_≡_, ap, _∙_}
-use mathlib.Core.List.{[], _∷_}
-use native.Mathlib.Omega.{arith}
-use lib.ListN.{length, length-append}
+use Rattle.base.proofs.Prelude.{_+_, _-_, _≤_, _≡_, ap, _∙_, [], _∷_, arith, length, length-append}
 use Rattle.calendar.specs.Yearly.{daysIn, yearlyDays}
-use Rattle.calendar.proofs.YearByYear.{daysIn-few, leftFrom, left-start, left-next, left-end}
-use Rattle.calendar.proofs.listing.count_days.Statement.{statement}
+use Rattle.calendar.proofs.{YearByYear.{daysIn-few, leftFrom, left-start, left-next, left-end}, listing.count_days.Statement.statement}
 use Rattle.calendar.proofs.listing.count_days.Tie as tie
 
 abbrev Inv-loop : tie.InvT-loop
@@ -16,23 +11,11 @@ Inv-loop on edition first last end k₀ found₀ k found =
 abbrev μ-loop : tie.MeasureT-loop
 μ-loop on edition first last end k₀ found₀ k found = end + 1 - k
 
-in-year-requires : tie.Need-in-year-requires Inv-loop μ-loop
-in-year-requires c κs = c .pre .1
-
-in-year-requires-2 : tie.Need-in-year-requires-2 Inv-loop μ-loop
-in-year-requires-2 c κs = c .before .pre .0
-
 loop-holds : tie.Need-loop-holds Inv-loop μ-loop
 loop-holds c =
     let g = c .before .before .args in
     let year = c .in-year2 .ensures in
     (omega (arith, year .last), omega (arith, ap length (left-start (g .edition) (g .on) (g .first) (g .last) _ _ year)))
-
-fall-in-requires : tie.Need-fall-in-requires Inv-loop μ-loop
-fall-in-requires c κs = omega (arith, c .before .before .before .in-year .ensures .last)
-
-one-requires : tie.Need-one-requires Inv-loop μ-loop
-one-requires c κs = tt
 
 -- one year more
 counted : (c : tie.After-one Inv-loop μ-loop) → let at = c .before .before .before in let g = at .before .before .before .args in
@@ -55,15 +38,6 @@ add-found c =
     let g = c .before .before .before .before .before .before .args in
     omega (arith, counted c, daysIn-few (g .edition) (g .on) (g .first) (g .last) 2000 400)
 
-add-k : tie.Need-add-k Inv-loop μ-loop
-add-k c = omega arith
-
-loop-less : tie.Need-loop-less Inv-loop μ-loop
-loop-less c = omega arith
-
-loop-again : tie.Need-loop-again Inv-loop μ-loop
-loop-again c = (omega (arith, c .before .before .before .before .before .in-year .ensures .last), counted c)
-
 returns : tie.Need-returns Inv-loop μ-loop
 returns c =
     let at = c .before in
@@ -74,17 +48,8 @@ returns c =
 
 pub count-days-spec : {M : Type 1} → statement M
 count-days-spec =
-    tie.close
-    (tie.spec
-    Inv-loop
-    μ-loop
-    in-year-requires
-    in-year-requires-2
-    loop-holds
-    fall-in-requires
-    one-requires
-    add-found
-    add-k
-    loop-less
-    loop-again
-    returns)
+    tie.close (tie.spec
+    Inv-loop μ-loop (λ c κs. c .pre .1) (λ c κs. c .before .pre .0) loop-holds
+    (λ c κs. omega (arith, c .before .before .before .in-year .ensures .last)) (λ c κs. tt) add-found (λ c. omega arith)
+    (λ c. omega arith)
+    (λ c. (omega (arith, c .before .before .before .before .before .in-year .ensures .last), counted c)) returns)

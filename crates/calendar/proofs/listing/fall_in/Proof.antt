@@ -1,31 +1,10 @@
 -- `calendar::listing::fall_in` meets its contract: the test says whether the test's date exists in the year.
-use Prim.Native.Nat.{_+_}
-use mathlib.Core.Path.{_≡_, sym, ap, _∙_}
-use mathlib.Core.List.{[], _∷_}
-use borrow.Author.Needs.{needs}
-use Rattle.lists.specs.Count.{keep}
+use Rattle.base.proofs.Prelude.{_+_, _≡_, sym, ap, _∙_, [], _∷_, needs}
+use Rattle.base.specs.Count.{keep}
 use Rattle.faults.specs.Checks.{inBounds}
-use Rattle.calendar.specs.Dates.{dateExists}
-use Rattle.calendar.specs.Numbers.{dayNumber}
-use Rattle.calendar.specs.Yearly.{inYear}
-use Rattle.calendar.proofs.YearByYear.{daysIn-there, daysIn-absent}
-use Rattle.calendar.proofs.listing.fall_in.Statement.{statement}
+use Rattle.calendar.specs.{Dates.dateExists, Numbers.dayNumber, Yearly.inYear}
+use Rattle.calendar.proofs.{YearByYear.{daysIn-there, daysIn-absent}, listing.fall_in.Statement.statement}
 use Rattle.calendar.proofs.listing.fall_in.Tie as tie
-
-add-date-in : tie.Need-add-date-in
-add-date-in c = search needs
-
-date-in-requires : tie.Need-date-in-requires
-date-in-requires c κs = search needs
-
-date-exists-requires : tie.Need-date-exists-requires
-date-exists-requires c κs = search needs
-
-number-of-requires : tie.Need-number-of-requires
-number-of-requires c κs = sym (c .before .date-exists .ensures) ∙ c .if1 .taken
-
-between-requires : tie.Need-between-requires
-between-requires c κs = search needs
 
 -- what the test says of the date in the year
 tested : (c : tie.After-date-exists) → let g = c .before .before .before .args in
@@ -51,12 +30,6 @@ returns-2 c =
 
 pub fall-in-spec : {M : Type 1} → statement M
 fall-in-spec =
-    tie.close
-    (tie.spec
-    add-date-in
-    date-in-requires
-    date-exists-requires
-    number-of-requires
-    between-requires
-    returns
-    returns-2)
+    tie.close (tie.spec
+    (λ c. search needs) (λ c κs. search needs) (λ c κs. search needs)
+    (λ c κs. sym (c .before .date-exists .ensures) ∙ c .if1 .taken) (λ c κs. search needs) returns returns-2)

@@ -1,14 +1,8 @@
 -- `calendar::listing::fill` meets its contract: what is stored so far and what is left make the whole; the places behind are as they were.
-use Prim.Native.Nat.{ℕ, _+_, _-_, _≤_}
-use mathlib.Core.Path.{_≡_, sym, ap, _∙_}
-use mathlib.Core.List.{List, _++_}
-use native.Mathlib.Omega.{arith}
-use lib.ListN.{length}
-use Rattle.lists.proofs.Storing.{Stored, stored-start, stored-room, stored-next, stored-end}
-use Rattle.calendar.specs.Yearly.{yearlyDays}
-use Rattle.calendar.specs.Places.{fallDays}
-use Rattle.calendar.proofs.YearByYear.{leftFrom, left-start, left-next, left-end}
-use Rattle.calendar.proofs.listing.fill.Statement.{statement}
+use Rattle.base.proofs.Prelude.{ℕ, _+_, _-_, _≤_, _≡_, sym, ap, _∙_, List, _++_, arith, length}
+use Rattle.base.proofs.Storing.{Stored, stored-start, stored-room, stored-next, stored-end}
+use Rattle.calendar.specs.{Yearly.yearlyDays, inner.Places.fallDays}
+use Rattle.calendar.proofs.{YearByYear.{leftFrom, left-start, left-next, left-end}, listing.fill.Statement.statement}
 use Rattle.calendar.proofs.listing.fill.Tie as tie
 
 abbrev Inv-loop : tie.InvT-loop
@@ -18,20 +12,11 @@ Inv-loop on edition first last list₀ end k₀ at₀ list k at =
 abbrev μ-loop : tie.MeasureT-loop
 μ-loop on edition first last list₀ end k₀ at₀ list k at = end + 1 - k
 
-in-year-requires : tie.Need-in-year-requires Inv-loop μ-loop
-in-year-requires c κs = c .before .pre .0 .1
-
-in-year-requires-2 : tie.Need-in-year-requires-2 Inv-loop μ-loop
-in-year-requires-2 c κs = c .before .before .pre .0 .0
-
 loop-holds : tie.Need-loop-holds Inv-loop μ-loop
 loop-holds c =
     let g = c .before .before .before .args in
     let year = c .in-year2 .ensures in
     (omega (arith, year .last), stored-start _ _ (g .list .now) (left-start (g .edition) (g .on) (g .first) (g .last) _ _ year))
-
-fall-in-requires : tie.Need-fall-in-requires Inv-loop μ-loop
-fall-in-requires c κs = omega (arith, c .before .before .before .in-year .ensures .last)
 
 -- what is left after the year
 abbrev later : (c : tie.After-fall-in Inv-loop μ-loop) → List ℕ
@@ -57,15 +42,6 @@ room c =
     let start = at .before .before .before .before in
     stored-room _ _ _ _ _ (at .loop .inv .1) (fallDays (c .fall-in .result)) (later c) (parts c) (start .pre .1)
 
-store-requires : tie.Need-store-requires Inv-loop μ-loop
-store-requires c κs = room (c .before)
-
-add-k : tie.Need-add-k Inv-loop μ-loop
-add-k c = omega arith
-
-loop-less : tie.Need-loop-less Inv-loop μ-loop
-loop-less c = omega arith
-
 loop-again : tie.Need-loop-again Inv-loop μ-loop
 loop-again c =
     let stored = c .before .before in
@@ -73,9 +49,6 @@ loop-again c =
     let at = fall .before .before in
     let next = stored-next _ _ _ _ _ (at .loop .inv .1) (fallDays (fall .fall-in .result)) (later fall) (parts fall) (room fall) in
     (omega (arith, at .before .before .in-year .ensures .last), rw (stored .store .ensures .0, stored .store .ensures .1) next)
-
-same-length : tie.Need-same-length Inv-loop μ-loop
-same-length c = c .before .loop .inv .1 .same
 
 returns : tie.Need-returns Inv-loop μ-loop
 returns c =
@@ -86,17 +59,7 @@ returns c =
 
 pub fill-spec : {M : Type 1} → statement M
 fill-spec =
-    tie.close
-    (tie.spec
-    Inv-loop
-    μ-loop
-    in-year-requires
-    in-year-requires-2
-    loop-holds
-    fall-in-requires
-    store-requires
-    add-k
-    loop-less
-    loop-again
-    same-length
-    returns)
+    tie.close (tie.spec
+    Inv-loop μ-loop (λ c κs. c .before .pre .0 .1) (λ c κs. c .before .before .pre .0 .0) loop-holds
+    (λ c κs. omega (arith, c .before .before .before .in-year .ensures .last)) (λ c κs. room (c .before))
+    (λ c. omega arith) (λ c. omega arith) loop-again (λ c. c .before .loop .inv .1 .same) returns)

@@ -1,12 +1,7 @@
 -- `calendar::listing::moved_in` meets its contract: each test is one of `movedIn`; a February of 28 days is that of a common year.
-use mathlib.Core.Path.{_≡_}
-use mathlib.Core.Bool.{true}
-use borrow.Author.Needs.{needs}
-use borrow.Author.Tests.{eq-eqb, ne-eqb}
-use lib.Dec.{eqb}
-use Rattle.lists.proofs.Lists.{by-bool}
-use Rattle.calendar.specs.Years.{leapYear}
-use Rattle.calendar.specs.Yearly.{onLeapDay, movedIn}
+use Rattle.base.proofs.Prelude.{_≡_, true, needs, eq-eqb, ne-eqb, eqb}
+use Rattle.base.proofs.Lists.{by-bool}
+use Rattle.calendar.specs.{Years.leapYear, Yearly.{onLeapDay, movedIn}}
 use Rattle.calendar.proofs.listing.moved_in.Statement.{statement}
 use Rattle.calendar.proofs.listing.moved_in.Tie as tie
 
@@ -32,9 +27,6 @@ returns-3 c =
     let on = first .before .args .on in
     rw (second first, eq-eqb (on .month) 2 (month .if2 .left), ne-eqb (on .day) 29 (c .if3 .taken))
 
-february-requires : tie.Need-february-requires
-february-requires c κs = search needs
-
 returns-4 : tie.Need-returns-4
 unfolding movedIn onLeapDay
 returns-4 c =
@@ -51,4 +43,4 @@ returns-4 c =
     (by-bool (leapYear (g .year)) (λ t. rw t) (λ e. rw e))
 
 pub moved-in-spec : {M : Type 1} → statement M
-moved-in-spec = tie.close (tie.spec returns returns-2 returns-3 february-requires returns-4)
+moved-in-spec = tie.close (tie.spec returns returns-2 returns-3 (λ c κs. search needs) returns-4)

@@ -1,18 +1,8 @@
 -- `calendar::listing::yearly` meets its contract: each refusal has the test that led to it, in the order of the checks.
-use mathlib.Core.Path.{_≡_, sym, ap, _∙_}
-use mathlib.Core.Bool.{false}
-use native.Mathlib.Omega.{arith}
-use borrow.Author.Needs.{needs}
-use borrow.Author.Tests.{not-true, not-false, lt-ltb, le-ltb}
-use Rattle.calendar.specs.declared.Listed.the-variants.{Days}
-use Rattle.calendar.specs.Numbers.{lastDay}
-use Rattle.calendar.specs.Yearly.{noEdition, inNoYear}
-use Rattle.calendar.proofs.Answers.{noSuch, yearly-no-edition, yearly-no-such, yearly-no-room, yearly-listed}
-use Rattle.calendar.proofs.listing.yearly.Statement.{statement}
+use Rattle.base.proofs.Prelude.{_≡_, sym, ap, _∙_, false, arith, needs, not-true, not-false, lt-ltb, le-ltb}
+use Rattle.calendar.specs.{declared.Listed.the-variants.Days, Numbers.lastDay, Yearly.{noEdition, inNoYear}}
+use Rattle.calendar.proofs.{Answers.{noSuch, yearly-no-edition, yearly-no-such, yearly-no-room, yearly-listed}, listing.yearly.Statement.statement}
 use Rattle.calendar.proofs.listing.yearly.Tie as tie
-
-edition-exists-requires : tie.Need-edition-exists-requires
-edition-exists-requires c κs = search needs
 
 returns : tie.Need-returns
 returns c =
@@ -24,9 +14,6 @@ returns c =
 -- the edition is 1 or 2
 known : (c : tie.Else1) → noEdition (c .before .before .before .args .edition) ≡ false
 known c = not-true _ (sym (c .before .edition-exists .ensures) ∙ not-false _ (c .if1 .left))
-
-yearly-exists-requires : tie.Need-yearly-exists-requires
-yearly-exists-requires c κs = search needs
 
 -- the month and day exist in some year
 some : (c : tie.Else2) → inNoYear (c .before .before .before .before .before .args .on) ≡ false
@@ -70,9 +57,6 @@ returns-4 c =
     (rw (some exists, within, over)) in
     (sym (no .0), sym (no .1))
 
-count-days-requires : tie.Need-count-days-requires
-count-days-requires c κs = search needs
-
 returns-5 : tie.Need-returns-5
 returns-5 c =
     let counted = c .before in
@@ -84,12 +68,6 @@ returns-5 c =
     yearly-no-room (g .edition) (g .on) (g .first .0) (g .last .0) (g .list .now) (known edition) (good days)
     (omega (arith, c .if5 .taken)) in
     (sym (no .0), sym (no .1))
-
-fill-requires : tie.Need-fill-requires
-fill-requires c κs = search needs
-
-same-length : tie.Need-same-length
-same-length c = search needs
 
 returns-6 : tie.Need-returns-6
 returns-6 c =
@@ -107,16 +85,6 @@ returns-6 c =
 
 pub yearly-spec : {M : Type 1} → statement M
 yearly-spec =
-    tie.close
-    (tie.spec
-    edition-exists-requires
-    returns
-    yearly-exists-requires
-    returns-2
-    returns-3
-    returns-4
-    count-days-requires
-    returns-5
-    fill-requires
-    same-length
-    returns-6)
+    tie.close (tie.spec
+    (λ c κs. search needs) returns (λ c κs. search needs) returns-2 returns-3 returns-4 (λ c κs. search needs) returns-5
+    (λ c κs. search needs) (λ c. search needs) returns-6)

@@ -1,21 +1,9 @@
 -- `calendar::text::day_read` meets its contract: each `return` has the test that decides.
-use mathlib.Core.Path.{refl, sym, ap, _∙_}
-use native.Mathlib.Omega.{arith}
-use borrow.Author.Needs.{needs}
+use Rattle.base.proofs.Prelude.{refl, sym, ap, _∙_, arith, needs}
 use Rattle.days.specs.Days.{day}
 use Rattle.calendar.specs.declared.WhichDay.the-variants.{Is}
-use Rattle.calendar.proofs.Decimals.{dayReading-none, dayReading-over, dayReading-is}
-use Rattle.calendar.proofs.text.day_read.Statement.{statement}
+use Rattle.calendar.proofs.{Decimals.{dayReading-none, dayReading-over, dayReading-is}, text.day_read.Statement.statement}
 use Rattle.calendar.proofs.text.day_read.Tie as tie
-
-digits-number-requires : tie.Need-digits-number-requires
-digits-number-requires c κs = search needs
-
-no-number-requires : tie.Need-no-number-requires
-no-number-requires c κs = search needs
-
-returns : tie.Need-returns
-returns c = (sym (dayReading-none _ (sym (c .before .no-number .ensures) ∙ c .if1 .taken)), refl)
 
 returns-2 : tie.Need-returns-2
 returns-2 c =
@@ -32,4 +20,7 @@ returns-3 c =
     (ap (λ k. Is (day k)) is ∙ sym (dayReading-is (counted .before .before .args .text .now) some (omega (arith, c .if2 .left))), refl)
 
 pub day-read-spec : {M : Type 1} → statement M
-day-read-spec = tie.close (tie.spec digits-number-requires no-number-requires returns returns-2 returns-3)
+day-read-spec =
+    tie.close (tie.spec
+    (λ c κs. search needs) (λ c κs. search needs)
+    (λ c. (sym (dayReading-none _ (sym (c .before .no-number .ensures) ∙ c .if1 .taken)), refl)) returns-2 returns-3)

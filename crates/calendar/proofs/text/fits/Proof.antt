@@ -1,12 +1,7 @@
 -- `calendar::text::fits` meets its contract: what is left of the text fits what is left of the form exactly if the whole does.
-use Prim.Native.Nat.{_-_, _≤_}
-use mathlib.Core.Path.{_≡_, refl, sym, _∙_}
-use native.Mathlib.Omega.{arith}
-use borrow.Author.Tests.{not-true, not-false}
-use lib.ListN.{length, drop}
+use Rattle.base.proofs.Prelude.{_-_, _≤_, _≡_, refl, sym, _∙_, arith, not-true, not-false, length, drop}
 use Rattle.calendar.specs.Texts.{fits}
-use Rattle.calendar.proofs.Texts.{fits-other-length, fits-next, fits-not, fits-done}
-use Rattle.calendar.proofs.text.fits.Statement.{statement}
+use Rattle.calendar.proofs.{Texts.{fits-other-length, fits-next, fits-not, fits-done}, text.fits.Statement.statement}
 use Rattle.calendar.proofs.text.fits.Tie as tie
 
 abbrev Inv-loop : tie.InvT-loop
@@ -15,24 +10,6 @@ Inv-loop form text i₀ i = (i ≤ length text) × (fits (drop i form) (drop i t
 abbrev μ-loop : tie.MeasureT-loop
 μ-loop form text i₀ i = length text - i
 
-returns : tie.Need-returns Inv-loop μ-loop
-returns c = sym (fits-other-length _ _ (λ same. omega (arith, c .if1 .taken)))
-
-returns-2 : tie.Need-returns-2 Inv-loop μ-loop
-returns-2 c = sym (fits-other-length _ _ (λ same. omega (arith, c .if2 .taken)))
-
-loop-holds : tie.Need-loop-holds Inv-loop μ-loop
-loop-holds c = (omega arith, refl)
-
-shared-slice-read-c : tie.Need-shared-slice-read-c Inv-loop μ-loop
-shared-slice-read-c c = omega arith
-
-shared-slice-read-b : tie.Need-shared-slice-read-b Inv-loop μ-loop
-shared-slice-read-b c = omega arith
-
-fits-at-requires : tie.Need-fits-at-requires Inv-loop μ-loop
-fits-at-requires c κs = tt
-
 returns-3 : tie.Need-returns-3 Inv-loop μ-loop
 returns-3 c =
     let asked = c .before in
@@ -40,12 +17,6 @@ returns-3 c =
     let g = at .before .before .before .before .before .args in
     let other = sym (asked .fits-at .ensures) ∙ not-true _ (c .if3 .taken) in
     sym (fits-not (g .form .now) (g .text .now) (at .loop .i) (omega arith) (omega arith) other) ∙ at .loop .inv .1
-
-add-i : tie.Need-add-i Inv-loop μ-loop
-add-i c = omega arith
-
-loop-less : tie.Need-loop-less Inv-loop μ-loop
-loop-less c = omega arith
 
 loop-again : tie.Need-loop-again Inv-loop μ-loop
 loop-again c =
@@ -63,18 +34,8 @@ returns-4 c =
 
 pub fits-spec : {M : Type 1} → statement M
 fits-spec =
-    tie.close
-    (tie.spec
-    Inv-loop
-    μ-loop
-    returns
-    returns-2
-    loop-holds
-    shared-slice-read-c
-    shared-slice-read-b
-    fits-at-requires
-    returns-3
-    add-i
-    loop-less
-    loop-again
+    tie.close (tie.spec
+    Inv-loop μ-loop (λ c. sym (fits-other-length _ _ (λ same. omega (arith, c .if1 .taken))))
+    (λ c. sym (fits-other-length _ _ (λ same. omega (arith, c .if2 .taken)))) (λ c. (omega arith, refl))
+    (λ c. omega arith) (λ c. omega arith) (λ c κs. tt) returns-3 (λ c. omega arith) (λ c. omega arith) loop-again
     returns-4)

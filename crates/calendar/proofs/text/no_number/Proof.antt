@@ -1,8 +1,5 @@
 -- `calendar::text::no_number` meets its contract: each `return` has the length that decides.
-use native.Mathlib.Omega.{arith}
-use borrow.Author.Needs.{needs}
-use borrow.Author.Tests.{eq-eqb, ne-eqb, lt-ltb, le-ltb}
-use lib.ListN.{length}
+use Rattle.base.proofs.Prelude.{arith, needs, eq-eqb, ne-eqb, lt-ltb, le-ltb, length}
 use Rattle.calendar.specs.Texts.{noNumber}
 use Rattle.calendar.proofs.text.no_number.Statement.{statement}
 use Rattle.calendar.proofs.text.no_number.Tie as tie
@@ -19,9 +16,6 @@ returns-2 c =
     let text = c .before .before .args .text .now in
     rw (ne-eqb (length text) 0 (λ z. omega arith), le-ltb 1 (length text) (omega arith))
 
-shared-slice-read-result : tie.Need-shared-slice-read-result
-shared-slice-read-result c = search needs
-
 returns-3 : tie.Need-returns-3
 unfolding noNumber
 returns-3 c =
@@ -29,4 +23,4 @@ returns-3 c =
     rw (ne-eqb (length text) 0 (λ z. omega arith), lt-ltb 1 (length text) (omega arith))
 
 pub no-number-spec : {M : Type 1} → statement M
-no-number-spec = tie.close (tie.spec returns returns-2 shared-slice-read-result returns-3)
+no-number-spec = tie.close (tie.spec returns returns-2 (λ c. search needs) returns-3)

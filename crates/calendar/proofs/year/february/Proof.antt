@@ -1,6 +1,5 @@
 -- `calendar::year::february` meets its contract: each `return` has the tests of a leap year that led there.
-use Prim.Native.Nat.{_%_}
-use borrow.Author.Tests.{eq-eqb, ne-eqb}
+use Rattle.base.proofs.Prelude.{_%_, eq-eqb, ne-eqb}
 use Rattle.calendar.specs.Years.{leapYear}
 use Rattle.calendar.proofs.year.february.Statement.{statement}
 use Rattle.calendar.proofs.year.february.Tie as tie

@@ -1,20 +1,7 @@
 -- `calendar::year::in_year` meets its contract: the guess is the year or the one after it, as years have their mean length within two days.
-use Prim.Native.Nat.{suc, _-_, _≤_}
-use mathlib.Core.Path.{_≡_, ap}
-use native.Mathlib.Omega.{arith}
-use borrow.Author.Needs.{needs}
-use Rattle.calendar.proofs.Years.{yearStart, yearStart-next, daysBeforeYear-at, yearGuess, guess-not-before, guess-least, guess-one-after}
-use Rattle.calendar.proofs.year.in_year.Statement.{statement}
+use Rattle.base.proofs.Prelude.{suc, _-_, _≤_, _≡_, ap, arith, needs}
+use Rattle.calendar.proofs.{Years.{yearStart, yearStart-next, daysBeforeYear-at, yearGuess, guess-not-before, guess-least, guess-one-after}, year.in_year.Statement.statement}
 use Rattle.calendar.proofs.year.in_year.Tie as tie
-
-mul-guess : tie.Need-mul-guess
-mul-guess c = search needs
-
-add-guess : tie.Need-add-guess
-add-guess c = search needs
-
-year-start-requires : tie.Need-year-start-requires
-year-start-requires c κs = search needs
 
 returns : tie.Need-returns
 returns c =
@@ -27,15 +14,6 @@ some : (c : tie.Else1) → 1 ≤ yearGuess (c .before .before .args .day)
 some c =
     let day = c .before .before .args .day in
     guess-least day (omega (arith, daysBeforeYear-at (yearGuess day)))
-
-sub-t4 : tie.Need-sub-t4
-sub-t4 c = some c
-
-sub-year-start : tie.Need-sub-year-start
-sub-year-start c = some c
-
-year-start-requires-2 : tie.Need-year-start-requires-2
-year-start-requires-2 c κs = search needs
 
 sub-t9 : tie.Need-sub-t9
 sub-t9 c =
@@ -59,14 +37,6 @@ returns-2 c =
 
 pub in-year-spec : {M : Type 1} → statement M
 in-year-spec =
-    tie.close
-    (tie.spec
-    mul-guess
-    add-guess
-    year-start-requires
-    returns
-    sub-t4
-    sub-year-start
-    year-start-requires-2
-    sub-t9
-    returns-2)
+    tie.close (tie.spec
+    (λ c. search needs) (λ c. search needs) (λ c κs. search needs) returns (λ c. some c) (λ c. some c)
+    (λ c κs. search needs) sub-t9 returns-2)

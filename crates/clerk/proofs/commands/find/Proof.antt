@@ -1,9 +1,6 @@
 -- `commands::find` is safe and ends: a byte that was not passed yet lies within the text.
-use Prim.Native.Nat.{_-_, _≤_}
-use lib.ListN.{length}
-use native.Mathlib.Omega.{arith}
-use Rattle.clerk.proofs.Counting.{counts}
-use Rattle.clerk.proofs.commands.find.Statement.{statement}
+use Rattle.base.proofs.Prelude.{_-_, _≤_, length, arith}
+use Rattle.clerk.proofs.{Counting.counts, commands.find.Statement.statement}
 use Rattle.clerk.proofs.commands.find.Tie as tie
 
 abbrev Inv-loop : tie.InvT-loop
@@ -12,37 +9,8 @@ Inv-loop text b i₀ i = i ≤ length text
 abbrev μ-loop : tie.MeasureT-loop
 μ-loop text b i₀ i = length text - i
 
-loop-holds : tie.Need-loop-holds Inv-loop μ-loop
-loop-holds c = omega arith
-
-shared-slice-read-if1 : tie.Need-shared-slice-read-if1 Inv-loop μ-loop
-shared-slice-read-if1 c = omega arith
-
-returns : tie.Need-returns Inv-loop μ-loop
-returns c = counts _ _ (omega arith)
-
-add-i : tie.Need-add-i Inv-loop μ-loop
-add-i c = omega arith
-
-loop-less : tie.Need-loop-less Inv-loop μ-loop
-loop-less c = omega arith
-
-loop-again : tie.Need-loop-again Inv-loop μ-loop
-loop-again c = omega arith
-
-returns-2 : tie.Need-returns-2 Inv-loop μ-loop
-returns-2 c = counts _ _ (omega arith)
-
 pub find-spec : {M : Type 1} → statement M
 find-spec =
-    tie.close
-    (tie.spec
-    Inv-loop
-    μ-loop
-    loop-holds
-    shared-slice-read-if1
-    returns
-    add-i
-    loop-less
-    loop-again
-    returns-2)
+    tie.close (tie.spec
+    Inv-loop μ-loop (λ c. omega arith) (λ c. omega arith) (λ c. counts _ _ (omega arith)) (λ c. omega arith)
+    (λ c. omega arith) (λ c. omega arith) (λ c. counts _ _ (omega arith)))

@@ -1,17 +1,7 @@
 -- `commands::first` is safe: a text that is not shorter has as many bytes.
-use mathlib.Core.Path.{sym}
-use lib.Seq.{length-take-le}
+use Rattle.base.proofs.Prelude.{sym, length-take-le}
 use Rattle.clerk.proofs.commands.first.Statement.{statement}
 use Rattle.clerk.proofs.commands.first.Tie as tie
 
-returns : tie.Need-returns
-returns c = tt
-
-slice-aggregate-result : tie.Need-slice-aggregate-result
-slice-aggregate-result c = sym (length-take-le _ _ (c .before .if1 .left))
-
-returns-2 : tie.Need-returns-2
-returns-2 c = tt
-
 pub first-spec : {M : Type 1} → statement M
-first-spec = tie.close (tie.spec returns slice-aggregate-result returns-2)
+first-spec = tie.close (tie.spec (λ c. tt) (λ c. sym (length-take-le _ _ (c .before .if1 .left))) (λ c. tt))

@@ -1,8 +1,5 @@
 -- `commands::same` is safe and ends: the texts are equally long.
-use Prim.Native.Nat.{_-_, _≤_}
-use mathlib.Core.Path.{_≡_}
-use lib.ListN.{length}
-use native.Mathlib.Omega.{arith}
+use Rattle.base.proofs.Prelude.{_-_, _≤_, _≡_, length, arith}
 use Rattle.clerk.proofs.commands.same.Statement.{statement}
 use Rattle.clerk.proofs.commands.same.Tie as tie
 
@@ -12,45 +9,8 @@ Inv-loop a b i₀ i = (length a ≡ length b) × (i ≤ length a)
 abbrev μ-loop : tie.MeasureT-loop
 μ-loop a b i₀ i = length a - i
 
-returns : tie.Need-returns Inv-loop μ-loop
-returns c = tt
-
-loop-holds : tie.Need-loop-holds Inv-loop μ-loop
-loop-holds c = omega arith
-
-shared-slice-read-if2 : tie.Need-shared-slice-read-if2 Inv-loop μ-loop
-shared-slice-read-if2 c = omega arith
-
-shared-slice-read-if2-2 : tie.Need-shared-slice-read-if2-2 Inv-loop μ-loop
-shared-slice-read-if2-2 c = omega arith
-
-returns-2 : tie.Need-returns-2 Inv-loop μ-loop
-returns-2 c = tt
-
-add-i : tie.Need-add-i Inv-loop μ-loop
-add-i c = omega arith
-
-loop-less : tie.Need-loop-less Inv-loop μ-loop
-loop-less c = omega arith
-
-loop-again : tie.Need-loop-again Inv-loop μ-loop
-loop-again c = omega arith
-
-returns-3 : tie.Need-returns-3 Inv-loop μ-loop
-returns-3 c = tt
-
 pub same-spec : {M : Type 1} → statement M
 same-spec =
-    tie.close
-    (tie.spec
-    Inv-loop
-    μ-loop
-    returns
-    loop-holds
-    shared-slice-read-if2
-    shared-slice-read-if2-2
-    returns-2
-    add-i
-    loop-less
-    loop-again
-    returns-3)
+    tie.close (tie.spec
+    Inv-loop μ-loop (λ c. tt) (λ c. omega arith) (λ c. omega arith) (λ c. omega arith) (λ c. tt) (λ c. omega arith)
+    (λ c. omega arith) (λ c. omega arith) (λ c. tt))

@@ -1,8 +1,5 @@
 -- `commands::word_count` is safe and ends: no more words than bytes passed.
-use Prim.Native.Nat.{_-_, _≤_}
-use mathlib.Core.Logic.{⊎-elim}
-use native.Mathlib.Omega.{arith}
-use lib.ListN.{length}
+use Rattle.base.proofs.Prelude.{_-_, _≤_, ⊎-elim, arith, length}
 use Rattle.clerk.proofs.commands.word_count.Statement.{statement}
 use Rattle.clerk.proofs.commands.word_count.Tie as tie
 
@@ -12,37 +9,8 @@ Inv-loop command count₀ i₀ count i = (i ≤ length command) × (count ≤ i)
 abbrev μ-loop : tie.MeasureT-loop
 μ-loop command count₀ i₀ count i = length command - i
 
-loop-holds : tie.Need-loop-holds Inv-loop μ-loop
-loop-holds c = omega arith
-
-shared-slice-read-if1 : tie.Need-shared-slice-read-if1 Inv-loop μ-loop
-shared-slice-read-if1 c = omega arith
-
-add-count : tie.Need-add-count Inv-loop μ-loop
-add-count c = omega arith
-
-add-i : tie.Need-add-i Inv-loop μ-loop
-add-i c = omega arith
-
-loop-less : tie.Need-loop-less Inv-loop μ-loop
-loop-less c = omega arith
-
-loop-again : tie.Need-loop-again Inv-loop μ-loop
-loop-again c = ⊎-elim (λ w. omega arith) (λ w. omega arith) (c .if1 .came)
-
-returns : tie.Need-returns Inv-loop μ-loop
-returns c = tt
-
 pub word-count-spec : {M : Type 1} → statement M
 word-count-spec =
-    tie.close
-    (tie.spec
-    Inv-loop
-    μ-loop
-    loop-holds
-    shared-slice-read-if1
-    add-count
-    add-i
-    loop-less
-    loop-again
-    returns)
+    tie.close (tie.spec
+    Inv-loop μ-loop (λ c. omega arith) (λ c. omega arith) (λ c. omega arith) (λ c. omega arith) (λ c. omega arith)
+    (λ c. ⊎-elim (λ w. omega arith) (λ w. omega arith) (c .if1 .came)) (λ c. tt))

@@ -1,15 +1,9 @@
 -- `plan_given` meets its contract: the array holds the strings up to the place, and the filler behind them.
-use Prim.Native.Nat.{ℕ, _+_, _-_, _*_, _≤_}
-use mathlib.Core.Path.{_≡_}
-use mathlib.Core.List.{List, map}
-use native.Mathlib.Omega.{arith}
-use lib.ListN.{length}
-use Rattle.lists.specs.Count.{upFrom, filled}
-use Rattle.rules.specs.declared.BatteryString.{BatteryString}
-use Rattle.rules.specs.Plan.{noString}
+use Rattle.base.proofs.Prelude.{ℕ, _+_, _-_, _*_, _≤_, _≡_, List, map, arith, length}
+use Rattle.base.specs.Count.{upFrom, filled}
+use Rattle.rules.specs.{declared.BatteryString.BatteryString, Plan.noString}
 use Rattle.entries.specs.Given.{stringFrom, planGiven}
-use Rattle.entries.proofs.Giving.{stored-none, stored-more, strings-fit}
-use Rattle.entries.proofs.given.plan_given.Statement.{statement}
+use Rattle.entries.proofs.{Giving.{given-none, given-more, strings-fit}, given.plan_given.Statement.statement}
 use Rattle.entries.proofs.given.plan_given.Tie as tie
 
 -- what is stored of i strings
@@ -31,42 +25,12 @@ counted o = o .before .before .string-count .result
 fit : (o : tie.At-loop Inv-loop μ-loop) → (counted o ≤ 10) × (counted o * 5 ≤ length (begin o .args .numbers .now) - 1)
 fit o = strings-fit (begin o .args .numbers .now) (counted o) (o .before .before .string-count .ensures)
 
-string-count-requires : tie.Need-string-count-requires Inv-loop μ-loop
-string-count-requires c κs = tt
-
-number-at-requires : tie.Need-number-at-requires Inv-loop μ-loop
-number-at-requires c κs = tt
-
-loop-holds : tie.Need-loop-holds Inv-loop μ-loop
-loop-holds c = (omega arith, stored-none 10 noString _)
-
-mul-string-from : tie.Need-mul-string-from Inv-loop μ-loop
-mul-string-from c = omega (arith, fit (c .before))
-
-add-string-from : tie.Need-add-string-from Inv-loop μ-loop
-add-string-from c = omega (arith, fit (c .before))
-
-string-from-requires : tie.Need-string-from-requires Inv-loop μ-loop
-string-from-requires c κs = omega (arith, fit (c .before))
-
-mul-strings : tie.Need-mul-strings Inv-loop μ-loop
-mul-strings c = omega (arith, fit (c .before .before))
-
-array-set-from-strings : tie.Need-array-set-from-strings Inv-loop μ-loop
-array-set-from-strings c = omega (arith, fit (c .before .before))
-
-add-i : tie.Need-add-i Inv-loop μ-loop
-add-i c = omega (arith, fit (c .before .before))
-
-loop-less : tie.Need-loop-less Inv-loop μ-loop
-loop-less c = omega arith
-
 loop-again : tie.Need-loop-again Inv-loop μ-loop
 loop-again c =
     let o = c .before .before in
     let few = fit o .0 in (
       omega arith,
-      stored-more 10 noString _ (o .loop .i) _ _ (omega arith) (o .loop .inv .1) (c .string-from .ensures),
+      given-more 10 noString _ (o .loop .i) _ _ (omega arith) (o .loop .inv .1) (c .string-from .ensures),
     )
 
 returns : tie.Need-returns Inv-loop μ-loop
@@ -78,19 +42,8 @@ returns c =
 
 pub plan-given-spec : {M : Type 1} → statement M
 plan-given-spec =
-    tie.close
-    (tie.spec
-    Inv-loop
-    μ-loop
-    string-count-requires
-    number-at-requires
-    loop-holds
-    mul-string-from
-    add-string-from
-    string-from-requires
-    mul-strings
-    array-set-from-strings
-    add-i
-    loop-less
-    loop-again
-    returns)
+    tie.close (tie.spec
+    Inv-loop μ-loop (λ c κs. tt) (λ c κs. tt) (λ c. (omega arith, given-none 10 noString _))
+    (λ c. omega (arith, fit (c .before))) (λ c. omega (arith, fit (c .before))) (λ c κs. omega (arith, fit (c .before)))
+    (λ c. omega (arith, fit (c .before .before))) (λ c. omega (arith, fit (c .before .before)))
+    (λ c. omega (arith, fit (c .before .before))) (λ c. omega arith) loop-again returns)

@@ -1,37 +1,11 @@
 -- `release_from` meets its contract: three numbers, one after the other.
-use borrow.Author.Needs.{needs}
+use Rattle.base.proofs.Prelude.{needs}
 use Rattle.entries.proofs.given.release_from.Statement.{statement}
 use Rattle.entries.proofs.given.release_from.Tie as tie
 
-number-at-requires : tie.Need-number-at-requires
-number-at-requires c κs = search needs
-
-add-number-at : tie.Need-add-number-at
-add-number-at c = search needs
-
-number-at-requires-2 : tie.Need-number-at-requires-2
-number-at-requires-2 c κs = search needs
-
-cast-place : tie.Need-cast-place
-cast-place c = search needs
-
-add-number-at-2 : tie.Need-add-number-at-2
-add-number-at-2 c = search needs
-
-number-at-requires-3 : tie.Need-number-at-requires-3
-number-at-requires-3 c κs = search needs
-
-returns : tie.Need-returns
-returns c = rw (c .number-at3 .ensures, c .before .number-at2 .ensures, c .before .before .number-at .ensures)
-
 pub release-from-spec : {M : Type 1} → statement M
 release-from-spec =
-    tie.close
-    (tie.spec
-    number-at-requires
-    add-number-at
-    number-at-requires-2
-    cast-place
-    add-number-at-2
-    number-at-requires-3
-    returns)
+    tie.close (tie.spec
+    (λ c κs. search needs) (λ c. search needs) (λ c κs. search needs) (λ c. search needs) (λ c. search needs)
+    (λ c κs. search needs)
+    (λ c. rw (c .number-at3 .ensures, c .before .number-at2 .ensures, c .before .before .number-at .ensures)))

@@ -1,11 +1,7 @@
 -- `put_text` meets its contract: the page holds the text up to the place, and its own bytes behind it.
-use Prim.Native.Nat.{_-_, _≤_}
-use mathlib.Core.Path.{_≡_, _∙_}
-use native.Mathlib.Omega.{arith}
-use lib.ListN.{length}
+use Rattle.base.proofs.Prelude.{_-_, _≤_, _≡_, _∙_, arith, length}
 use lib.Seq.{paste, paste-zero}
-use Rattle.entries.proofs.Telling.{no-room, room, copied-length, copied-more, copied-all}
-use Rattle.entries.proofs.told.put_text.Statement.{statement}
+use Rattle.entries.proofs.{Telling.{no-room, room, copied-length, copied-more, copied-all}, told.put_text.Statement.statement}
 use Rattle.entries.proofs.told.put_text.Tie as tie
 
 abbrev Inv-loop : tie.InvT-loop
@@ -20,25 +16,10 @@ returns c =
     let none = no-room (g .text .now) (g .page .now) (c .if1 .taken) in
     (none .0, none .1)
 
-loop-holds : tie.Need-loop-holds Inv-loop μ-loop
-loop-holds c = (omega arith, paste-zero (c .before .args .page .now) 0 (c .before .args .text .now))
-
-shared-slice-read-page : tie.Need-shared-slice-read-page Inv-loop μ-loop
-shared-slice-read-page c = omega arith
-
 same : (o : tie.At-loop Inv-loop μ-loop) → length (o .loop .page) ≡ length (o .before .before .args .page .now)
 same o =
     let g = o .before .before .args in
     copied-length (g .text .now) (g .page .now) (o .before .if1 .left) (o .loop .page) (o .loop .i) (o .loop .inv .1) (o .loop .inv .0)
-
-slice-write-page : tie.Need-slice-write-page Inv-loop μ-loop
-slice-write-page c = omega (arith, same (c .before .before))
-
-add-i : tie.Need-add-i Inv-loop μ-loop
-add-i c = omega arith
-
-loop-less : tie.Need-loop-less Inv-loop μ-loop
-loop-less c = omega arith
 
 loop-again : tie.Need-loop-again Inv-loop μ-loop
 loop-again c =
@@ -46,9 +27,6 @@ loop-again c =
     let g = o .before .before .args in
     let fits = o .before .if1 .left in
     (omega arith, copied-more (g .text .now) (g .page .now) fits (o .loop .page) (o .loop .i) (o .loop .inv .1) (omega arith))
-
-same-length : tie.Need-same-length Inv-loop μ-loop
-same-length c = same (c .before)
 
 returns-2 : tie.Need-returns-2 Inv-loop μ-loop
 returns-2 c =
@@ -61,16 +39,7 @@ returns-2 c =
 
 pub put-text-spec : {M : Type 1} → statement M
 put-text-spec =
-    tie.close
-    (tie.spec
-    Inv-loop
-    μ-loop
-    returns
-    loop-holds
-    shared-slice-read-page
-    slice-write-page
-    add-i
-    loop-less
-    loop-again
-    same-length
-    returns-2)
+    tie.close (tie.spec
+    Inv-loop μ-loop returns (λ c. (omega arith, paste-zero (c .before .args .page .now) 0 (c .before .args .text .now)))
+    (λ c. omega arith) (λ c. omega (arith, same (c .before .before))) (λ c. omega arith) (λ c. omega arith) loop-again
+    (λ c. same (c .before)) returns-2)

@@ -1,16 +1,9 @@
 -- `refused_row` meets its contract: the number of the fault, and where.
-use borrow.Author.Needs.{needs}
+use Rattle.base.proofs.Prelude.{needs}
 use Rattle.entries.proofs.told.refused_row.Statement.{statement}
 use Rattle.entries.proofs.told.refused_row.Tie as tie
 
-fault-number-requires : tie.Need-fault-number-requires
-fault-number-requires c κs = search needs
-
-row-at-requires : tie.Need-row-at-requires
-row-at-requires c κs = search needs
-
-returns : tie.Need-returns
-returns c = rw (c .before .fault-number .ensures) at (c .row-at .ensures)
-
 pub refused-row-spec : {M : Type 1} → statement M
-refused-row-spec = tie.close (tie.spec fault-number-requires row-at-requires returns)
+refused-row-spec =
+    tie.close (tie.spec
+    (λ c κs. search needs) (λ c κs. search needs) (λ c. rw (c .before .fault-number .ensures) at (c .row-at .ensures)))

@@ -1,15 +1,9 @@
 -- `lines::pages::append` meets its contract: the page holds its text and what is copied so far.
-use Prim.Native.Nat.{ℕ, _+_, _-_, _≤_, _<_}
-use mathlib.Core.Path.{_≡_, sym, ap, _∙_}
-use mathlib.Core.List.{List, [], _++_, append-nil}
-use native.Mathlib.Omega.{arith}
-use lib.ListN.{length, getD, take, set, length-append}
+use Rattle.base.proofs.Prelude.{ℕ, _+_, _-_, _≤_, _<_, _≡_, sym, ap, _∙_, List, [], _++_, append-nil, arith, length, getD, take, set, length-append}
 use lib.Seq.{take-length}
-use Rattle.lists.specs.Count.{filled}
-use Rattle.lines.specs.declared.Page.{Page}
-use Rattle.lines.specs.Pages.{pageOf, textOf, Written}
-use Rattle.lines.proofs.Growing.{stored, bytes-are, len-is}
-use Rattle.lines.proofs.pages.append.Statement.{statement}
+use Rattle.base.specs.Count.{filled}
+use Rattle.lines.specs.{declared.Page.Page, Pages.{pageOf, textOf, Written}}
+use Rattle.lines.proofs.{Growing.{stored, bytes-are, len-is}, pages.append.Statement.statement}
 use Rattle.lines.proofs.pages.append.Tie as tie
 
 -- a page's bytes once i bytes of the text stand behind its own
@@ -42,32 +36,11 @@ Inv-loop text at bytes₀ i₀ bytes i = (i ≤ length text) × (bytes ≡ copy 
 abbrev μ-loop : tie.MeasureT-loop
 μ-loop text at bytes₀ i₀ bytes i = length text - i
 
--- src/pages.rt:29:5
 loop-holds : tie.Need-loop-holds Inv-loop μ-loop
 loop-holds c =
     let start = c .before in
     (omega arith, begun (start .args .page) (start .args .text .now) [] 0 (start .pre .0))
 
-shared-slice-read-bytes : tie.Need-shared-slice-read-bytes Inv-loop μ-loop
-shared-slice-read-bytes c = omega arith
-
--- src/pages.rt:30:15
-add-bytes : tie.Need-add-bytes Inv-loop μ-loop
-add-bytes c = omega arith
-
--- src/pages.rt:30:9
-array-write-bytes : tie.Need-array-write-bytes Inv-loop μ-loop
-array-write-bytes c = omega arith
-
--- src/pages.rt:31:9
-add-i : tie.Need-add-i Inv-loop μ-loop
-add-i c = omega arith
-
--- src/pages.rt:29:5
-loop-less : tie.Need-loop-less Inv-loop μ-loop
-loop-less c = omega arith
-
--- src/pages.rt:29:5
 loop-again : tie.Need-loop-again Inv-loop μ-loop
 loop-again c =
     let at = c .before .before in
@@ -78,10 +51,6 @@ loop-again c =
           (at .loop .inv .1),
     )
 
-add-t13 : tie.Need-add-t13 Inv-loop μ-loop
-add-t13 c = omega arith
-
--- src/pages.rt:21:1
 returns : tie.Need-returns Inv-loop μ-loop
 returns c =
     let at = c .before in
@@ -90,16 +59,6 @@ returns c =
 
 pub append-spec : {M : Type 1} → statement M
 append-spec =
-    tie.close
-    (tie.spec
-    Inv-loop
-    μ-loop
-    loop-holds
-    shared-slice-read-bytes
-    add-bytes
-    array-write-bytes
-    add-i
-    loop-less
-    loop-again
-    add-t13
-    returns)
+    tie.close (tie.spec
+    Inv-loop μ-loop loop-holds (λ c. omega arith) (λ c. omega arith) (λ c. omega arith) (λ c. omega arith)
+    (λ c. omega arith) loop-again (λ c. omega arith) returns)

@@ -1,5 +1,5 @@
 -- `lines::pages::blank` meets its contract: a page with no text is zeros.
-use mathlib.Core.Path.{refl}
+use Rattle.base.proofs.Prelude.{refl}
 use Rattle.lines.specs.Pages.{pageOf}
 use Rattle.lines.proofs.pages.blank.Statement.{statement}
 use Rattle.lines.proofs.pages.blank.Tie as tie

@@ -1,13 +1,7 @@
 -- `reading::digits::digits_ahead` meets its contract: the digits passed and those ahead are all.
-use Prim.Native.Nat.{ℕ, _+_, _-_, _≤_}
-use mathlib.Core.Path.{_≡_}
-use mathlib.Core.List.{List}
-use native.Mathlib.Omega.{arith}
-use borrow.Author.Needs.{needs}
-use lib.ListN.{length, drop}
-use Rattle.reading.specs.Positions.{digitsAhead}
-use Rattle.reading.proofs.Hex.{ahead-next, ahead-stops, ahead-ends}
-use Rattle.reading.proofs.digits.digits_ahead.Statement.{statement}
+use Rattle.base.proofs.Prelude.{ℕ, _+_, _-_, _≤_, _≡_, List, arith, needs, length, drop}
+use Rattle.reading.specs.inner.Positions.{digitsAhead}
+use Rattle.reading.proofs.{Hex.{ahead-next, ahead-stops, ahead-ends}, digits.digits_ahead.Statement.statement}
 use Rattle.reading.proofs.digits.digits_ahead.Tie as tie
 
 abbrev Inv-loop : tie.InvT-loop
@@ -19,37 +13,16 @@ abbrev μ-loop : tie.MeasureT-loop
 abbrev textOf : tie.At-loop Inv-loop μ-loop → List ℕ
 textOf o = o .before .before .args .text .now
 
-loop-holds : tie.Need-loop-holds Inv-loop μ-loop
-loop-holds c = omega arith
-
-shared-slice-read-b : tie.Need-shared-slice-read-b Inv-loop μ-loop
-shared-slice-read-b c = omega arith
-
-digit-requires : tie.Need-digit-requires Inv-loop μ-loop
-digit-requires c κs = search needs
-
-sub-result : tie.Need-sub-result Inv-loop μ-loop
-sub-result c = omega arith
-
 returns : tie.Need-returns Inv-loop μ-loop
 returns c =
     let o = c .before .before .before .before in
     omega (arith, o .loop .inv .2, ahead-stops (textOf o) (o .loop .i) (omega arith) (omega (arith, c .before .digit .ensures)))
-
-add-i : tie.Need-add-i Inv-loop μ-loop
-add-i c = omega arith
-
-loop-less : tie.Need-loop-less Inv-loop μ-loop
-loop-less c = omega arith
 
 loop-again : tie.Need-loop-again Inv-loop μ-loop
 loop-again c =
     let o = c .before .before .before .before in
     let digit = ahead-next (textOf o) (o .loop .i) (omega arith) (omega (arith, c .before .digit .ensures)) in
     (omega arith, omega arith, omega (arith, o .loop .inv .2))
-
-sub-result-2 : tie.Need-sub-result-2 Inv-loop μ-loop
-sub-result-2 c = omega arith
 
 returns-2 : tie.Need-returns-2 Inv-loop μ-loop
 returns-2 c =
@@ -58,17 +31,6 @@ returns-2 c =
 
 pub digits-ahead-spec : {M : Type 1} → statement M
 digits-ahead-spec =
-    tie.close
-    (tie.spec
-    Inv-loop
-    μ-loop
-    loop-holds
-    shared-slice-read-b
-    digit-requires
-    sub-result
-    returns
-    add-i
-    loop-less
-    loop-again
-    sub-result-2
-    returns-2)
+    tie.close (tie.spec
+    Inv-loop μ-loop (λ c. omega arith) (λ c. omega arith) (λ c κs. search needs) (λ c. omega arith) returns
+    (λ c. omega arith) (λ c. omega arith) loop-again (λ c. omega arith) returns-2)

@@ -1,13 +1,7 @@
 -- `reading::digits::field_at` meets its contract: the bytes read so far write the number so far, and each is below 256.
-use Prim.Native.Nat.{ℕ, _+_, _-_, _*_, _^_, _≤_, _<_}
-use mathlib.Core.Path.{_≡_, sym, ap, _∙_}
-use mathlib.Core.List.{List}
-use native.Mathlib.Omega.{arith}
-use lib.ListN.{length, drop}
-use Rattle.reading.specs.Positions.{digitsAhead, byteIn, numberIn}
-use Rattle.reading.proofs.Hex.{ahead-inside}
-use Rattle.reading.proofs.Fields.{number-none, number-next, byte-small, worth-small, worth-next}
-use Rattle.reading.proofs.digits.field_at.Statement.{statement}
+use Rattle.base.proofs.Prelude.{ℕ, _+_, _-_, _*_, _^_, _≤_, _<_, _≡_, sym, ap, _∙_, List, arith, length, drop}
+use Rattle.reading.specs.inner.Positions.{digitsAhead, byteIn, numberIn}
+use Rattle.reading.proofs.{Hex.ahead-inside, Fields.{number-none, number-next, byte-small, worth-small, worth-next}, digits.field_at.Statement.statement}
 use Rattle.reading.proofs.digits.field_at.Tie as tie
 
 abbrev Inv-loop : tie.InvT-loop
@@ -44,33 +38,6 @@ below c =
     let o = c .before .before in
     omega (arith, o .loop .inv .2, worth-small (o .loop .i) (omega (arith, start o .pre .1, c .if1 .taken)))
 
-loop-holds : tie.Need-loop-holds Inv-loop μ-loop
-loop-holds c = (omega arith, sym (number-none _ _ _), omega arith)
-
-mul-v : tie.Need-mul-v Inv-loop μ-loop
-mul-v c = omega (arith, below c)
-
-add-byte-at : tie.Need-add-byte-at Inv-loop μ-loop
-add-byte-at c = omega (arith, inside (c .before))
-
-mul-byte-at : tie.Need-mul-byte-at Inv-loop μ-loop
-mul-byte-at c = omega (arith, inside (c .before))
-
-add-byte-at-2 : tie.Need-add-byte-at-2 Inv-loop μ-loop
-add-byte-at-2 c = omega (arith, inside (c .before))
-
-byte-at-requires : tie.Need-byte-at-requires Inv-loop μ-loop
-byte-at-requires c κs = omega (arith, inside (c .before))
-
-add-v : tie.Need-add-v Inv-loop μ-loop
-add-v c = omega (arith, below (c .before .before), c .byte-at .ensures, small (c .before .before))
-
-add-i : tie.Need-add-i Inv-loop μ-loop
-add-i c = omega (arith, c .before .before .if1 .taken)
-
-loop-less : tie.Need-loop-less Inv-loop μ-loop
-loop-less c = omega arith
-
 loop-again : tie.Need-loop-again Inv-loop μ-loop
 loop-again c =
     let into = c .before .before in
@@ -92,18 +59,9 @@ returns c =
 
 pub field-at-spec : {M : Type 1} → statement M
 field-at-spec =
-    tie.close
-    (tie.spec
-    Inv-loop
-    μ-loop
-    loop-holds
-    mul-v
-    add-byte-at
-    mul-byte-at
-    add-byte-at-2
-    byte-at-requires
-    add-v
-    add-i
-    loop-less
-    loop-again
-    returns)
+    tie.close (tie.spec
+    Inv-loop μ-loop (λ c. (omega arith, sym (number-none _ _ _), omega arith)) (λ c. omega (arith, below c))
+    (λ c. omega (arith, inside (c .before))) (λ c. omega (arith, inside (c .before)))
+    (λ c. omega (arith, inside (c .before))) (λ c κs. omega (arith, inside (c .before)))
+    (λ c. omega (arith, below (c .before .before), c .byte-at .ensures, small (c .before .before)))
+    (λ c. omega (arith, c .before .before .if1 .taken)) (λ c. omega arith) loop-again returns)

@@ -1,14 +1,7 @@
 -- `reading::frames::frame_check` meets its contract: its form decides first, then its size, then its kind.
-use Prim.Native.Nat.{_/_}
-use mathlib.Core.Path.{_≡_, sym, ap, _∙_}
-use native.Mathlib.Omega.{arith}
-use borrow.Author.Tests.{not-true, not-false}
-use borrow.Author.Needs.{needs}
-use lib.ListN.{drop}
-use Rattle.reading.specs.Positions.{digitsAhead}
-use Rattle.reading.proofs.Lines.{Formed, formed-is}
-use Rattle.reading.proofs.Framing.{check-malformed, check-size, check-kind, check-good}
-use Rattle.reading.proofs.frames.frame_check.Statement.{statement}
+use Rattle.base.proofs.Prelude.{_/_, _≡_, sym, ap, _∙_, arith, not-true, not-false, needs, drop}
+use Rattle.reading.specs.inner.Positions.{digitsAhead}
+use Rattle.reading.proofs.{Lines.{Formed, formed-is}, Framing.{check-malformed, check-size, check-kind, check-good}, frames.frame_check.Statement.statement}
 use Rattle.reading.proofs.frames.frame_check.Tie as tie
 
 abbrev start : tie.After-digits-ahead → tie.Start
@@ -20,12 +13,6 @@ half d = ap (λ n. n / 2) (sym (d .digits-ahead .ensures))
 
 formed : (c : tie.Else1) → Formed (start (c .before .before) .args .text .now) (start (c .before .before) .args .at)
 formed c = formed-is _ _ (sym (c .before .well-formed .ensures) ∙ not-false _ (c .if1 .left))
-
-digits-ahead-requires : tie.Need-digits-ahead-requires
-digits-ahead-requires c κs = search needs
-
-well-formed-requires : tie.Need-well-formed-requires
-well-formed-requires c κs = search needs
 
 returns : tie.Need-returns
 returns c =
@@ -65,12 +52,5 @@ returns-4 c =
 
 pub frame-check-spec : {M : Type 1} → statement M
 frame-check-spec =
-    tie.close
-    (tie.spec
-    digits-ahead-requires
-    well-formed-requires
-    returns
-    returns-2
-    field-at-requires
-    returns-3
-    returns-4)
+    tie.close (tie.spec
+    (λ c κs. search needs) (λ c κs. search needs) returns returns-2 field-at-requires returns-3 returns-4)

@@ -1,12 +1,6 @@
 -- `reading::frames::well_formed` meets its contract: each test that ends it denies a part of a well-formed line.
-use Prim.Native.Nat.{_+_}
-use mathlib.Core.Path.{sym, ap, _∙_}
-use native.Mathlib.Omega.{arith}
-use borrow.Author.Needs.{needs}
-use lib.ListN.{getD, drop, length-drop}
-use Rattle.reading.proofs.Hex.{digitsAhead-fits}
-use Rattle.reading.proofs.Lines.{formed-not, formed-even}
-use Rattle.reading.proofs.frames.well_formed.Statement.{statement}
+use Rattle.base.proofs.Prelude.{_+_, sym, ap, _∙_, arith, needs, getD, drop, length-drop}
+use Rattle.reading.proofs.{Hex.digitsAhead-fits, Lines.{formed-not, formed-even}, frames.well_formed.Statement.statement}
 use Rattle.reading.proofs.frames.well_formed.Tie as tie
 
 add-end : tie.Need-add-end
@@ -18,9 +12,6 @@ returns : tie.Need-returns
 returns c =
     let g = c .before .args in
     sym (formed-not (g .text .now) (g .at) (λ f. omega (arith, c .before .pre .1, f .inside)))
-
-shared-slice-read-b : tie.Need-shared-slice-read-b
-shared-slice-read-b c = search needs
 
 returns-2 : tie.Need-returns-2
 returns-2 c =
@@ -42,5 +33,4 @@ returns-4 c =
     rw (start .pre .1) (formed-even (g .text .now) (g .at) (omega (arith, start .pre .1)) newline (omega (arith, start .pre .1)))
 
 pub well-formed-spec : {M : Type 1} → statement M
-well-formed-spec =
-    tie.close (tie.spec add-end returns shared-slice-read-b returns-2 returns-3 returns-4)
+well-formed-spec = tie.close (tie.spec add-end returns (λ c. search needs) returns-2 returns-3 returns-4)

@@ -1,47 +1,32 @@
 -- `reading::header::header_check` meets its contract: the frame decides first, then its numbers.
-use mathlib.Core.Path.{_≡_, sym, ap, _∙_}
-use borrow.Author.Needs.{needs}
+use Rattle.base.proofs.Prelude.{_≡_, sym, ap, _∙_, needs}
 use Rattle.faults.specs.declared.Checked.the-variants.{Lawful}
 use Rattle.faults.proofs.Checks.{then-lawful, then-refused}
-use Rattle.rules.specs.Layout.{Frames}
-use Rattle.rules.specs.Text.{Line, headerCheck, frameCheck, layoutCheck}
-use Rattle.layouts.specs.declared.Layout as code
-use Rattle.layouts.specs.Versions.{framesBy}
+use Rattle.rules.specs.{Layout.{Version, headerFrame}, Text.{Line, headerCheck, frameCheck, layoutCheck}}
+use Rattle.layouts.specs.inner.Versions.{meantBy}
 use Rattle.layouts.proofs.Versions.{header-known}
-use Rattle.reading.specs.Positions.{lineAt}
-use Rattle.reading.proofs.Framing.{frameCheck-frame}
-use Rattle.reading.proofs.header.header_check.Statement.{statement}
+use Rattle.reading.specs.inner.Positions.{lineAt}
+use Rattle.reading.proofs.{Framing.frameCheck-frame, header.header_check.Statement.statement}
+use Rattle.layouts.specs.declared.Layout as code
 use Rattle.reading.proofs.header.header_check.Tie as tie
 
 abbrev start : tie.After-frame-check → tie.Start
 start c = c .before .before
 
-abbrev framesOf : tie.After-frame-check → Frames
-framesOf c = framesBy (start c .args .version)
+abbrev versionOf : tie.After-frame-check → Version
+versionOf c = meantBy (start c .args .version)
 
 abbrev lineOf : tie.After-frame-check → Line
 lineOf c = lineAt (start c .args .text .now) 0
 
 -- what the frame's check said
-framed : (c : tie.After-frame-check) → c .frame-check .result ≡ layoutCheck 1 (framesOf c .header) (lineOf c)
+framed : (c : tie.After-frame-check) → c .frame-check .result ≡ layoutCheck 1 (headerFrame (versionOf c)) (lineOf c)
 framed c =
     c .frame-check .ensures
     ∙ ap (λ (l : code.Layout). frameCheck 1 (l .kind) (l .size) (lineOf c)) (header-known (start c .args .version) (start c .pre))
 
-lawful : (c : tie.After-enum-told) → layoutCheck 1 (framesOf (c .before .before) .header) (lineOf (c .before .before)) ≡ Lawful
+lawful : (c : tie.After-enum-told) → layoutCheck 1 (headerFrame (versionOf (c .before .before))) (lineOf (c .before .before)) ≡ Lawful
 lawful c = sym (framed (c .before .before)) ∙ c .enum-told .given .1
-
-frame-check-requires : tie.Need-frame-check-requires
-frame-check-requires c κs = search needs
-
-enum-told : tie.Need-enum-told
-enum-told c = search needs
-
-numbers-check-requires : tie.Need-numbers-check-requires
-numbers-check-requires c κs = (start (c .before .before) .pre, frameCheck-frame _ 0 1 _ _ (lawful c))
-
-enum-known-frame : tie.Need-enum-known-frame
-enum-known-frame c = search needs
 
 returns : tie.Need-returns
 unfolding headerCheck
@@ -55,11 +40,7 @@ returns-2 c =
 
 pub header-check-spec : {M : Type 1} → statement M
 header-check-spec =
-    tie.close
-    (tie.spec
-    frame-check-requires
-    enum-told
-    numbers-check-requires
-    enum-known-frame
-    returns
+    tie.close (tie.spec
+    (λ c κs. search needs) (λ c. search needs)
+    (λ c κs. (start (c .before .before) .pre, frameCheck-frame _ 0 1 _ _ (lawful c))) (λ c. search needs) returns
     returns-2)

@@ -1,29 +1,20 @@
 -- `reading::strings::plan_in` meets its contract: the array holds the strings read so far, and the filler behind them.
-use Prim.Native.Nat.{ℕ, _-_, _*_, _≤_}
-use mathlib.Core.Path.{_≡_, ap, _∙_}
-use mathlib.Core.List.{List, map}
-use native.Mathlib.Omega.{arith}
-use Rattle.lists.specs.Count.{filled}
-use Rattle.rules.specs.declared.BatteryString.{BatteryString}
-use Rattle.rules.specs.Plan.{noString}
-use Rattle.rules.specs.Layout.{Frames, Run}
-use Rattle.rules.specs.Text.{runIn, stringOf}
-use Rattle.layouts.specs.Versions.{framesBy}
-use Rattle.layouts.proofs.Versions.{run-known, run-size, string-line, string-line-short, header-short, ten-short}
-use Rattle.reading.specs.Positions.{lineAt, linesAt}
-use Rattle.reading.proofs.Said.{field-room, field-said}
-use Rattle.reading.proofs.Standing.{stored-none, stored-more}
-use Rattle.reading.proofs.Whole.{plan-said}
-use Rattle.reading.proofs.strings.plan_in.Statement.{statement}
+use Rattle.base.proofs.Prelude.{ℕ, _-_, _*_, _≤_, _≡_, ap, _∙_, List, map, arith}
+use Rattle.base.specs.Count.{filled}
+use Rattle.rules.specs.{declared.BatteryString.BatteryString, Plan.noString, Layout.{Version, Run, headerFrame}, Text.{runIn, stringOf}}
+use Rattle.layouts.specs.inner.Versions.{meantBy}
+use Rattle.layouts.proofs.Versions.{run-known, run-small, string-line, string-line-short, header-short, ten-short}
+use Rattle.reading.specs.inner.Positions.{lineAt, linesAt}
+use Rattle.reading.proofs.{Said.{field-room, field-said}, Standing.{stored-none, stored-more}, Whole.plan-said, strings.plan_in.Statement.statement}
 use Rattle.reading.proofs.strings.plan_in.Tie as tie
 
 -- what is stored of i strings; each line takes step bytes
-abbrev stored : Frames → List ℕ → ℕ → ℕ → ℕ → List BatteryString
+abbrev stored : Version → List ℕ → ℕ → ℕ → ℕ → List BatteryString
 stored v text start step i = filled 10 noString (map (stringOf v (lineAt text 0)) (linesAt text start step i))
 
 abbrev Inv-loop : tie.InvT-loop
 Inv-loop text start n version strings₀ i₀ strings i =
-    (i ≤ n) × (strings ≡ stored (framesBy version) text start (version .string .line) i)
+    (i ≤ n) × (strings ≡ stored (meantBy version) text start (version .string .line) i)
 
 abbrev μ-loop : tie.MeasureT-loop
 μ-loop text start n version strings₀ i₀ strings i = n - i
@@ -34,8 +25,8 @@ begin o = o .before .before
 abbrev reached : tie.After-struct-known Inv-loop μ-loop → tie.At-loop Inv-loop μ-loop
 reached c = c .before .before
 
-abbrev framesOf : tie.At-loop Inv-loop μ-loop → Frames
-framesOf o = framesBy (begin o .args .version)
+abbrev versionOf : tie.At-loop Inv-loop μ-loop → Version
+versionOf o = meantBy (begin o .args .version)
 
 abbrev stepOf : tie.At-loop Inv-loop μ-loop → ℕ
 stepOf o = begin o .args .version .string .line
@@ -43,7 +34,7 @@ stepOf o = begin o .args .version .string .line
 few : (o : tie.At-loop Inv-loop μ-loop) → begin o .args .n ≤ 10
 few o = begin o .pre .1 .1 .0 .2
 
-near : (o : tie.At-loop Inv-loop μ-loop) → o .loop .i * stepOf o ≤ 210
+near : (o : tie.At-loop Inv-loop μ-loop) → o .loop .i * stepOf o ≤ 600
 near o =
     let b = begin o in
     ten-short (o .loop .i) (stepOf o) (omega (arith, o .loop .inv .0, few o)) (string-line-short (b .args .version) (b .pre .0))
@@ -51,10 +42,7 @@ near o =
 loop-holds : tie.Need-loop-holds Inv-loop μ-loop
 loop-holds c =
     let g = c .before .args in
-    (omega arith, stored-none noString (stringOf (framesBy (g .version)) _) 10 (g .text .now) (g .start) (g .version .string .line))
-
-mul-string-at : tie.Need-mul-string-at Inv-loop μ-loop
-mul-string-at c = omega (arith, near (reached c))
+    (omega arith, stored-none noString (stringOf (meantBy (g .version)) _) 10 (g .text .now) (g .start) (g .version .string .line))
 
 add-string-at : tie.Need-add-string-at Inv-loop μ-loop
 add-string-at c =
@@ -68,24 +56,12 @@ string-at-requires c κs =
     let long = string-line (b .args .version) (b .pre .0) in
     (b .pre .0, (b .pre .1 .0, rw long (b .pre .1 .1 .1 .each (o .loop .i) (omega arith))))
 
-mul-strings : tie.Need-mul-strings Inv-loop μ-loop
-mul-strings c = omega (arith, few (reached (c .before)))
-
-array-set-from-strings : tie.Need-array-set-from-strings Inv-loop μ-loop
-array-set-from-strings c = omega (arith, few (reached (c .before)))
-
-add-i : tie.Need-add-i Inv-loop μ-loop
-add-i c = omega (arith, few (reached (c .before)))
-
-loop-less : tie.Need-loop-less Inv-loop μ-loop
-loop-less c = omega arith
-
 loop-again : tie.Need-loop-again Inv-loop μ-loop
 loop-again c =
     let o = reached (c .before) in
     let few = few o in (
       omega arith,
-      stored-more noString (stringOf (framesOf o) _) 10 _ _ (stepOf o) (o .loop .i) _ _ (omega arith) (o .loop .inv .1)
+      stored-more noString (stringOf (versionOf o) _) 10 _ _ (stepOf o) (o .loop .i) _ _ (omega arith) (o .loop .inv .1)
           (c .string-at .ensures),
     )
 
@@ -93,8 +69,8 @@ field-at-requires : tie.Need-field-at-requires Inv-loop μ-loop
 field-at-requires c κs =
     let b = begin (c .before) in
     let version = b .args .version in
-    field-room (b .args .text .now) 0 (framesBy version .header) Run _ (run-known version (b .pre .0)) (b .pre .1 .0)
-    (run-size version (b .pre .0))
+    field-room (b .args .text .now) 0 (headerFrame (meantBy version)) Run _ (run-known version (b .pre .0)) (b .pre .1 .0)
+    (run-small version (b .pre .0))
 
 returns : tie.Need-returns Inv-loop μ-loop
 unfolding runIn
@@ -102,11 +78,11 @@ returns c =
     let o = c .before .before in
     let b = begin o in
     let version = b .args .version in
-    let v = framesBy version in
+    let v = meantBy version in
     let text = b .args .text .now in
     let all : o .loop .i ≡ b .args .n = omega arith in
     let known = b .pre .1 .1 .0 in
-    let run = c .field-at .ensures ∙ field-said text 0 (v .header) Run _ (run-known version (b .pre .0)) (b .pre .1 .0) in
+    let run = c .field-at .ensures ∙ field-said text 0 (headerFrame v) Run _ (run-known version (b .pre .0)) (b .pre .1 .0) in
     let strings =
     o .loop .inv .1 ∙ ap (stored v text (b .args .start) (stepOf o)) all
     ∙ ap (λ step. stored v text (b .args .start) step (b .args .n)) (string-line version (b .pre .0))
@@ -115,18 +91,7 @@ returns c =
 
 pub plan-in-spec : {M : Type 1} → statement M
 plan-in-spec =
-    tie.close
-    (tie.spec
-    Inv-loop
-    μ-loop
-    loop-holds
-    mul-string-at
-    add-string-at
-    string-at-requires
-    mul-strings
-    array-set-from-strings
-    add-i
-    loop-less
-    loop-again
-    field-at-requires
-    returns)
+    tie.close (tie.spec
+    Inv-loop μ-loop loop-holds (λ c. omega (arith, near (reached c))) add-string-at string-at-requires
+    (λ c. omega (arith, few (reached (c .before)))) (λ c. omega (arith, few (reached (c .before))))
+    (λ c. omega (arith, few (reached (c .before)))) (λ c. omega arith) loop-again field-at-requires returns)

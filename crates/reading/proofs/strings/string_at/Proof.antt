@@ -1,20 +1,16 @@
 -- `reading::strings::string_at` meets its contract: T, C, D and X stand at the same positions in all versions.
-use Prim.Native.Nat.{ℕ}
-use mathlib.Core.Path.{_∙_}
-use native.Mathlib.Omega.{arith}
-use borrow.Author.Needs.{needs}
-use Rattle.rules.specs.Layout.{Layout, X, T, C, D}
-use Rattle.layouts.specs.Versions.{framesBy}
+use Rattle.base.proofs.Prelude.{ℕ, _∙_, arith, needs}
+use Rattle.rules.specs.Layout.{Layout, StringField, X, T, C, D, stringFrame}
+use Rattle.layouts.specs.inner.Versions.{meantBy}
 use Rattle.layouts.proofs.Versions.{x-place, t-place, c-place, d-place}
-use Rattle.reading.proofs.Said.{field-room, field-said, string-said}
-use Rattle.reading.proofs.strings.string_at.Statement.{statement}
+use Rattle.reading.proofs.{Said.{field-room, field-said, string-said}, strings.string_at.Statement.statement}
 use Rattle.reading.proofs.strings.string_at.Tie as tie
 
 abbrev start : tie.After-field-at → tie.Start
 start c = c .before .before
 
-abbrev layoutOf : tie.Start → Layout
-layoutOf s = framesBy (s .args .version) .string
+abbrev layoutOf : tie.Start → Layout StringField
+layoutOf s = stringFrame (meantBy (s .args .version))
 
 abbrev numberOf : tie.Start → ℕ
 numberOf s = s .args .version .number
@@ -39,9 +35,6 @@ field-at-requires-4 c κs =
     let s = start (c .before .before) in
     field-room (s .args .text .now) (s .args .at) (layoutOf s) D _ (d-place (numberOf s)) (s .pre .1 .1) (omega arith)
 
-cost-at-requires : tie.Need-cost-at-requires
-cost-at-requires c κs = search needs
-
 returns : tie.Need-returns
 returns c =
     let d = c .before in
@@ -51,7 +44,7 @@ returns c =
     let at = s .args .at in
     let l = layoutOf s in
     let frame = s .pre .1 .1 in
-    string-said (framesBy (s .args .version)) _ _ _ _ _ _ _
+    string-said (meantBy (s .args .version)) _ _ _ _ _ _ _
     (t .field-at2 .ensures ∙ field-said text at l T _ (t-place (numberOf s)) frame)
     (d .before .field-at3 .ensures ∙ field-said text at l C _ (c-place (numberOf s)) frame)
     (d .field-at4 .ensures ∙ field-said text at l D _ (d-place (numberOf s)) frame)
@@ -60,11 +53,5 @@ returns c =
 
 pub string-at-spec : {M : Type 1} → statement M
 string-at-spec =
-    tie.close
-    (tie.spec
-    field-at-requires
-    field-at-requires-2
-    field-at-requires-3
-    field-at-requires-4
-    cost-at-requires
-    returns)
+    tie.close (tie.spec
+    field-at-requires field-at-requires-2 field-at-requires-3 field-at-requires-4 (λ c κs. search needs) returns)

@@ -1,5 +1,5 @@
 -- `rules::Plan::moving_cost` meets its contract: a string pays its own cost.
-use mathlib.Core.Path.{refl}
+use Rattle.base.proofs.Prelude.{refl}
 use Rattle.rules.specs.Demand.{movingCost}
 use Rattle.rules.proofs.Plan.moving_cost.Statement.{statement}
 use Rattle.rules.proofs.Plan.moving_cost.Tie as tie

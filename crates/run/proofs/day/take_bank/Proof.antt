@@ -1,20 +1,10 @@
 -- `run::day::take_bank` meets its contract: the tests are those of step 3, in its order, and what the payer has of moving still fits.
-use Prim.Native.Nat.{_≤_}
-use mathlib.Core.Path.{_≡_, sym, ap, _∙_}
-use native.Mathlib.Omega.{arith}
-use lib.ListN.{take}
+use Rattle.base.proofs.Prelude.{_≤_, _≡_, sym, ap, _∙_, arith, take, needs}
 use Rattle.rules.specs.Run.{slotAt, withJob, holder, payer, stop}
 use Rattle.slots.proofs.Questions.{holder-asked, payer-asked}
-use Rattle.laws.proofs.Slots.{slotAt-take}
-use Rattle.laws.proofs.Steps.{taken-free, taken-kept}
-use Rattle.run.proofs.FirstSlots.{holder-in, payer-in, taken-take}
-use Rattle.run.proofs.State.{payer-affords}
-use borrow.Author.Needs.{needs}
-use Rattle.run.proofs.day.take_bank.Statement.{statement}
+use Rattle.laws.proofs.{Slots.slotAt-take, Steps.{taken-free, taken-kept}}
+use Rattle.run.proofs.{FirstSlots.{holder-in, payer-in, taken-take}, State.payer-affords, day.take_bank.Statement.statement}
 use Rattle.run.proofs.day.take_bank.Tie as tie
-
-chosen-place-requires : tie.Need-chosen-place-requires
-chosen-place-requires c κs = search needs
 
 holds : (c : tie.After-chosen-place) → c .chosen-place .result ≡ holder (take (c .before .args .p .n) (c .before .args .t1))
 holds c = c .chosen-place .ensures ∙ holder-asked _
@@ -25,23 +15,8 @@ place c =
     let high = holder-in (c .before .args .t1) (c .before .args .p .n) in
     (omega (arith, holds c), omega (arith, holds c, c .before .good .0 .1 .0 .1))
 
-returns : tie.Need-returns
-returns c = sym (taken-free _ _ _ (sym (holds (c .before)) ∙ c .if1 .taken))
-
 held : (c : tie.Else1) → holder (take (c .before .before .args .p .n) (c .before .before .args .t1)) ≡ 0 → ⊥
 held c z = c .if1 .left (holds (c .before) ∙ z)
-
-sub-held : tie.Need-sub-held
-sub-held c = search needs
-
-mul-held : tie.Need-mul-held
-mul-held c = omega (arith, place (c .before) .1)
-
-array-copy-out-held : tie.Need-array-copy-out-held
-array-copy-out-held c = omega (arith, place (c .before) .1)
-
-chosen-place-requires-2 : tie.Need-chosen-place-requires-2
-chosen-place-requires-2 c κs = search needs
 
 -- where the holder is known
 abbrev on : tie.After-chosen-place2 → tie.After-chosen-place
@@ -60,9 +35,6 @@ pays c =
 
 returns-2 : tie.Need-returns-2
 returns-2 c = sym (taken-kept _ _ _ (held (c .before .before .before .before)) (sym (pays (c .before)) ∙ c .if2 .taken))
-
-stopped-job-requires : tie.Need-stopped-job-requires
-stopped-job-requires c κs = search needs
 
 with-job-requires : tie.Need-with-job-requires
 with-job-requires c κs =
@@ -104,16 +76,7 @@ returns-3 c =
 
 pub take-bank-spec : {M : Type 1} → statement M
 take-bank-spec =
-    tie.close
-    (tie.spec
-    chosen-place-requires
-    returns
-    sub-held
-    mul-held
-    array-copy-out-held
-    chosen-place-requires-2
-    returns-2
-    stopped-job-requires
-    with-job-requires
-    charge-at-requires
-    returns-3)
+    tie.close (tie.spec
+    (λ c κs. search needs) (λ c. sym (taken-free _ _ _ (sym (holds (c .before)) ∙ c .if1 .taken))) (λ c. search needs)
+    (λ c. omega (arith, place (c .before) .1)) (λ c. omega (arith, place (c .before) .1)) (λ c κs. search needs)
+    returns-2 (λ c κs. search needs) with-job-requires charge-at-requires returns-3)

@@ -1,18 +1,10 @@
 -- `run::day::use_day` meets its contract: the test is that of step 5.
-use Prim.Native.Nat.{_≤_}
-use mathlib.Core.Path.{_≡_, sym, ap, _∙_}
-use native.Mathlib.Omega.{arith}
-use lib.ListN.{take}
+use Rattle.base.proofs.Prelude.{_≤_, _≡_, sym, ap, _∙_, arith, take, needs}
 use Rattle.rules.specs.Run.{withJob, holder}
 use Rattle.slots.proofs.Questions.{holder-asked}
 use Rattle.laws.proofs.Steps.{useOf-free, spent-free}
-use Rattle.run.proofs.FirstSlots.{holder-in, useOf-take, spent-take}
-use borrow.Author.Needs.{needs}
-use Rattle.run.proofs.day.use_day.Statement.{statement}
+use Rattle.run.proofs.{FirstSlots.{holder-in, useOf-take, spent-take}, day.use_day.Statement.statement}
 use Rattle.run.proofs.day.use_day.Tie as tie
-
-chosen-place-requires : tie.Need-chosen-place-requires
-chosen-place-requires c κs = search needs
 
 holds : (c : tie.After-chosen-place) → c .chosen-place .result ≡ holder (take (c .before .args .n) (c .before .args .t1))
 holds c = c .chosen-place .ensures ∙ holder-asked _
@@ -25,21 +17,6 @@ returns : tie.Need-returns
 returns c =
     let free = sym (holds (c .before)) ∙ c .if1 .taken in
     record { used = sym (useOf-free _ free); after = sym (spent-free _ free) }
-
-sub-held : tie.Need-sub-held
-sub-held c = search needs
-
-mul-held : tie.Need-mul-held
-mul-held c = omega (arith, place (c .before))
-
-array-copy-out-held : tie.Need-array-copy-out-held
-array-copy-out-held c = omega (arith, place (c .before))
-
-use-for-requires : tie.Need-use-for-requires
-use-for-requires c κs = search needs
-
-spent-job-requires : tie.Need-spent-job-requires
-spent-job-requires c κs = search needs
 
 with-job-requires : tie.Need-with-job-requires
 with-job-requires c κs =
@@ -60,14 +37,6 @@ returns-2 c =
 
 pub use-day-spec : {M : Type 1} → statement M
 use-day-spec =
-    tie.close
-    (tie.spec
-    chosen-place-requires
-    returns
-    sub-held
-    mul-held
-    array-copy-out-held
-    use-for-requires
-    spent-job-requires
-    with-job-requires
-    returns-2)
+    tie.close (tie.spec
+    (λ c κs. search needs) returns (λ c. search needs) (λ c. omega (arith, place (c .before)))
+    (λ c. omega (arith, place (c .before))) (λ c κs. search needs) (λ c κs. search needs) with-job-requires returns-2)

@@ -1,20 +1,8 @@
 -- `run::release::day_after` meets its contract: the sum fits, so the answer is a day.
-use Prim.Native.Nat.{ℕ}
-use mathlib.Core.Path.{_≡_}
-use native.Mathlib.Omega.{arith}
+use Rattle.base.proofs.Prelude.{ℕ, _≡_, arith, needs}
 use Rattle.days.proofs.Days.{laterOf-fits}
-use borrow.Author.Needs.{needs}
 use Rattle.run.proofs.release.day_after.Statement.{statement}
 use Rattle.run.proofs.release.day_after.Tie as tie
-
-plus-requires : tie.Need-plus-requires
-plus-requires c κs = search needs
-
-enum-known-later : tie.Need-enum-known-later
-enum-known-later c = search needs
-
-enum-told : tie.Need-enum-told
-enum-told c = search needs
 
 returns : tie.Need-returns
 returns c =
@@ -27,4 +15,4 @@ returns-2 c = let told = laterOf-fits _ _ (c .before .before .before .pre) in
     absurd (omega arith)
 
 pub day-after-spec : {M : Type 1} → statement M
-day-after-spec = tie.close (tie.spec plus-requires enum-known-later enum-told returns returns-2)
+day-after-spec = tie.close (tie.spec (λ c κs. search needs) (λ c. search needs) (λ c. search needs) returns returns-2)

@@ -1,36 +1,11 @@
 -- `run::tally::counted` meets its contract: in each arm the day is of the kind that the arm names.
-use borrow.Author.Needs.{needs}
+use Rattle.base.proofs.Prelude.{needs}
 use Rattle.run.proofs.tally.counted.Statement.{statement}
 use Rattle.run.proofs.tally.counted.Tie as tie
 
-enum-told : tie.Need-enum-told
-enum-told c = search needs
-
-add-t7 : tie.Need-add-t7
-add-t7 c = search needs
-
-enum-told-2 : tie.Need-enum-told-2
-enum-told-2 c = search needs
-
-add-t9 : tie.Need-add-t9
-add-t9 c = search needs
-
-enum-told-3 : tie.Need-enum-told-3
-enum-told-3 c = search needs
-
-add-t11 : tie.Need-add-t11
-add-t11 c = search needs
-
-returns : tie.Need-returns
-returns c = rw (c .before .enum-told .given .1)
-
-returns-2 : tie.Need-returns-2
-returns-2 c = rw (c .before .enum-told2 .given .1)
-
-returns-3 : tie.Need-returns-3
-returns-3 c = rw (c .before .enum-told3 .given .1)
-
 pub counted-spec : {M : Type 1} → statement M
 counted-spec =
-    tie.close
-    (tie.spec enum-told add-t7 enum-told-2 add-t9 enum-told-3 add-t11 returns returns-2 returns-3)
+    tie.close (tie.spec
+    (λ c. search needs) (λ c. search needs) (λ c. search needs) (λ c. search needs) (λ c. search needs)
+    (λ c. search needs) (λ c. rw (c .before .enum-told .given .1)) (λ c. rw (c .before .enum-told2 .given .1))
+    (λ c. rw (c .before .enum-told3 .given .1)))

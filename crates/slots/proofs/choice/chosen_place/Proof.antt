@@ -1,12 +1,7 @@
 -- `slots::choice::chosen_place` meets its contract: the loop holds the choice among the places passed.
-use Prim.Native.Nat.{suc, _-_, _≤_}
-use mathlib.Core.Path.{_≡_, refl, sym, ap, _∙_}
-use mathlib.Core.Logic.{⊎-elim}
-use native.Mathlib.Omega.{arith}
-use native.Mathlib.Numerals.{add-one}
-use lib.ListN.{length, take, length-take}
+use Rattle.base.proofs.Prelude.{suc, _-_, _≤_, _≡_, refl, sym, ap, _∙_, ⊎-elim, arith, add-one, length, take, length-take}
 use Rattle.rules.specs.Run.{chosen}
-use Rattle.slots.specs.Question.{okOf, aheadOf, chosenFor}
+use Rattle.slots.specs.inner.Question.{okOf, aheadOf, chosenFor}
 use Rattle.laws.proofs.Choice.{chosen-not, chosen-first, chosen-ahead, chosen-behind, chosen-le, chosen-all}
 use Rattle.slots.proofs.choice.chosen_place.Statement.{statement}
 use Rattle.slots.proofs.choice.chosen_place.Tie as tie
@@ -17,27 +12,9 @@ Inv-loop q n slots end best₀ k₀ best k = (k ≤ end) × (end ≤ 10) × (bes
 abbrev μ-loop : tie.MeasureT-loop
 μ-loop q n slots end best₀ k₀ best k = end - k
 
-counted-requires : tie.Need-counted-requires Inv-loop μ-loop
-counted-requires c κs = tt
-
 loop-holds : tie.Need-loop-holds Inv-loop μ-loop
 unfolding chosen
 loop-holds c = (omega arith, omega (arith, c .counted .ensures), refl)
-
-mul-s : tie.Need-mul-s Inv-loop μ-loop
-mul-s c = omega arith
-
-array-copy-out-s : tie.Need-array-copy-out-s Inv-loop μ-loop
-array-copy-out-s c = omega arith
-
-passes-requires : tie.Need-passes-requires Inv-loop μ-loop
-passes-requires c κs = tt
-
-add-best : tie.Need-add-best Inv-loop μ-loop
-add-best c = omega arith
-
-sub-r : tie.Need-sub-r Inv-loop μ-loop
-sub-r c = omega arith
 
 mul-r : tie.Need-mul-r Inv-loop μ-loop
 mul-r c =
@@ -56,18 +33,6 @@ array-copy-out-r c =
       chosen-le (okOf (o .before .before .args .q)) (aheadOf (o .before .before .args .q)) (o .before .before .args .t2)
           (o .loop .k),
     )
-
-is-ahead-requires : tie.Need-is-ahead-requires Inv-loop μ-loop
-is-ahead-requires c κs = tt
-
-add-best-2 : tie.Need-add-best-2 Inv-loop μ-loop
-add-best-2 c = omega arith
-
-add-k : tie.Need-add-k Inv-loop μ-loop
-add-k c = omega arith
-
-loop-less : tie.Need-loop-less Inv-loop μ-loop
-loop-less c = omega arith
 
 loop-again : tie.Need-loop-again Inv-loop μ-loop
 loop-again c =
@@ -107,22 +72,7 @@ returns c =
 
 pub chosen-place-spec : {M : Type 1} → statement M
 chosen-place-spec =
-    tie.close
-    (tie.spec
-    Inv-loop
-    μ-loop
-    counted-requires
-    loop-holds
-    mul-s
-    array-copy-out-s
-    passes-requires
-    add-best
-    sub-r
-    mul-r
-    array-copy-out-r
-    is-ahead-requires
-    add-best-2
-    add-k
-    loop-less
-    loop-again
-    returns)
+    tie.close (tie.spec
+    Inv-loop μ-loop (λ c κs. tt) loop-holds (λ c. omega arith) (λ c. omega arith) (λ c κs. tt) (λ c. omega arith)
+    (λ c. omega arith) mul-r array-copy-out-r (λ c κs. tt) (λ c. omega arith) (λ c. omega arith) (λ c. omega arith)
+    loop-again returns)

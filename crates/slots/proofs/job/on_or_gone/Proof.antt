@@ -1,14 +1,7 @@
 -- `slots::job::on_or_gone` meets its contract: some is left exactly where the sum is not 0.
-use Prim.Native.Nat.{_+_}
-use mathlib.Core.Path.{_≡_, sym, _∙_}
-use native.Mathlib.Omega.{arith}
-use borrow.Author.Tests.{ltb-true, ltb-false, eq-eqb, ne-eqb}
-use borrow.Author.Needs.{needs}
+use Rattle.base.proofs.Prelude.{_+_, _≡_, sym, _∙_, arith, ltb-true, ltb-false, eq-eqb, ne-eqb, needs}
 use Rattle.slots.proofs.job.on_or_gone.Statement.{statement}
 use Rattle.slots.proofs.job.on_or_gone.Tie as tie
-
-some-left-requires : tie.Need-some-left-requires
-some-left-requires c κs = search needs
 
 returns : tie.Need-returns
 returns c = let g = c .before .before .args in
@@ -22,4 +15,4 @@ returns-2 c = let g = c .before .before .args in
     rw (eq-eqb _ 0 zero)
 
 pub on-or-gone-spec : {M : Type 1} → statement M
-on-or-gone-spec = tie.close (tie.spec some-left-requires returns returns-2)
+on-or-gone-spec = tie.close (tie.spec (λ c κs. search needs) returns returns-2)

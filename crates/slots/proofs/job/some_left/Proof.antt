@@ -1,9 +1,5 @@
 -- `slots::job::some_left` meets its contract: a sum is 0 where both parts are.
-use mathlib.Core.Path.{_≡_, sym, ap}
-use Prim.Native.Nat.{_+_, _<_}
-use lib.Dec.{ltb}
-use native.Mathlib.Omega.{arith}
-use borrow.Author.Tests.{lt-ltb}
+use Rattle.base.proofs.Prelude.{_≡_, sym, ap, _+_, _<_, ltb, arith, lt-ltb}
 use Rattle.slots.proofs.job.some_left.Statement.{statement}
 use Rattle.slots.proofs.job.some_left.Tie as tie
 

@@ -1,15 +1,7 @@
 -- `slots::passing::may_take` meets its contract: the tests are the definition's, in its order.
-use mathlib.Core.Path.{sym, _∙_}
-use borrow.Author.Tests.{eq-eqb, ne-eqb, not-true, not-false}
-use borrow.Author.Needs.{needs}
+use Rattle.base.proofs.Prelude.{sym, _∙_, eq-eqb, ne-eqb, not-true, not-false, needs}
 use Rattle.slots.proofs.passing.may_take.Statement.{statement}
 use Rattle.slots.proofs.passing.may_take.Tie as tie
-
-is-waiting-requires : tie.Need-is-waiting-requires
-is-waiting-requires c κs = search needs
-
-returns : tie.Need-returns
-returns c = rw (sym (c .before .is-waiting .ensures) ∙ not-true _ (c .if1 .taken))
 
 returns-2 : tie.Need-returns-2
 returns-2 c =
@@ -27,9 +19,6 @@ returns-3 c = rw (
   ne-eqb _ _ (c .if3 .taken),
 )
 
-before-requires : tie.Need-before-requires
-before-requires c κs = search needs
-
 returns-4 : tie.Need-returns-4
 returns-4 c = rw (
   sym (c .before .before .before .before .before .before .before .is-waiting .ensures) ∙ not-false _
@@ -41,4 +30,6 @@ returns-4 c = rw (
 
 pub may-take-spec : {M : Type 1} → statement M
 may-take-spec =
-    tie.close (tie.spec is-waiting-requires returns returns-2 returns-3 before-requires returns-4)
+    tie.close (tie.spec
+    (λ c κs. search needs) (λ c. rw (sym (c .before .is-waiting .ensures) ∙ not-true _ (c .if1 .taken))) returns-2
+    returns-3 (λ c κs. search needs) returns-4)

@@ -1,15 +1,9 @@
 -- `tries::listing::begun` meets its contract: as many as there are stand in front, and the filler behind them.
-use mathlib.Core.Path.{_≡_, sym, ap, _∙_}
-use mathlib.Core.List.{[], _∷_}
-use native.Mathlib.Omega.{arith}
-use borrow.Author.Needs.{needs}
-use lib.ListN.{take, set, replicate}
-use Rattle.lists.specs.Count.{filled}
-use Rattle.lists.proofs.Filling.{filled-set}
-use Rattle.rules.specs.declared.Release.{Release}
-use Rattle.rules.specs.Release.{noRelease}
-use Rattle.tries.specs.declared.openings.Opening.{Opening}
-use Rattle.tries.specs.Openings.{headOf}
+use Rattle.base.proofs.Prelude.{_≡_, sym, ap, _∙_, [], _∷_, arith, needs, take, set, replicate}
+use Rattle.base.specs.Count.{filled}
+use Rattle.base.proofs.Filling.{filled-set}
+use Rattle.rules.specs.{declared.Release.Release, Release.noRelease}
+use Rattle.tries.specs.{declared.openings.Opening.Opening, inner.Openings.headOf}
 use Rattle.tries.proofs.listing.begun.Statement.{statement}
 use Rattle.tries.proofs.listing.begun.Tie as tie
 
@@ -31,24 +25,15 @@ two-begun o z e k =
     ∙ filled-set 1000 noRelease (o .second) (o .first ∷ []) (omega arith)
     ∙ ap (λ k. filled 1000 noRelease (take k (o .first ∷ o .second ∷ []))) (sym k)
 
-no-release-requires : tie.Need-no-release-requires
-no-release-requires c κs = search needs
-
 returns : tie.Need-returns
 returns c =
     let made = c .before .before in
     none-begun (made .before .args .o) _ (made .no-release .ensures) (omega arith)
 
-array-set-from-list : tie.Need-array-set-from-list
-array-set-from-list c = search needs
-
 returns-2 : tie.Need-returns-2
 returns-2 c =
     let made = c .before .before .before .before .before in
     one-begun (made .before .args .o) _ (made .no-release .ensures) (omega (arith, c .before .before .before .if1 .left))
-
-array-set-from-list-2 : tie.Need-array-set-from-list-2
-array-set-from-list-2 c = search needs
 
 returns-3 : tie.Need-returns-3
 returns-3 c =
@@ -57,11 +42,5 @@ returns-3 c =
 
 pub begun-spec : {M : Type 1} → statement M
 begun-spec =
-    tie.close
-    (tie.spec
-    no-release-requires
-    returns
-    array-set-from-list
-    returns-2
-    array-set-from-list-2
-    returns-3)
+    tie.close (tie.spec
+    (λ c κs. search needs) returns (λ c. search needs) returns-2 (λ c. search needs) returns-3)

@@ -1,14 +1,8 @@
 -- `tries::listing::comes_in` meets its contract: its tests are those of the definition, one after the other.
-use Prim.Native.Nat.{ℕ, _+_, _-_, _%_, _≤_, _<_}
-use mathlib.Core.Path.{_≡_, ap}
-use mathlib.Core.Bool.{false}
-use native.Mathlib.Omega.{arith}
-use borrow.Author.Needs.{needs}
-use borrow.Author.Tests.{lt-leb, le-leb, eq-eqb, ne-eqb}
-use lib.Dec.{leb}
+use Rattle.base.proofs.Prelude.{ℕ, _+_, _-_, _%_, _≤_, _<_, _≡_, ap, false, arith, needs, lt-leb, le-leb, eq-eqb, ne-eqb, leb}
 use Rattle.rules.specs.declared.BatteryString.{BatteryString}
-use Rattle.missing.specs.Missing.{delayOf, comesIn}
-use Rattle.missing.proofs.Freely.{delayOf-le}
+use Rattle.exact.specs.Missing.{delayOf, comesIn}
+use Rattle.exact.proofs.Freely.{delayOf-le}
 use Rattle.tries.proofs.listing.comes_in.Statement.{statement}
 use Rattle.tries.proofs.listing.comes_in.Tie as tie
 
@@ -26,31 +20,13 @@ module _ (lead b l : ℕ) (s : BatteryString) (t first : ℕ) (from : first ≡ 
   unfolding comesIn
   due h on = rw (← from, le-leb first t h, eq-eqb ((t - first) % s .t .0) 0 on)
 
-delay-of-requires : tie.Need-delay-of-requires
-delay-of-requires c κs = search needs
-
-add-first : tie.Need-add-first
-add-first c = omega (arith, c .delay-of .ensures, delayOf-le (c .before .args .delay) (c .before .args .s))
-
 -- the first day, as the code has it
 first-day : (c : tie.After-delay-of)
     → c .before .args .lead + c .delay-of .result ≡ c .before .args .lead + delayOf (c .before .args .delay) (c .before .args .s)
 first-day c = ap (λ d. c .before .args .lead + d) (c .delay-of .ensures)
 
-returns : tie.Need-returns
-returns c = too-early _ _ _ _ _ _ (first-day (c .before)) (c .if1 .taken)
-
-rem-if2 : tie.Need-rem-if2
-rem-if2 c = search needs
-
 returns-2 : tie.Need-returns-2
 returns-2 c = between _ _ _ _ _ _ (first-day (c .before .before .before)) (c .before .before .if1 .left) (c .if2 .taken)
-
-add-result : tie.Need-add-result
-add-result c = search needs
-
-add-result-2 : tie.Need-add-result-2
-add-result-2 c = search needs
 
 returns-3 : tie.Need-returns-3
 returns-3 c =
@@ -58,13 +34,8 @@ returns-3 c =
 
 pub comes-in-spec : {M : Type 1} → statement M
 comes-in-spec =
-    tie.close
-    (tie.spec
-    delay-of-requires
-    add-first
-    returns
-    rem-if2
-    returns-2
-    add-result
-    add-result-2
-    returns-3)
+    tie.close (tie.spec
+    (λ c κs. search needs)
+    (λ c. omega (arith, c .delay-of .ensures, delayOf-le (c .before .args .delay) (c .before .args .s)))
+    (λ c. too-early _ _ _ _ _ _ (first-day (c .before)) (c .if1 .taken)) (λ c. search needs) returns-2
+    (λ c. search needs) (λ c. search needs) returns-3)

@@ -1,17 +1,8 @@
 -- `tries::listing::listed` meets its contract: what is stored so far, and what is still to come, is the list of the try.
-use Prim.Native.Nat.{ℕ, _+_, _-_, _≤_}
-use mathlib.Core.Path.{_≡_, sym, ap, _∙_}
-use mathlib.Core.List.{List, _∷_, _++_}
-use native.Mathlib.Omega.{arith}
-use borrow.Author.Tests.{not-true, not-false}
-use lib.Seq.{length-take-le}
+use Rattle.base.proofs.Prelude.{ℕ, _+_, _-_, _≤_, _≡_, sym, ap, _∙_, List, _∷_, _++_, arith, not-true, not-false, length-take-le}
 use Rattle.rules.specs.declared.Release.{Release}
-use Rattle.tries.specs.Tries.{listOf}
-use Rattle.tries.specs.Openings.{tryOf}
-use Rattle.tries.proofs.Places.{place-lawful}
-use Rattle.tries.proofs.Packing.{Packing, packing-as, packing-more, packing-end, packing-full}
-use Rattle.tries.proofs.DayByDay.{daysFrom, placesFrom, days-all, days-next, days-end, place-stays, place-comes, places-end, release}
-use Rattle.tries.proofs.listing.listed.Statement.{statement}
+use Rattle.tries.specs.{Tries.listOf, inner.Openings.tryOf}
+use Rattle.tries.proofs.{Places.place-lawful, Packing.{Packing, packing-as, packing-more, packing-end, packing-full}, DayByDay.{daysFrom, placesFrom, days-all, days-next, days-end, place-stays, place-comes, places-end, releaseAt}, listing.listed.Statement.statement}
 use Rattle.tries.proofs.listing.listed.Tie as tie
 
 -- in a day: whatever comes after it, the places done are stored
@@ -36,9 +27,6 @@ add-end c =
     let start = c .before .before in
     omega (arith, start .pre .1 .0 .soon, start .pre .1 .1)
 
-begun-requires : tie.Need-begun-requires Inv-loop2 μ-loop2 Inv-loop μ-loop
-begun-requires c κs = c .before .before .pre .1 .0 .few
-
 loop-holds : tie.Need-loop-holds Inv-loop2 μ-loop2 Inv-loop μ-loop
 unfolding listOf
 loop-holds c =
@@ -56,9 +44,6 @@ loop-holds c =
         stored = c .begun .ensures;
       },
     )
-
-loop2-holds : tie.Need-loop2-holds Inv-loop2 μ-loop2 Inv-loop μ-loop
-loop2-holds c = (omega arith, λ all left s. s)
 
 -- ---- A turn of the inner loop
 
@@ -85,15 +70,6 @@ module _ (c : tie.At-loop2 Inv-loop2 μ-loop2 Inv-loop μ-loop) where
       (packing-as _ _ _ _ (c .before .before .loop .inv .2) _
       (days-next (g .p) (g .o .lead) (g .o .delay) (g .l) (first .pre .0) today (c .before .loop-test .taken)))
 
-mul-s : tie.Need-mul-s Inv-loop2 μ-loop2 Inv-loop μ-loop
-mul-s c = omega (arith, first (c .before .before) .pre .0 .lawful .nMax)
-
-array-copy-out-s : tie.Need-array-copy-out-s Inv-loop2 μ-loop2 Inv-loop μ-loop
-array-copy-out-s c = omega (arith, first (c .before .before) .pre .0 .lawful .nMax)
-
-add-place : tie.Need-add-place Inv-loop2 μ-loop2 Inv-loop μ-loop
-add-place c = omega (arith, first (c .before .before .before) .pre .0 .lawful .nMax)
-
 comes-in-requires : tie.Need-comes-in-requires Inv-loop2 μ-loop2 Inv-loop μ-loop
 comes-in-requires c κs =
     let at = c .before .before .before in
@@ -106,9 +82,6 @@ comes-in-requires c κs =
       (soon, short, few, omega (arith, at .before .loop-test .taken)),
     )
 
-loop2-less : tie.Need-loop2-less Inv-loop2 μ-loop2 Inv-loop μ-loop
-loop2-less c = omega (arith, c .before .before .before .if1 .taken)
-
 -- the turn, and the release that comes in it
 abbrev turn : tie.Else2 Inv-loop2 μ-loop2 Inv-loop μ-loop → tie.At-loop2 Inv-loop2 μ-loop2 Inv-loop μ-loop
 turn c = c .before .before .before .before .before
@@ -117,7 +90,7 @@ abbrev coming : tie.Else2 Inv-loop2 μ-loop2 Inv-loop μ-loop → Release
 coming c =
     let start = first (turn c) in
     let g = start .args in
-    release (g .p) (g .o .lead) (g .o .delay) (g .l) (start .pre .0) (today (turn c)) (turn c .loop2 .place)
+    releaseAt (g .p) (g .o .lead) (g .o .delay) (g .l) (start .pre .0) (today (turn c)) (turn c .loop2 .place)
     (c .before .before .before .if1 .taken)
 
 loop2-again : tie.Need-loop2-again Inv-loop2 μ-loop2 Inv-loop μ-loop
@@ -146,21 +119,6 @@ comes-next c left =
     (place-comes (g .p) (g .o .lead) (g .o .delay) (g .l) (start .pre .0) (today at) (at .loop2 .place)
     (c .before .before .before .if1 .taken) comes)
 
-returns : tie.Need-returns Inv-loop2 μ-loop2 Inv-loop μ-loop
-returns c = packing-full _ _ _ _ (packed-now (turn (c .before))) _ _ (comes-next (c .before) _) (c .if3 .taken)
-
-mul-list : tie.Need-mul-list Inv-loop2 μ-loop2 Inv-loop μ-loop
-mul-list c = omega (arith, c .before .if3 .left)
-
-array-set-from-list : tie.Need-array-set-from-list Inv-loop2 μ-loop2 Inv-loop μ-loop
-array-set-from-list c = omega (arith, c .before .if3 .left)
-
-add-count : tie.Need-add-count Inv-loop2 μ-loop2 Inv-loop μ-loop
-add-count c = omega (arith, c .before .if3 .left)
-
-loop2-less-2 : tie.Need-loop2-less-2 Inv-loop2 μ-loop2 Inv-loop μ-loop
-loop2-less-2 c = omega (arith, c .before .before .before .before .before .if1 .taken)
-
 loop2-again-2 : tie.Need-loop2-again-2 Inv-loop2 μ-loop2 Inv-loop μ-loop
 loop2-again-2 c =
     let else = c .before .before in
@@ -174,9 +132,6 @@ add-t : tie.Need-add-t Inv-loop2 μ-loop2 Inv-loop μ-loop
 add-t c =
     let start = first (c .before .before) in
     omega (arith, c .before .before .before .loop-test .taken, start .pre .1 .0 .soon, start .pre .1 .1)
-
-loop-less : tie.Need-loop-less Inv-loop2 μ-loop2 Inv-loop μ-loop
-loop-less c = omega (arith, c .before .before .before .loop-test .taken)
 
 loop-again : tie.Need-loop-again Inv-loop2 μ-loop2 Inv-loop μ-loop
 loop-again c =
@@ -200,29 +155,14 @@ returns-2 c =
 
 pub listed-spec : {M : Type 1} → statement M
 listed-spec =
-    tie.close
-    (tie.spec
-    Inv-loop2
-    μ-loop2
-    Inv-loop
-    μ-loop
-    add-end
-    begun-requires
-    loop-holds
-    loop2-holds
-    mul-s
-    array-copy-out-s
-    add-place
-    comes-in-requires
-    loop2-less
-    loop2-again
-    returns
-    mul-list
-    array-set-from-list
-    add-count
-    loop2-less-2
-    loop2-again-2
-    add-t
-    loop-less
-    loop-again
-    returns-2)
+    tie.close (tie.spec
+    Inv-loop2 μ-loop2 Inv-loop μ-loop add-end (λ c κs. c .before .before .pre .1 .0 .few) loop-holds
+    (λ c. (omega arith, λ all left s. s)) (λ c. omega (arith, first (c .before .before) .pre .0 .lawful .nMax))
+    (λ c. omega (arith, first (c .before .before) .pre .0 .lawful .nMax))
+    (λ c. omega (arith, first (c .before .before .before) .pre .0 .lawful .nMax)) comes-in-requires
+    (λ c. omega (arith, c .before .before .before .if1 .taken)) loop2-again
+    (λ c. packing-full _ _ _ _ (packed-now (turn (c .before))) _ _ (comes-next (c .before) _) (c .if3 .taken))
+    (λ c. omega (arith, c .before .if3 .left)) (λ c. omega (arith, c .before .if3 .left))
+    (λ c. omega (arith, c .before .if3 .left))
+    (λ c. omega (arith, c .before .before .before .before .before .if1 .taken)) loop2-again-2 add-t
+    (λ c. omega (arith, c .before .before .before .loop-test .taken)) loop-again returns-2)

@@ -1,17 +1,11 @@
 -- `tries::openings::blocker_place` meets its contract: the least of the places left that can block is the least of all.
-use Prim.Native.Nat.{ℕ, _+_, _-_, _≤_}
-use mathlib.Core.Path.{_≡_, sym, ap, _∙_}
-use native.Mathlib.Omega.{arith}
-use borrow.Author.Needs.{needs}
-use lib.ListN.{take, getD}
-use Rattle.lists.specs.Count.{leastFrom}
-use Rattle.rules.specs.declared.Plan.{Plan}
-use Rattle.rules.specs.Plan.{stringAt, noString}
-use Rattle.missing.specs.Missing.{canBlock, blockerPlace}
-use Rattle.verdict.specs.Asked.{Ready}
+use Rattle.base.proofs.Prelude.{ℕ, _+_, _-_, _≤_, _≡_, sym, ap, _∙_, arith, needs, take, getD}
+use Rattle.base.specs.Count.{leastFrom}
+use Rattle.rules.specs.{declared.Plan.Plan, Plan.{stringAt, noString}}
+use Rattle.exact.specs.Missing.{canBlock, blockerPlace}
+use Rattle.verdict.specs.inner.Asked.{Ready}
 use Rattle.verdict.proofs.StringSums.{strings-count}
-use Rattle.tries.proofs.Places.{place-string, least-here, least-later, least-end}
-use Rattle.tries.proofs.openings.blocker_place.Statement.{statement}
+use Rattle.tries.proofs.{Places.{place-string, least-here, least-later, least-end}, openings.blocker_place.Statement.statement}
 use Rattle.tries.proofs.openings.blocker_place.Tie as tie
 
 abbrev Inv-loop : tie.InvT-loop
@@ -27,18 +21,6 @@ loop-holds : tie.Need-loop-holds Inv-loop μ-loop
 loop-holds c =
     let every : c .before .args .p .n - 0 ≡ c .before .args .p .n = omega arith in
     (omega arith, ap (leastFrom (λ j. canBlock (c .before .args .l) (c .before .args .b) (stringAt (c .before .args .p) j)) 1) every)
-
-mul-s : tie.Need-mul-s Inv-loop μ-loop
-mul-s c = omega (arith, c .before .before .before .pre .lawful .nMax)
-
-array-copy-out-s : tie.Need-array-copy-out-s Inv-loop μ-loop
-array-copy-out-s c = omega (arith, c .before .before .before .pre .lawful .nMax)
-
-can-block-requires : tie.Need-can-block-requires Inv-loop μ-loop
-can-block-requires c κs = search needs
-
-add-result : tie.Need-add-result Inv-loop μ-loop
-add-result c = omega arith
 
 -- what is found over n places is the place that the definition names
 found : (p : Plan) (l b r : ℕ) → Ready p → leastFrom (λ j. canBlock l b (stringAt p j)) 1 (p .n) ≡ r → r ≡ blockerPlace p l b
@@ -68,12 +50,6 @@ returns c =
     ∙ least-here i n (λ j. canBlock (start .args .l) (start .args .b) (stringAt p j)) (c .before .before .before .loop-test .taken)
     (here (c .before) ∙ c .if1 .taken))
 
-add-i : tie.Need-add-i Inv-loop μ-loop
-add-i c = omega arith
-
-loop-less : tie.Need-loop-less Inv-loop μ-loop
-loop-less c = omega arith
-
 loop-again : tie.Need-loop-again Inv-loop μ-loop
 loop-again c =
     let at = c .before .before .before .before in
@@ -84,9 +60,6 @@ loop-again c =
           (c .before .before .before .loop-test .taken) (here (c .before) ∙ c .if1 .left))
           ∙ at .loop .inv .1,
     )
-
-add-result-2 : tie.Need-add-result-2 Inv-loop μ-loop
-add-result-2 c = omega (arith, c .before .before .before .pre .lawful .nMax)
 
 returns-2 : tie.Need-returns-2 Inv-loop μ-loop
 returns-2 c =
@@ -99,18 +72,8 @@ returns-2 c =
 
 pub blocker-place-spec : {M : Type 1} → statement M
 blocker-place-spec =
-    tie.close
-    (tie.spec
-    Inv-loop
-    μ-loop
-    loop-holds
-    mul-s
-    array-copy-out-s
-    can-block-requires
-    add-result
-    returns
-    add-i
-    loop-less
-    loop-again
-    add-result-2
+    tie.close (tie.spec
+    Inv-loop μ-loop loop-holds (λ c. omega (arith, c .before .before .before .pre .lawful .nMax))
+    (λ c. omega (arith, c .before .before .before .pre .lawful .nMax)) (λ c κs. search needs) (λ c. omega arith) returns
+    (λ c. omega arith) (λ c. omega arith) loop-again (λ c. omega (arith, c .before .before .before .pre .lawful .nMax))
     returns-2)

@@ -1,15 +1,10 @@
 -- `tries::openings::blocking` meets its contract: no release where nothing blocks, else the one that does.
-use Prim.Native.Nat.{ℕ, _+_, min}
-use mathlib.Core.Path.{_≡_, sym, ap, _∙_}
-use mathlib.Core.List.{List, [], _∷_}
-use native.Mathlib.Omega.{arith}
-use borrow.Author.Needs.{needs}
+use Rattle.base.proofs.Prelude.{ℕ, _+_, min, _≡_, sym, ap, _∙_, List, [], _∷_, arith, needs}
 use Rattle.days.specs.Days.{day, days}
-use Rattle.rules.specs.declared.Plan.{Plan}
-use Rattle.rules.specs.declared.Release.{Release}
-use Rattle.horizon.proofs.Pairs.{pair}
-use Rattle.missing.specs.Missing.{blockerPlace, blockerRelease}
-use Rattle.missing.proofs.Listed.{blockerRelease-none, blockerRelease-one}
+use Rattle.rules.specs.{declared.Plan.Plan, declared.Release.Release}
+use Rattle.demand.proofs.Pairs.{pair}
+use Rattle.exact.specs.Missing.{blockerPlace, blockerRelease}
+use Rattle.exact.proofs.Listed.{blockerRelease-none, blockerRelease-one}
 use Rattle.tries.specs.Tries.{Try, blockTry}
 use Rattle.tries.proofs.openings.blocking.Statement.{statement}
 use Rattle.tries.proofs.openings.blocking.Tie as tie
@@ -31,21 +26,12 @@ module _ (p : Plan) (l b : ℕ) where
       ∙ ap (λ head. begins head 1 b l) (sym (blockerRelease-one p l b some))
       ∙ ap (λ m. begins (blockerRelease p l b) m b l) lead
 
-no-release-requires : tie.Need-no-release-requires
-no-release-requires c κs = search needs
-
 returns : tie.Need-returns
 returns c =
     let g = c .before .before .args in (
       unblocked (g .p) (g .l) (g .b) (c .if1 .taken),
       record { few = omega arith; soon = omega arith; short = omega arith },
     )
-
-blocker-place-requires : tie.Need-blocker-place-requires
-blocker-place-requires c κs = search needs
-
-add-t10 : tie.Need-add-t10
-add-t10 c = search needs
 
 returns-2 : tie.Need-returns-2
 returns-2 c =
@@ -56,5 +42,4 @@ returns-2 c =
     )
 
 pub blocking-spec : {M : Type 1} → statement M
-blocking-spec =
-    tie.close (tie.spec no-release-requires returns blocker-place-requires add-t10 returns-2)
+blocking-spec = tie.close (tie.spec (λ c κs. search needs) returns (λ c κs. search needs) (λ c. search needs) returns-2)

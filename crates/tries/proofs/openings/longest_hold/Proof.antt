@@ -1,17 +1,11 @@
 -- `tries::openings::longest_hold` meets its contract: C and the moving cost are small, so the sum fits.
-use mathlib.Core.Path.{_≡_, ap}
-use Prim.Native.Nat.{_*_}
-use native.Mathlib.Omega.{arith}
-use borrow.Author.Needs.{needs}
+use Rattle.base.proofs.Prelude.{_≡_, ap, _*_, arith, needs}
 use Rattle.days.specs.declared.Length.{Length}
 use Rattle.rules.specs.Demand.{movingCost, holdOf}
 use Rattle.laws.proofs.Demand.{holdOf-le}
 use Rattle.verdict.proofs.Asked.{moving-le}
 use Rattle.tries.proofs.openings.longest_hold.Statement.{statement}
 use Rattle.tries.proofs.openings.longest_hold.Tie as tie
-
-moving-cost-requires : tie.Need-moving-cost-requires
-moving-cost-requires c κs = search needs
 
 -- the moving that X brings
 moving : (c : tie.After-moving-cost)
@@ -34,4 +28,4 @@ unfolding holdOf
 returns c = omega (arith, moving (c .before .before .before))
 
 pub longest-hold-spec : {M : Type 1} → statement M
-longest-hold-spec = tie.close (tie.spec moving-cost-requires mul-result add-result returns)
+longest-hold-spec = tie.close (tie.spec (λ c κs. search needs) mul-result add-result returns)

@@ -1,37 +1,12 @@
 -- `tries::openings::paying` meets its contract: two releases, and the takers when the second is almost done.
-use Prim.Native.Nat.{ℕ, _-_}
-use mathlib.Core.Path.{_≡_, sym, ap, _∙_}
-use mathlib.Core.List.{[], _∷_}
-use native.Mathlib.Omega.{arith}
-use borrow.Author.Needs.{needs}
-use lib.ListN.{getD}
-use lib.Seq.{getD-take}
-use Rattle.rules.specs.declared.BatteryString.{BatteryString}
-use Rattle.rules.specs.declared.Release.{Release}
-use Rattle.rules.specs.Plan.{stringAt, noString}
-use Rattle.rules.specs.Demand.{holdOf}
-use Rattle.laws.proofs.Lawful.{PlanString}
-use Rattle.laws.proofs.Demand.{holdOf-work, holdOf-le}
+use Rattle.base.proofs.Prelude.{ℕ, _-_, _≡_, sym, ap, _∙_, [], _∷_, arith, needs, getD, getD-take}
+use Rattle.rules.specs.{declared.BatteryString.BatteryString, declared.Release.Release, Plan.{stringAt, noString}, Demand.holdOf}
+use Rattle.laws.proofs.{Lawful.PlanString, Demand.{holdOf-work, holdOf-le}}
 use Rattle.verdict.proofs.StringSums.{string-at}
-use Rattle.missing.specs.Missing.{fullRelease}
+use Rattle.exact.specs.Missing.{fullRelease}
 use Rattle.tries.specs.Tries.{Try}
 use Rattle.tries.proofs.openings.paying.Statement.{statement}
 use Rattle.tries.proofs.openings.paying.Tie as tie
-
-full-release-requires : tie.Need-full-release-requires
-full-release-requires c κs = search needs
-
-full-release-requires-2 : tie.Need-full-release-requires-2
-full-release-requires-2 c κs = search needs
-
-sub-taker : tie.Need-sub-taker
-sub-taker c = search needs
-
-mul-taker : tie.Need-mul-taker
-mul-taker c = search needs
-
-array-copy-out-taker : tie.Need-array-copy-out-taker
-array-copy-out-taker c = search needs
 
 -- the taker, which is a string of the plan
 abbrev taker : tie.After-taker → BatteryString
@@ -41,9 +16,6 @@ of-plan : (c : tie.After-taker) → PlanString (c .before .before .before .befor
 of-plan c =
     let start = c .before .before .before .before in
     string-at (start .args .p) (start .pre .0) (start .args .k - 1) (omega (arith, start .pre .1 .0))
-
-longest-hold-requires : tie.Need-longest-hold-requires
-longest-hold-requires c κs = of-plan c
 
 sub-delay : tie.Need-sub-delay
 sub-delay c =
@@ -75,13 +47,6 @@ returns c =
 
 pub paying-spec : {M : Type 1} → statement M
 paying-spec =
-    tie.close
-    (tie.spec
-    full-release-requires
-    full-release-requires-2
-    sub-taker
-    mul-taker
-    array-copy-out-taker
-    longest-hold-requires
-    sub-delay
-    returns)
+    tie.close (tie.spec
+    (λ c κs. search needs) (λ c κs. search needs) (λ c. search needs) (λ c. search needs) (λ c. search needs)
+    (λ c κs. of-plan c) sub-delay returns)

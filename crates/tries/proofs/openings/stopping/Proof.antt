@@ -1,16 +1,7 @@
 -- `tries::openings::stopping` meets its contract: one release, and the others a day later.
-use mathlib.Core.Path.{ap}
-use mathlib.Core.List.{[], _∷_}
-use native.Mathlib.Omega.{arith}
-use borrow.Author.Needs.{needs}
+use Rattle.base.proofs.Prelude.{ap, [], _∷_, arith, needs}
 use Rattle.tries.proofs.openings.stopping.Statement.{statement}
 use Rattle.tries.proofs.openings.stopping.Tie as tie
-
-full-release-requires : tie.Need-full-release-requires
-full-release-requires c κs = search needs
-
-no-release-requires : tie.Need-no-release-requires
-no-release-requires c κs = search needs
 
 returns : tie.Need-returns
 returns c = (
@@ -19,4 +10,4 @@ returns c = (
 )
 
 pub stopping-spec : {M : Type 1} → statement M
-stopping-spec = tie.close (tie.spec full-release-requires no-release-requires returns)
+stopping-spec = tie.close (tie.spec (λ c κs. search needs) (λ c κs. search needs) returns)

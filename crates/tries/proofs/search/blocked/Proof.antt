@@ -1,31 +1,16 @@
 -- `tries::search::blocked` meets its contract: where the rule with free moving breaks there is one try, elsewhere none.
-use Prim.Native.Nat.{_≤_}
-use mathlib.Core.Path.{_≡_, sym, ap, _∙_}
-use mathlib.Core.List.{[]}
-use mathlib.Core.Option.{some}
-use borrow.Author.Needs.{needs}
+use Rattle.base.proofs.Prelude.{_≤_, _≡_, sym, ap, _∙_, [], some, needs}
 use Rattle.days.specs.declared.Length.{Length}
-use Rattle.lists.specs.Count.{firstOf}
-use Rattle.lists.proofs.FirstOf.{firstOf-end, firstOf-here, firstOf-later}
-use Rattle.rules.specs.declared.Plan.{Plan}
-use Rattle.rules.specs.Refusal.{breakAnswer}
+use Rattle.base.specs.Count.{firstOf}
+use Rattle.base.proofs.FirstOf.{firstOf-end, firstOf-here, firstOf-later}
+use Rattle.rules.specs.{declared.Plan.Plan, Refusal.breakAnswer}
 use Rattle.laws.proofs.Lawful.{LawfulPlan}
-use Rattle.horizon.proofs.Pairs.{pair}
-use Rattle.missing.specs.Missing.{freely}
-use Rattle.missing.proofs.Freely.{freely-lawful}
+use Rattle.demand.proofs.Pairs.{pair}
+use Rattle.exact.specs.Missing.{freely}
+use Rattle.exact.proofs.Freely.{freely-lawful}
 use Rattle.tries.specs.Tries.{freeTries, freeBreak, blockTry, missesOn}
-use Rattle.tries.proofs.Breaks.{broken-nowhere, broken-there, broken-interval, broken-blocking}
-use Rattle.tries.proofs.search.blocked.Statement.{statement}
+use Rattle.tries.proofs.{Breaks.{said-nowhere, said-there, broken-interval, broken-blocking}, search.blocked.Statement.statement}
 use Rattle.tries.proofs.search.blocked.Tie as tie
-
-with-free-moving-requires : tie.Need-with-free-moving-requires
-with-free-moving-requires c κs = search needs
-
-first-break-requires : tie.Need-first-break-requires
-first-break-requires c κs = search needs
-
-enum-known-broken : tie.Need-enum-known-broken
-enum-known-broken c = search needs
 
 -- it was asked of the plan with free moving
 asked : (c : tie.After-first-break) → c .first-break .result ≡ breakAnswer (freely (c .before .before .args .p))
@@ -38,7 +23,7 @@ returns c =
     let p = start .args .p in
     let f = missesOn p in
     let free = freely-lawful p (start .pre .lawful) in
-    ap (λ q. firstOf f (freeTries p q)) (broken-nowhere (freely p) free _ (asked ask) (c .match .keys2)) ∙ firstOf-end f
+    ap (λ q. firstOf f (freeTries p q)) (said-nowhere (freely p) free _ (asked ask) (c .match .keys2)) ∙ firstOf-end f
 
 -- the pair, and that it is small
 module _ (c : tie.After-known-told) where
@@ -58,19 +43,13 @@ module _ (c : tie.After-known-told) where
   free = freely-lawful p (ask .before .before .pre .lawful)
 
   there : freeBreak p ≡ some (pair (interval .0) (blocking .0))
-  there = broken-there (freely p) free _ (asked ask) _ _ (c .before .broken .given .1)
+  there = said-there (freely p) free _ (asked ask) _ _ (c .before .broken .given .1)
 
   short : interval .0 ≤ 101000
   short = broken-interval (freely p) free _ (asked ask) _ _ (c .before .broken .given .1)
 
   little : blocking .0 ≤ 1000
   little = broken-blocking (freely p) free _ (asked ask) _ _ (c .before .broken .given .1)
-
-blocking-requires : tie.Need-blocking-requires
-blocking-requires c κs = (ask c .before .before .pre, little c)
-
-misses-on-requires : tie.Need-misses-on-requires
-misses-on-requires c κs = (ask (c .before) .before .before .pre, (c .blocking .ensures .1, short (c .before)))
 
 returns-2 : tie.Need-returns-2
 returns-2 c =
@@ -99,13 +78,7 @@ returns-3 c =
 
 pub blocked-spec : {M : Type 1} → statement M
 blocked-spec =
-    tie.close
-    (tie.spec
-    with-free-moving-requires
-    first-break-requires
-    enum-known-broken
-    returns
-    blocking-requires
-    misses-on-requires
-    returns-2
-    returns-3)
+    tie.close (tie.spec
+    (λ c κs. search needs) (λ c κs. search needs) (λ c. search needs) returns
+    (λ c κs. (ask c .before .before .pre, little c))
+    (λ c κs. (ask (c .before) .before .before .pre, (c .blocking .ensures .1, short (c .before)))) returns-2 returns-3)

@@ -1,21 +1,10 @@
 -- `tries::search::by_interval` meets its contract: the first that misses of the intervals left is the first of all.
-use Prim.Native.Nat.{ℕ, _+_, _-_, _≤_}
-use mathlib.Core.Path.{_≡_, sym, ap, _∙_}
-use mathlib.Core.List.{map}
-use mathlib.Core.Option.{some}
-use native.Mathlib.Omega.{arith}
-use lib.ListN.{getD}
-use Rattle.lists.specs.Count.{firstOf}
-use Rattle.rules.specs.declared.BatteryString.{BatteryString}
-use Rattle.rules.specs.declared.Plan.{Plan}
-use Rattle.rules.specs.Plan.{stringAt, noString}
+use Rattle.base.proofs.Prelude.{ℕ, _+_, _-_, _≤_, _≡_, sym, ap, _∙_, map, some, arith, getD}
+use Rattle.base.specs.Count.{firstOf}
+use Rattle.rules.specs.{declared.BatteryString.BatteryString, declared.Plan.Plan, Plan.{stringAt, noString}}
 use Rattle.laws.proofs.Lawful.{PlanString}
-use Rattle.tries.specs.declared.openings.Opening.{Opening}
-use Rattle.tries.specs.Tries.{Try, byInterval, missesOn}
-use Rattle.tries.specs.Openings.{tryOf}
-use Rattle.tries.proofs.Places.{after, place-string, place-lawful}
-use Rattle.tries.proofs.Searching.{after-none, try-here, try-later, try-end}
-use Rattle.tries.proofs.search.by_interval.Statement.{statement}
+use Rattle.tries.specs.{declared.openings.Opening.Opening, Tries.{Try, byInterval, missesOn}, inner.Openings.tryOf}
+use Rattle.tries.proofs.{Places.{after, place-string, place-lawful}, Searching.{after-none, try-here, try-later, try-end}, search.by_interval.Statement.statement}
 use Rattle.tries.proofs.search.by_interval.Tie as tie
 
 abbrev tryAt : Plan → Opening → ℕ → Try
@@ -32,12 +21,6 @@ loop-holds : tie.Need-loop-holds Inv-loop μ-loop
 loop-holds c =
     let g = c .before .args in
     (omega arith, ap (λ js. firstOf (missesOn (g .p)) (map (tryAt (g .p) (g .o)) js)) (after-none (g .p .n)))
-
-mul-s : tie.Need-mul-s Inv-loop μ-loop
-mul-s c = omega (arith, c .before .before .before .pre .0 .lawful .nMax)
-
-array-copy-out-s : tie.Need-array-copy-out-s Inv-loop μ-loop
-array-copy-out-s c = omega (arith, c .before .before .before .pre .0 .lawful .nMax)
 
 -- the string of a turn, which is one of the plan's
 abbrev string : tie.After-s Inv-loop μ-loop → BatteryString
@@ -78,12 +61,6 @@ returns c =
     let found = try-here (missesOn p) (tryAt p o) (at .loop .j) (p .n) (turn .before .loop-test .taken) misses in
     (start .pre .1, short turn, sym (at .loop .inv .1) ∙ found ∙ ap some (sym (tried turn)))
 
-add-j : tie.Need-add-j Inv-loop μ-loop
-add-j c = omega arith
-
-loop-less : tie.Need-loop-less Inv-loop μ-loop
-loop-less c = omega arith
-
 loop-again : tie.Need-loop-again Inv-loop μ-loop
 loop-again c =
     let turn = c .before .before in
@@ -103,16 +80,7 @@ returns-2 c =
 
 pub by-interval-spec : {M : Type 1} → statement M
 by-interval-spec =
-    tie.close
-    (tie.spec
-    Inv-loop
-    μ-loop
-    loop-holds
-    mul-s
-    array-copy-out-s
-    misses-on-requires
-    returns
-    add-j
-    loop-less
-    loop-again
-    returns-2)
+    tie.close (tie.spec
+    Inv-loop μ-loop loop-holds (λ c. omega (arith, c .before .before .before .pre .0 .lawful .nMax))
+    (λ c. omega (arith, c .before .before .before .pre .0 .lawful .nMax)) misses-on-requires returns (λ c. omega arith)
+    (λ c. omega arith) loop-again returns-2)

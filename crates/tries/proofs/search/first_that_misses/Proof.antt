@@ -1,14 +1,10 @@
 -- `tries::search::first_that_misses` meets its contract: the four parts of the tries, one after the other.
-use mathlib.Core.Path.{_≡_, refl, sym, _∙_}
-use mathlib.Core.List.{List, _++_}
-use mathlib.Core.Option.{none}
-use borrow.Author.Needs.{needs}
-use Rattle.lists.specs.Count.{firstOf}
-use Rattle.lists.proofs.FirstOf.{firstOf-rest}
+use Rattle.base.proofs.Prelude.{_≡_, refl, sym, _∙_, List, _++_, none, needs}
+use Rattle.base.specs.Count.{firstOf}
+use Rattle.base.proofs.FirstOf.{firstOf-rest}
 use Rattle.rules.specs.declared.Plan.{Plan}
 use Rattle.tries.specs.Tries.{Try, freeBreak, freeTries, ownBreak, heldTries, stoppedTries, paidTries, tries, missesOn, found}
-use Rattle.tries.proofs.Searching.{finds-as, finds-none, finds-front}
-use Rattle.tries.proofs.search.first_that_misses.Statement.{statement}
+use Rattle.tries.proofs.{Searching.{finds-as, finds-none, finds-front}, search.first_that_misses.Statement.statement}
 use Rattle.tries.proofs.search.first_that_misses.Tie as tie
 
 -- where nothing is found in a part, the rest decides
@@ -34,15 +30,6 @@ module _ (p : Plan) where
       not-stopped : firstOf (missesOn p) (stoppedTries p) ≡ none → firstOf (missesOn p) (paidTries p) ≡ found p
       not-stopped g = sym (firstOf-rest (missesOn p) (stoppedTries p) (paidTries p) g) ∙ not-held
 
-blocked-requires : tie.Need-blocked-requires
-blocked-requires c κs = search needs
-
-enum-told : tie.Need-enum-told
-enum-told c = search needs
-
-enum-told-2 : tie.Need-enum-told-2
-enum-told-2 c = search needs
-
 returns : tie.Need-returns
 returns c =
     let first = c .before .before in
@@ -51,19 +38,10 @@ returns c =
     finds-as t _ _ (sym (all-of-them p))
     (finds-front (missesOn p) t (free p) (held p ++ (stoppedTries p ++ paidTries p)) (c .before .match .keys2) (first .blocked .ensures))
 
-held-requires : tie.Need-held-requires
-held-requires c κs = search needs
-
 -- nothing where the rule with free moving breaks
 none-free : (c : tie.After-enum-told)
     → firstOf (missesOn (c .before .before .before .args .p)) (free (c .before .before .before .args .p)) ≡ none
 none-free c = finds-none (c .before .before .blocked .result) _ (c .enum-told .given .1) (c .before .before .blocked .ensures)
-
-enum-told-3 : tie.Need-enum-told-3
-enum-told-3 c = search needs
-
-enum-told-4 : tie.Need-enum-told-4
-enum-told-4 c = search needs
 
 returns-2 : tie.Need-returns-2
 returns-2 c =
@@ -74,21 +52,12 @@ returns-2 c =
     finds-as t _ _ (not-free p (none-free told))
     (finds-front (missesOn p) t (held p) (stoppedTries p ++ paidTries p) (c .before .match2 .keys2) (second .held .ensures))
 
-stopped-requires : tie.Need-stopped-requires
-stopped-requires c κs = search needs
-
 -- nor where its own rule breaks
 none-held : (c : tie.After-enum-told3)
     → firstOf (missesOn (c .before .before .before .before .before .before .args .p))
     (held (c .before .before .before .before .before .before .args .p))
     ≡ none
 none-held c = finds-none (c .before .before .held .result) _ (c .enum-told3 .given .1) (c .before .before .held .ensures)
-
-enum-told-5 : tie.Need-enum-told-5
-enum-told-5 c = search needs
-
-enum-told-6 : tie.Need-enum-told-6
-enum-told-6 c = search needs
 
 returns-3 : tie.Need-returns-3
 returns-3 c =
@@ -99,9 +68,6 @@ returns-3 c =
     let t = third .stopped .result in
     finds-as t _ _ (not-held p (none-free before) (none-held told))
     (finds-front (missesOn p) t (stoppedTries p) (paidTries p) (c .before .match3 .keys2) (third .stopped .ensures))
-
-paid-requires : tie.Need-paid-requires
-paid-requires c κs = search needs
 
 returns-4 : tie.Need-returns-4
 returns-4 c =
@@ -114,19 +80,7 @@ returns-4 c =
 
 pub first-that-misses-spec : {M : Type 1} → statement M
 first-that-misses-spec =
-    tie.close
-    (tie.spec
-    blocked-requires
-    enum-told
-    enum-told-2
-    returns
-    held-requires
-    enum-told-3
-    enum-told-4
-    returns-2
-    stopped-requires
-    enum-told-5
-    enum-told-6
-    returns-3
-    paid-requires
-    returns-4)
+    tie.close (tie.spec
+    (λ c κs. search needs) (λ c. search needs) (λ c. search needs) returns (λ c κs. search needs) (λ c. search needs)
+    (λ c. search needs) returns-2 (λ c κs. search needs) (λ c. search needs) (λ c. search needs) returns-3
+    (λ c κs. search needs) returns-4)

@@ -1,19 +1,10 @@
 -- `tries::search::held` meets its contract: where the plan's own rule breaks, the search there; elsewhere there is no try.
-use mathlib.Core.Path.{_≡_, sym, ap, _∙_}
-use borrow.Author.Needs.{needs}
-use Rattle.lists.specs.Count.{firstOf}
-use Rattle.lists.proofs.FirstOf.{firstOf-end}
+use Rattle.base.proofs.Prelude.{_≡_, sym, ap, _∙_, needs}
+use Rattle.base.specs.Count.{firstOf}
+use Rattle.base.proofs.FirstOf.{firstOf-end}
 use Rattle.tries.specs.Tries.{heldTries, missesOn}
-use Rattle.tries.proofs.Breaks.{broken-nowhere, broken-there, broken-interval, broken-blocking}
-use Rattle.tries.proofs.Searching.{finds-as}
-use Rattle.tries.proofs.search.held.Statement.{statement}
+use Rattle.tries.proofs.{Breaks.{said-nowhere, said-there, broken-interval, broken-blocking}, Searching.finds-as, search.held.Statement.statement}
 use Rattle.tries.proofs.search.held.Tie as tie
-
-first-break-requires : tie.Need-first-break-requires
-first-break-requires c κs = search needs
-
-enum-known-broken : tie.Need-enum-known-broken
-enum-known-broken c = search needs
 
 returns : tie.Need-returns
 returns c =
@@ -21,7 +12,7 @@ returns c =
     let start = ask .before in
     let p = start .args .p in
     let f = missesOn p in
-    ap (λ q. firstOf f (heldTries p q)) (broken-nowhere p (start .pre .lawful) _ (ask .first-break .ensures) (c .match .keys2))
+    ap (λ q. firstOf f (heldTries p q)) (said-nowhere p (start .pre .lawful) _ (ask .first-break .ensures) (c .match .keys2))
     ∙ firstOf-end f
 
 held-at-requires : tie.Need-held-at-requires
@@ -41,8 +32,8 @@ returns-2 c =
     let ask = told .before .before .before in
     let start = ask .before in
     let p = start .args .p in
-    let there = broken-there p (start .pre .lawful) _ (ask .first-break .ensures) _ _ (told .before .broken .given .1) in
+    let there = said-there p (start .pre .lawful) _ (ask .first-break .ensures) _ _ (told .before .broken .given .1) in
     finds-as (c .held-at .result) _ _ (ap (λ q. firstOf (missesOn p) (heldTries p q)) (sym there)) (c .held-at .ensures)
 
 pub held-spec : {M : Type 1} → statement M
-held-spec = tie.close (tie.spec first-break-requires enum-known-broken returns held-at-requires returns-2)
+held-spec = tie.close (tie.spec (λ c κs. search needs) (λ c. search needs) returns held-at-requires returns-2)

@@ -1,17 +1,10 @@
 -- `tries::search::held_at` meets its contract: the first that misses of the places left is the first of all.
-use Prim.Native.Nat.{ℕ, _+_, _-_, _≤_}
-use mathlib.Core.Path.{_≡_, sym, ap, _∙_}
-use mathlib.Core.List.{map}
-use mathlib.Core.Option.{some}
-use native.Mathlib.Omega.{arith}
-use Rattle.lists.specs.Count.{firstOf}
+use Rattle.base.proofs.Prelude.{ℕ, _+_, _-_, _≤_, _≡_, sym, ap, _∙_, map, some, arith}
+use Rattle.base.specs.Count.{firstOf}
 use Rattle.rules.specs.declared.Plan.{Plan}
-use Rattle.horizon.proofs.Pairs.{pair}
-use Rattle.tries.specs.Tries.{Try, stoppedTry, heldTries, missesOn}
-use Rattle.tries.specs.Openings.{tryOf}
-use Rattle.tries.proofs.Places.{after}
-use Rattle.tries.proofs.Searching.{after-none, try-here, try-later, try-end}
-use Rattle.tries.proofs.search.held_at.Statement.{statement}
+use Rattle.demand.proofs.Pairs.{pair}
+use Rattle.tries.specs.{Tries.{Try, stoppedTry, heldTries, missesOn}, inner.Openings.tryOf}
+use Rattle.tries.proofs.{Places.after, Searching.{after-none, try-here, try-later, try-end}, search.held_at.Statement.statement}
 use Rattle.tries.proofs.search.held_at.Tie as tie
 
 -- the try at place v
@@ -29,12 +22,6 @@ loop-holds : tie.Need-loop-holds Inv-loop μ-loop
 loop-holds c =
     let g = c .args in
     (omega arith, ap (λ vs. firstOf (missesOn (g .p)) (map (tryAt (g .p) (g .l) (g .b)) vs)) (after-none (g .p .n)))
-
-add-v : tie.Need-add-v Inv-loop μ-loop
-add-v c = omega arith
-
-stopping-requires : tie.Need-stopping-requires Inv-loop μ-loop
-stopping-requires c κs = (c .before .before .pre .0, (c .before .before .pre .1 .1, (omega arith, omega arith)))
 
 misses-on-requires : tie.Need-misses-on-requires Inv-loop μ-loop
 misses-on-requires c κs =
@@ -63,9 +50,6 @@ returns c =
     let opens = ap (λ o. o (g .l)) (made .stopping .ensures .0) in
     (made .stopping .ensures .1, start .pre .1 .0, sym (at .loop .inv .1) ∙ found ∙ ap some (sym opens))
 
-loop-less : tie.Need-loop-less Inv-loop μ-loop
-loop-less c = omega arith
-
 loop-again : tie.Need-loop-again Inv-loop μ-loop
 loop-again c =
     let turn = c .before in
@@ -86,15 +70,7 @@ returns-2 c =
 
 pub held-at-spec : {M : Type 1} → statement M
 held-at-spec =
-    tie.close
-    (tie.spec
-    Inv-loop
-    μ-loop
-    loop-holds
-    add-v
-    stopping-requires
-    misses-on-requires
-    returns
-    loop-less
-    loop-again
-    returns-2)
+    tie.close (tie.spec
+    Inv-loop μ-loop loop-holds (λ c. omega arith)
+    (λ c κs. (c .before .before .pre .0, (c .before .before .pre .1 .1, (omega arith, omega arith)))) misses-on-requires
+    returns (λ c. omega arith) loop-again returns-2)

@@ -1,16 +1,9 @@
 -- `tries::search::paid_by` meets its contract: the first that misses of the places left is the first of all.
-use Prim.Native.Nat.{ℕ, _+_, _-_, _≤_}
-use mathlib.Core.Path.{_≡_, sym, ap, _∙_}
-use mathlib.Core.List.{List, flatMap}
-use native.Mathlib.Omega.{arith}
-use borrow.Author.Needs.{needs}
-use Rattle.lists.specs.Count.{firstOf}
+use Rattle.base.proofs.Prelude.{ℕ, _+_, _-_, _≤_, _≡_, sym, ap, _∙_, List, flatMap, arith, needs}
+use Rattle.base.specs.Count.{firstOf}
 use Rattle.rules.specs.declared.Plan.{Plan}
-use Rattle.tries.specs.Tries.{Try, paidTry, places, byInterval, missesOn}
-use Rattle.tries.specs.Openings.{Finds}
-use Rattle.tries.proofs.Places.{after}
-use Rattle.tries.proofs.Searching.{finds-as, finds-none, finds-opened, after-none, row-here, row-later, row-end}
-use Rattle.tries.proofs.search.paid_by.Statement.{statement}
+use Rattle.tries.specs.{Tries.{Try, paidTry, places, byInterval, missesOn}, inner.Openings.Finds}
+use Rattle.tries.proofs.{Places.after, Searching.{finds-as, finds-none, finds-opened, after-none, row-here, row-later, row-end}, search.paid_by.Statement.statement}
 use Rattle.tries.proofs.search.paid_by.Tie as tie
 
 -- the tries in which it takes the bank from the string at place v
@@ -31,19 +24,10 @@ loop-holds c =
     let k = c .args .k in
     (omega arith, ap (λ vs. firstOf (missesOn p) (flatMap (paidAt p k) vs)) (after-none (p .n)))
 
-add-v : tie.Need-add-v Inv-loop μ-loop
-add-v c = omega arith
-
 paying-requires : tie.Need-paying-requires Inv-loop μ-loop
 paying-requires c κs =
     let start = c .before .before in
     (start .pre .0, (start .pre .1, (omega arith, omega arith)))
-
-by-interval-requires : tie.Need-by-interval-requires Inv-loop μ-loop
-by-interval-requires c κs = (c .before .before .before .pre .0, c .paying .ensures .1)
-
-enum-told : tie.Need-enum-told Inv-loop μ-loop
-enum-told c = search needs
 
 -- what is found by the intervals of a place
 abbrev start : tie.After-by-interval Inv-loop μ-loop → tie.Start Inv-loop μ-loop
@@ -53,9 +37,6 @@ found : (c : tie.After-by-interval Inv-loop μ-loop)
     → Finds (c .by-interval .result)
     (firstOf (missesOn (start c .args .p)) (paidAt (start c .args .p) (start c .args .k) (c .before .before .before .loop .v + 1)))
 found c = finds-opened (start c .args .p) (c .by-interval .result) _ _ (c .before .paying .ensures .0) (c .by-interval .ensures)
-
-loop-less : tie.Need-loop-less Inv-loop μ-loop
-loop-less c = omega arith
 
 loop-again : tie.Need-loop-again Inv-loop μ-loop
 loop-again c =
@@ -68,9 +49,6 @@ loop-again c =
       sym (row-later (missesOn p) (paidAt p k) (at .loop .v) (p .n) (search .before .before .loop-test .taken) none-here)
           ∙ at .loop .inv .1,
     )
-
-enum-told-2 : tie.Need-enum-told-2 Inv-loop μ-loop
-enum-told-2 c = search needs
 
 returns : tie.Need-returns Inv-loop μ-loop
 returns c =
@@ -91,17 +69,7 @@ returns-2 c =
 
 pub paid-by-spec : {M : Type 1} → statement M
 paid-by-spec =
-    tie.close
-    (tie.spec
-    Inv-loop
-    μ-loop
-    loop-holds
-    add-v
-    paying-requires
-    by-interval-requires
-    enum-told
-    loop-less
-    loop-again
-    enum-told-2
-    returns
-    returns-2)
+    tie.close (tie.spec
+    Inv-loop μ-loop loop-holds (λ c. omega arith) paying-requires
+    (λ c κs. (c .before .before .before .pre .0, c .paying .ensures .1)) (λ c. search needs) (λ c. omega arith)
+    loop-again (λ c. search needs) returns returns-2)

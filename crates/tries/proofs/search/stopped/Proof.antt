@@ -1,16 +1,9 @@
 -- `tries::search::stopped` meets its contract: the first that misses of the places left is the first of all.
-use Prim.Native.Nat.{ℕ, _+_, _-_, _≤_}
-use mathlib.Core.Path.{_≡_, sym, ap, _∙_}
-use mathlib.Core.List.{List, flatMap}
-use native.Mathlib.Omega.{arith}
-use borrow.Author.Needs.{needs}
-use Rattle.lists.specs.Count.{firstOf}
+use Rattle.base.proofs.Prelude.{ℕ, _+_, _-_, _≤_, _≡_, sym, ap, _∙_, List, flatMap, arith, needs}
+use Rattle.base.specs.Count.{firstOf}
 use Rattle.rules.specs.declared.Plan.{Plan}
-use Rattle.tries.specs.Tries.{Try, stoppedTry, byInterval, stoppedTries, missesOn}
-use Rattle.tries.specs.Openings.{Finds}
-use Rattle.tries.proofs.Places.{after}
-use Rattle.tries.proofs.Searching.{finds-as, finds-none, finds-opened, after-none, row-here, row-later, row-end}
-use Rattle.tries.proofs.search.stopped.Statement.{statement}
+use Rattle.tries.specs.{Tries.{Try, stoppedTry, byInterval, stoppedTries, missesOn}, inner.Openings.Finds}
+use Rattle.tries.proofs.{Places.after, Searching.{finds-as, finds-none, finds-opened, after-none, row-here, row-later, row-end}, search.stopped.Statement.statement}
 use Rattle.tries.proofs.search.stopped.Tie as tie
 
 -- the tries in which the string at place v is stopped
@@ -31,18 +24,6 @@ loop-holds c =
     let p = c .args .p in
     (omega arith, ap (λ vs. firstOf (missesOn p) (flatMap (stoppedAt p) vs)) (after-none (p .n)))
 
-add-v : tie.Need-add-v Inv-loop μ-loop
-add-v c = omega arith
-
-stopping-requires : tie.Need-stopping-requires Inv-loop μ-loop
-stopping-requires c κs = (c .before .before .pre, (omega arith, (omega arith, omega arith)))
-
-by-interval-requires : tie.Need-by-interval-requires Inv-loop μ-loop
-by-interval-requires c κs = (c .before .before .before .pre, c .stopping .ensures .1)
-
-enum-told : tie.Need-enum-told Inv-loop μ-loop
-enum-told c = search needs
-
 -- what is found by the intervals of a place
 abbrev start : tie.After-by-interval Inv-loop μ-loop → tie.Start Inv-loop μ-loop
 start c = c .before .before .before .before
@@ -51,9 +32,6 @@ found : (c : tie.After-by-interval Inv-loop μ-loop)
     → Finds (c .by-interval .result)
     (firstOf (missesOn (start c .args .p)) (stoppedAt (start c .args .p) (c .before .before .before .loop .v + 1)))
 found c = finds-opened (start c .args .p) (c .by-interval .result) _ _ (c .before .stopping .ensures .0) (c .by-interval .ensures)
-
-loop-less : tie.Need-loop-less Inv-loop μ-loop
-loop-less c = omega arith
 
 loop-again : tie.Need-loop-again Inv-loop μ-loop
 loop-again c =
@@ -65,9 +43,6 @@ loop-again c =
       sym (row-later (missesOn p) (stoppedAt p) (at .loop .v) (p .n) (search .before .before .loop-test .taken) none-here)
           ∙ at .loop .inv .1,
     )
-
-enum-told-2 : tie.Need-enum-told-2 Inv-loop μ-loop
-enum-told-2 c = search needs
 
 returns : tie.Need-returns Inv-loop μ-loop
 returns c =
@@ -86,17 +61,8 @@ returns-2 c =
 
 pub stopped-spec : {M : Type 1} → statement M
 stopped-spec =
-    tie.close
-    (tie.spec
-    Inv-loop
-    μ-loop
-    loop-holds
-    add-v
-    stopping-requires
-    by-interval-requires
-    enum-told
-    loop-less
-    loop-again
-    enum-told-2
-    returns
-    returns-2)
+    tie.close (tie.spec
+    Inv-loop μ-loop loop-holds (λ c. omega arith)
+    (λ c κs. (c .before .before .pre, (omega arith, (omega arith, omega arith))))
+    (λ c κs. (c .before .before .before .pre, c .stopping .ensures .1)) (λ c. search needs) (λ c. omega arith)
+    loop-again (λ c. search needs) returns returns-2)

@@ -1,15 +1,7 @@
 -- `verdict::growing::broken_at` meets its contract: the scan ends at the first broken pair, or finds none.
-use mathlib.Core.Path.{sym}
-use borrow.Author.Needs.{needs}
-use Rattle.verdict.proofs.Breaking.{broken-nowhere, broken-there}
-use Rattle.verdict.proofs.growing.broken_at.Statement.{statement}
+use Rattle.base.proofs.Prelude.{sym, needs}
+use Rattle.verdict.proofs.{Breaking.{broken-nowhere, broken-there}, growing.broken_at.Statement.statement}
 use Rattle.verdict.proofs.growing.broken_at.Tie as tie
-
-first-broken-requires : tie.Need-first-broken-requires
-first-broken-requires c κs = search needs
-
-enum-known-found : tie.Need-enum-known-found
-enum-known-found c = search needs
 
 returns : tie.Need-returns
 returns c =
@@ -25,4 +17,4 @@ returns-2 c =
     sym (broken-there (start .args .p) (start .pre .0 .lawful) _ (scan .first-broken .ensures) _ _ _ _ (found .found .given .1))
 
 pub broken-at-spec : {M : Type 1} → statement M
-broken-at-spec = tie.close (tie.spec first-broken-requires enum-known-found returns returns-2)
+broken-at-spec = tie.close (tie.spec (λ c κs. search needs) (λ c. search needs) returns returns-2)

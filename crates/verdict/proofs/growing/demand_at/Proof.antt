@@ -1,27 +1,12 @@
 -- `verdict::growing::demand_at` meets its contract: the demand is the blocking and what the two kinds of strings ask, and it fits.
-use Prim.Native.Nat.{_-_}
-use native.Mathlib.Omega.{arith}
-use borrow.Author.Needs.{needs}
-use Rattle.verdict.proofs.Asked.{askedBy-le, demand-parts}
-use Rattle.verdict.proofs.growing.demand_at.Statement.{statement}
+use Rattle.base.proofs.Prelude.{_-_, arith, needs}
+use Rattle.verdict.proofs.{Asked.{askedBy-le, demand-parts}, growing.demand_at.Statement.statement}
 use Rattle.verdict.proofs.growing.demand_at.Tie as tie
-
-sub-at : tie.Need-sub-at
-sub-at c = search needs
-
-cast-at : tie.Need-cast-at
-cast-at c = search needs
 
 add-result : tie.Need-add-result
 add-result c =
     let kept = askedBy-le (c .args .p) 0 (c .args .l) (c .pre .0 .lawful) (omega arith) in
     omega arith
-
-mul-result : tie.Need-mul-result
-mul-result c = search needs
-
-element-copy-out-result : tie.Need-element-copy-out-result
-element-copy-out-result c = search needs
 
 add-result-2 : tie.Need-add-result-2
 add-result-2 c =
@@ -39,12 +24,5 @@ returns c =
 
 pub demand-at-spec : {M : Type 1} → statement M
 demand-at-spec =
-    tie.close
-    (tie.spec
-    sub-at
-    cast-at
-    add-result
-    mul-result
-    element-copy-out-result
-    add-result-2
-    returns)
+    tie.close (tie.spec
+    (λ c. search needs) (λ c. search needs) add-result (λ c. search needs) (λ c. search needs) add-result-2 returns)

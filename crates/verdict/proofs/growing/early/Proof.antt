@@ -1,24 +1,13 @@
 -- `verdict::growing::early` meets its contract: the rows below the largest D one after the other, each handing on its count of pairs.
-use Prim.Native.Nat.{ℕ, _+_, _-_, _*_, _≤_, _<_}
-use mathlib.Core.Path.{_≡_, sym, ap, _∙_, subst}
-use mathlib.Core.List.{List}
-use native.Mathlib.Omega.{arith}
-use borrow.Author.Needs.{needs}
-use lib.ListN.{length, getD, set, replicate, length-set, length-replicate, getD-replicate}
-use Rattle.lists.specs.Count.{keep}
-use Rattle.rules.specs.Plan.{multipleOf, dMin, dMax}
-use Rattle.rules.specs.Verdict.{Pair}
-use Rattle.horizon.proofs.Pairs.{rows, scanFrom, allPairs-rows}
-use Rattle.growth.specs.Quick.{grows, quickPairs}
-use Rattle.verdict.specs.Asked.{askedBy}
-use Rattle.verdict.specs.Steps.{Due, Mark, Looked, RowKnown, onward, pairsOf}
-use Rattle.verdict.proofs.Asked.{askedBy-le}
+use Rattle.base.proofs.Prelude.{ℕ, _+_, _-_, _*_, _≤_, _<_, _≡_, sym, ap, _∙_, subst, List, arith, needs, length, getD, set, replicate, length-set, length-replicate}
+use lib.ListN.{getD-replicate}
+use Rattle.base.specs.Count.{keep}
+use Rattle.rules.specs.{Plan.{multipleOf, dMin, dMax}, Verdict.Pair}
+use Rattle.demand.proofs.Pairs.{rows, scanFrom, allPairs-rows}
+use Rattle.demand.specs.Quick.{grows, quickPairs}
+use Rattle.verdict.specs.{inner.Asked.askedBy, inner.Steps.{Due, Mark, Looked, RowKnown, onward, pairsOf}}
+use Rattle.verdict.proofs.{Asked.askedBy-le, KeptRows.{kept-row, kept-rows}, Stepping.asked-early, Looking.{early-still, mark-early, mark-next, looked-next}, Onward.{onward-ended, dMin-pos, dMin-dMax}, growing.early.Statement.statement}
 use Rattle.laws.proofs.Lawful.{dMax-le}
-use Rattle.verdict.proofs.KeptRows.{kept-row, kept-rows}
-use Rattle.verdict.proofs.Stepping.{asked-early}
-use Rattle.verdict.proofs.Looking.{early-still, mark-early, mark-next, looked-next}
-use Rattle.verdict.proofs.Onward.{onward-ended, dMin-pos, dMin-dMax}
-use Rattle.verdict.proofs.growing.early.Statement.{statement}
 use Rattle.verdict.proofs.growing.early.Tie as tie
 
 abbrev Inv-loop : tie.InvT-loop
@@ -58,15 +47,6 @@ step c = c .before .before .before
 abbrev marks : tie.After-row Inv-loop μ-loop → tie.After-marked Inv-loop μ-loop
 marks c = c .before .before .before
 
-smallest-d-requires : tie.Need-smallest-d-requires Inv-loop μ-loop
-smallest-d-requires c κs = c .pre
-
-largest-d-requires : tie.Need-largest-d-requires Inv-loop μ-loop
-largest-d-requires c κs = c .before .pre
-
-parts-of-requires : tie.Need-parts-of-requires Inv-loop μ-loop
-parts-of-requires c κs = c .before .before .pre
-
 sub-steps-after : tie.Need-sub-steps-after Inv-loop μ-loop
 sub-steps-after c =
     let least = c .before .before .before .before .before in
@@ -78,12 +58,6 @@ steps-after-requires c κs =
     let p = least .before .args .p in
     let ready = least .before .pre in
     (ready, omega (arith, least .smallest-d .ensures, dMin-dMax p ready, dMax-le p (ready .lawful)))
-
-none-known-requires : tie.Need-none-known-requires Inv-loop μ-loop
-none-known-requires c κs = search needs
-
-none-known-requires-2 : tie.Need-none-known-requires-2 Inv-loop μ-loop
-none-known-requires-2 c κs = search needs
 
 loop-holds : tie.Need-loop-holds Inv-loop μ-loop
 unfolding quickPairs
@@ -144,33 +118,6 @@ takers c = omega (arith, at c .loop .inv .5, c .advance .ensures .1 .1 .0)
 small : (c : tie.In-loop Inv-loop μ-loop) (x : ℕ) → askedBy (start (c .before) .args .p) x (c .before .loop .l) ≤ 2020000000
 small c x = askedBy-le (start (c .before) .args .p) x (c .before .loop .l) (start (c .before) .pre .lawful) (omega (arith, short c))
 
-add-keepers : tie.Need-add-keepers Inv-loop μ-loop
-add-keepers c = omega (arith, keepers (c .before), small (turn (c .before)) 0)
-
-add-asked : tie.Need-add-asked Inv-loop μ-loop
-add-asked c = omega (arith, takers (c .before .before), small (turn (c .before .before)) 1)
-
-marked-requires : tie.Need-marked-requires Inv-loop μ-loop
-marked-requires c κs = omega (arith, short (turn (c .before .before)))
-
-cast-at : tie.Need-cast-at Inv-loop μ-loop
-cast-at c = omega (arith, short (turn (step c)))
-
-add-above : tie.Need-add-above Inv-loop μ-loop
-add-above c = omega (arith, short (turn (step c)))
-
-mul-takers : tie.Need-mul-takers Inv-loop μ-loop
-mul-takers c = omega (arith, short (turn (step c)))
-
-array-write-takers : tie.Need-array-write-takers Inv-loop μ-loop
-array-write-takers c = omega (arith, short (turn (step c)))
-
-mul-marks : tie.Need-mul-marks Inv-loop μ-loop
-mul-marks c = omega (arith, short (turn (step c)))
-
-array-write-marks : tie.Need-array-write-marks Inv-loop μ-loop
-array-write-marks c = omega (arith, short (turn (step c)))
-
 -- the mark of this turn
 mark : (c : tie.After-marked Inv-loop μ-loop) → Mark (start (at (step c)) .args .p) (at (step c) .loop .l + 1) (c .marked .result)
 mark c =
@@ -205,9 +152,6 @@ row-requires c κs =
     } in
     (start here .pre, (last here .before .smallest-d .ensures, (last here .largest-d .ensures, (known, here .loop .inv .2))))
 
-enum-known-found : tie.Need-enum-known-found Inv-loop μ-loop
-enum-known-found c = search needs
-
 -- a row and the rows after it
 abbrev rest : (c : tie.After-row Inv-loop μ-loop) → List Pair
 rest c =
@@ -235,12 +179,6 @@ returns c =
       onward-ended _ _ _ (c .match .keys2) ∙ sym (onward-ended _ _ _ (c .match .keys2)) ∙ onto (c .before),
       omega (arith, c .before .row .ensures .1, last (at (step (marks (c .before)))) .largest-d .ensures),
     )
-
-add-l : tie.Need-add-l Inv-loop μ-loop
-add-l c = omega (arith, short (turn (step (marks (c .before .before .before)))))
-
-loop-less : tie.Need-loop-less Inv-loop μ-loop
-loop-less c = omega (arith, turn (step (marks (c .before .before .before))) .loop-test .taken)
 
 loop-again : tie.Need-loop-again Inv-loop μ-loop
 unfolding onward pairsOf
@@ -280,32 +218,14 @@ returns-2 c =
 
 pub early-spec : {M : Type 1} → statement M
 early-spec =
-    tie.close
-    (tie.spec
-    Inv-loop
-    μ-loop
-    smallest-d-requires
-    largest-d-requires
-    parts-of-requires
-    sub-steps-after
-    steps-after-requires
-    none-known-requires
-    none-known-requires-2
-    loop-holds
-    advance-requires
-    add-keepers
-    add-asked
-    marked-requires
-    cast-at
-    add-above
-    mul-takers
-    array-write-takers
-    mul-marks
-    array-write-marks
-    row-requires
-    enum-known-found
-    returns
-    add-l
-    loop-less
-    loop-again
-    returns-2)
+    tie.close (tie.spec
+    Inv-loop μ-loop (λ c κs. c .pre) (λ c κs. c .before .pre) (λ c κs. c .before .before .pre) sub-steps-after
+    steps-after-requires (λ c κs. search needs) (λ c κs. search needs) loop-holds advance-requires
+    (λ c. omega (arith, keepers (c .before), small (turn (c .before)) 0))
+    (λ c. omega (arith, takers (c .before .before), small (turn (c .before .before)) 1))
+    (λ c κs. omega (arith, short (turn (c .before .before)))) (λ c. omega (arith, short (turn (step c))))
+    (λ c. omega (arith, short (turn (step c)))) (λ c. omega (arith, short (turn (step c))))
+    (λ c. omega (arith, short (turn (step c)))) (λ c. omega (arith, short (turn (step c))))
+    (λ c. omega (arith, short (turn (step c)))) row-requires (λ c. search needs) returns
+    (λ c. omega (arith, short (turn (step (marks (c .before .before .before))))))
+    (λ c. omega (arith, turn (step (marks (c .before .before .before))) .loop-test .taken)) loop-again returns-2)

@@ -1,24 +1,12 @@
 -- `verdict::growing::first_broken` meets its contract: the pairs below the largest D come first, then those from it on.
-use mathlib.Core.Path.{sym, ap, _∙_}
-use native.Mathlib.Omega.{arith}
-use borrow.Author.Needs.{needs}
-use Rattle.lists.specs.Count.{keep}
+use Rattle.base.proofs.Prelude.{sym, ap, _∙_, arith, needs}
+use Rattle.base.specs.Count.{keep}
 use Rattle.rules.specs.Plan.{multipleOf, dMax}
-use Rattle.growth.specs.Quick.{grows}
-use Rattle.horizon.proofs.Pairs.{rows}
-use Rattle.verdict.specs.Steps.{onward, pairsOf}
-use Rattle.verdict.proofs.Onward.{onward-ended}
-use Rattle.verdict.proofs.growing.first_broken.Statement.{statement}
+use Rattle.demand.specs.Quick.{grows}
+use Rattle.demand.proofs.Pairs.{rows}
+use Rattle.verdict.specs.inner.Steps.{onward, pairsOf}
+use Rattle.verdict.proofs.{Onward.onward-ended, growing.first_broken.Statement.statement}
 use Rattle.verdict.proofs.growing.first_broken.Tie as tie
-
-early-requires : tie.Need-early-requires
-early-requires c κs = search needs
-
-enum-known-found : tie.Need-enum-known-found
-enum-known-found c = search needs
-
-returns : tie.Need-returns
-returns c = sym (onward-ended _ _ _ (c .match .keys2)) ∙ c .before .early .ensures .0
 
 late-requires : tie.Need-late-requires
 unfolding pairsOf
@@ -39,10 +27,6 @@ returns-2 c =
 
 pub first-broken-spec : {M : Type 1} → statement M
 first-broken-spec =
-    tie.close
-    (tie.spec
-    early-requires
-    enum-known-found
-    returns
-    late-requires
-    returns-2)
+    tie.close (tie.spec
+    (λ c κs. search needs) (λ c. search needs)
+    (λ c. sym (onward-ended _ _ _ (c .match .keys2)) ∙ c .before .early .ensures .0) late-requires returns-2)

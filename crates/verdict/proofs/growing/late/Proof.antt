@@ -1,22 +1,14 @@
 -- `verdict::growing::late` meets its contract: a walk from step to step, with the count of pairs before it, finds what a walk over all
 -- finds.
-use Prim.Native.Nat.{_+_, _-_, _*_, _≤_, _<_}
-use mathlib.Core.Path.{_≡_, sym, ap, _∙_}
-use mathlib.Core.Bool.{true}
-use native.Mathlib.Omega.{arith}
+use Rattle.base.proofs.Prelude.{_+_, _-_, _*_, _≤_, _<_, _≡_, sym, ap, _∙_, true, arith}
 use Rattle.days.specs.Days.{days}
-use Rattle.rules.specs.declared.Verdict.the-variants.{Fail}
-use Rattle.lists.specs.Count.{keep}
-use Rattle.rules.specs.Plan.{multipleOf, dMax}
-use Rattle.rules.specs.Demand.{demand}
-use Rattle.horizon.proofs.Pairs.{pair, rows, scanFrom}
-use Rattle.growth.specs.Quick.{grows}
-use Rattle.verdict.specs.Asked.{askedBy}
-use Rattle.verdict.specs.Steps.{Due}
-use Rattle.verdict.proofs.Asked.{askedBy-le}
+use Rattle.rules.specs.{declared.Verdict.the-variants.Fail, Plan.{multipleOf, dMax}, Demand.demand}
+use Rattle.base.specs.Count.{keep}
+use Rattle.demand.proofs.Pairs.{pair, rows, scanFrom}
+use Rattle.demand.specs.Quick.{grows}
+use Rattle.verdict.specs.{inner.Asked.askedBy, inner.Steps.Due}
+use Rattle.verdict.proofs.{Asked.askedBy-le, Onward.{Onto, onto-soonest, dMax-pos, dMax-grows, demand-unblocked, onward-bad, onward-good, onward-end}, growing.late.Statement.statement}
 use Rattle.laws.proofs.Lawful.{dMax-le}
-use Rattle.verdict.proofs.Onward.{Onto, onto-soonest, dMax-pos, dMax-grows, demand-unblocked, onward-bad, onward-good, onward-end}
-use Rattle.verdict.proofs.growing.late.Statement.{statement}
 use Rattle.verdict.proofs.growing.late.Tie as tie
 
 abbrev Inv-loop : tie.InvT-loop
@@ -46,16 +38,10 @@ turn c = c .before .before .before .before .before
 abbrev at : tie.After-advance Inv-loop μ-loop → tie.At-loop Inv-loop μ-loop
 at c = turn c .before
 
-largest-d-requires : tie.Need-largest-d-requires Inv-loop μ-loop
-largest-d-requires c κs = c .pre .0
-
 add-end : tie.Need-add-end Inv-loop μ-loop
 add-end c =
     let ready = c .before .pre .0 in
     omega (arith, c .largest-d .ensures, c .before .pre .1 .0, ready .lawful .hMax, dMax-le (c .before .args .p) (ready .lawful))
-
-parts-of-requires : tie.Need-parts-of-requires Inv-loop μ-loop
-parts-of-requires c κs = c .before .pre .0
 
 -- the interval before the largest D
 short : (c : tie.After-largest-d Inv-loop μ-loop) → c .largest-d .result - 1 ≤ 1000
@@ -64,16 +50,10 @@ short c = omega (arith, c .largest-d .ensures, dMax-le (c .before .args .p) (c .
 some : (c : tie.After-largest-d Inv-loop μ-loop) → 1 ≤ c .largest-d .result
 some c = omega (arith, c .largest-d .ensures, dMax-pos (c .before .args .p) (c .before .pre .0))
 
-sub-steps-after : tie.Need-sub-steps-after Inv-loop μ-loop
-sub-steps-after c = some (c .before .before .before .before)
-
 steps-after-requires : tie.Need-steps-after-requires Inv-loop μ-loop
 steps-after-requires c κs =
     let most = c .before .before .before .before in
     (most .before .pre .0, short most)
-
-sub-work-within : tie.Need-sub-work-within Inv-loop μ-loop
-sub-work-within c = some (c .before .before .before .before .before)
 
 work-within-requires : tie.Need-work-within-requires Inv-loop μ-loop
 work-within-requires c κs =
@@ -144,12 +124,6 @@ small c =
     let low : l ≤ 101000 = omega arith in
     omega (arith, demand-unblocked p l lawful, askedBy-le p 0 l lawful low, askedBy-le p 1 l lawful low)
 
-add-demand-2 : tie.Need-add-demand-2 Inv-loop μ-loop
-add-demand-2 c = omega (arith, sum (c .before), small (turn (c .before)))
-
-add-demand-3 : tie.Need-add-demand-3 Inv-loop μ-loop
-add-demand-3 c = omega (arith, sum (c .before), small (turn (c .before)))
-
 add-pairs : tie.Need-add-pairs Inv-loop μ-loop
 add-pairs c = omega (arith, at (c .before) .loop .inv .3, at (c .before) .loop .inv .1, at (c .before) .loop .inv .2)
 
@@ -175,9 +149,6 @@ onto :
 onto c =
     let begin = start (at c) in
     onto-soonest (begin .args .p) (begin .pre .0) _ _ _ _ (turn c .loop-test .taken) (c .advance .ensures .1 .1 .1) (c .advance .ensures .0)
-
-loop-less : tie.Need-loop-less Inv-loop μ-loop
-loop-less c = omega (arith, onto (c .before .before) .past, onto (c .before .before) .within)
 
 loop-again : tie.Need-loop-again Inv-loop μ-loop
 loop-again c =
@@ -212,24 +183,10 @@ returns-2 c =
 
 pub late-spec : {M : Type 1} → statement M
 late-spec =
-    tie.close
-    (tie.spec
-    Inv-loop
-    μ-loop
-    largest-d-requires
-    add-end
-    parts-of-requires
-    sub-steps-after
-    steps-after-requires
-    sub-work-within
-    work-within-requires
-    add-demand
-    loop-holds
-    advance-requires
-    add-demand-2
-    add-demand-3
-    add-pairs
-    returns
-    loop-less
-    loop-again
-    returns-2)
+    tie.close (tie.spec
+    Inv-loop μ-loop (λ c κs. c .pre .0) add-end (λ c κs. c .before .pre .0)
+    (λ c. some (c .before .before .before .before)) steps-after-requires
+    (λ c. some (c .before .before .before .before .before)) work-within-requires add-demand loop-holds advance-requires
+    (λ c. omega (arith, sum (c .before), small (turn (c .before))))
+    (λ c. omega (arith, sum (c .before), small (turn (c .before)))) add-pairs returns
+    (λ c. omega (arith, onto (c .before .before) .past, onto (c .before .before) .within)) loop-again returns-2)

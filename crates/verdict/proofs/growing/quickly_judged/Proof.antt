@@ -1,17 +1,10 @@
 -- `verdict::growing::quickly_judged` meets its contract: overload decides first, then the pairs.
-use mathlib.Core.Path.{sym, _∙_}
-use native.Mathlib.Omega.{arith}
-use borrow.Author.Needs.{needs}
-use borrow.Author.Tests.{lt-ltb, le-ltb}
-use Rattle.rules.specs.Plan.{multipleOf}
-use Rattle.rules.specs.Demand.{load, overloaded}
-use Rattle.growth.specs.Quick.{quickPairs}
-use Rattle.horizon.proofs.Pairs.{verdictOver-overload, verdictOver-scan}
+use Rattle.base.proofs.Prelude.{sym, _∙_, arith, needs, lt-ltb, le-ltb}
+use Rattle.rules.specs.{Plan.multipleOf, Demand.{load, overloaded}}
+use Rattle.demand.specs.Quick.{quickPairs}
+use Rattle.demand.proofs.Pairs.{verdictOver-overload, verdictOver-scan}
 use Rattle.verdict.proofs.growing.quickly_judged.Statement.{statement}
 use Rattle.verdict.proofs.growing.quickly_judged.Tie as tie
-
-load-over-requires : tie.Need-load-over-requires
-load-over-requires c κs = search needs
 
 returns : tie.Need-returns
 unfolding overloaded
@@ -20,9 +13,6 @@ returns c =
     let p = start .args .p in
     let heavy = lt-ltb (multipleOf p) (load p) (omega (arith, start .pre .1, c .before .load-over .ensures)) in
     sym (verdictOver-overload p (quickPairs p) heavy)
-
-first-broken-requires : tie.Need-first-broken-requires
-first-broken-requires c κs = search needs
 
 -- the load is within H: the pairs decide
 returns-2 : tie.Need-returns-2
@@ -34,10 +24,4 @@ returns-2 c =
     c .first-broken .ensures ∙ sym (verdictOver-scan p (quickPairs p) light)
 
 pub quickly-judged-spec : {M : Type 1} → statement M
-quickly-judged-spec =
-    tie.close
-    (tie.spec
-    load-over-requires
-    returns
-    first-broken-requires
-    returns-2)
+quickly-judged-spec = tie.close (tie.spec (λ c κs. search needs) returns (λ c κs. search needs) returns-2)

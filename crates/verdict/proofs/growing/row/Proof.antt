@@ -1,22 +1,13 @@
 -- `verdict::growing::row` meets its contract: a walk from one blocking to look at to the next finds what a walk over all of them finds.
-use Prim.Native.Nat.{_+_, _-_, _≤_, _<_}
-use mathlib.Core.Path.{_≡_, sym, ap, _∙_}
-use mathlib.Core.Bool.{true}
-use mathlib.Core.List.{List, _++_}
-use native.Mathlib.Omega.{arith}
-use borrow.Author.Needs.{needs}
+use Rattle.base.proofs.Prelude.{_+_, _-_, _≤_, _<_, _≡_, sym, ap, _∙_, true, List, _++_, arith, needs}
 use Rattle.days.specs.Days.{days}
-use Rattle.rules.specs.declared.Verdict.the-variants.{Fail}
-use Rattle.lists.specs.Count.{keep}
-use Rattle.rules.specs.Demand.{blockLimit, demand}
-use Rattle.rules.specs.Verdict.{Pair}
+use Rattle.rules.specs.{declared.Verdict.the-variants.Fail, Demand.{blockLimit, demand}, Verdict.Pair}
+use Rattle.base.specs.Count.{keep}
 use Rattle.laws.proofs.Demand.{blockLimit-interval}
-use Rattle.horizon.proofs.Pairs.{pair, rowFrom, scanFrom}
-use Rattle.growth.specs.Quick.{grows}
-use Rattle.verdict.specs.Steps.{onward, pairsOf}
-use Rattle.verdict.proofs.KeptRows.{kept-skip}
-use Rattle.verdict.proofs.Looking.{Next, next-looked, look-good, look-bad, look-end}
-use Rattle.verdict.proofs.growing.row.Statement.{statement}
+use Rattle.demand.proofs.Pairs.{pair, rowFrom, scanFrom}
+use Rattle.demand.specs.Quick.{grows}
+use Rattle.verdict.specs.inner.Steps.{onward, pairsOf}
+use Rattle.verdict.proofs.{KeptRows.kept-skip, Looking.{Next, next-looked, look-good, look-bad, look-end}, growing.row.Statement.statement}
 use Rattle.verdict.proofs.growing.row.Tie as tie
 
 abbrev Inv-loop : tie.InvT-loop
@@ -29,12 +20,6 @@ Inv-loop p first last l keepers more takers marks before top pairs₀ b₀ pairs
 
 abbrev μ-loop : tie.MeasureT-loop
 μ-loop p first last l keepers more takers marks before top pairs₀ b₀ pairs b = l + 1 - b
-
-limit-requires : tie.Need-limit-requires Inv-loop μ-loop
-limit-requires c κs = search needs
-
-add-next-blocking : tie.Need-add-next-blocking Inv-loop μ-loop
-add-next-blocking c = omega (arith, c .before .pre .1 .1 .1 .0 .short)
 
 next-blocking-requires : tie.Need-next-blocking-requires Inv-loop μ-loop
 next-blocking-requires c κs =
@@ -72,9 +57,6 @@ within c = omega (arith, allowed c, blockLimit-interval (start c .args .p) (star
 
 looked : (c : tie.In-loop Inv-loop μ-loop) → grows (start c .args .p) (pair (start c .args .l) (c .before .loop .b)) ≡ true
 looked c = c .before .loop .inv .2 (within c)
-
-sub-left : tie.Need-sub-left Inv-loop μ-loop
-sub-left c = within c
 
 demand-at-requires : tie.Need-demand-at-requires Inv-loop μ-loop
 demand-at-requires c κs =
@@ -128,9 +110,6 @@ next c =
     next-looked (begin .args .p) (begin .pre .0 .lawful) l (begin .args .more) left _ (c .next-blocking2 .result) (known .pos)
     (known .grown) (omega arith) (known .looked .marked left (omega arith)) (c .next-blocking2 .ensures)
 
-loop-less : tie.Need-loop-less Inv-loop μ-loop
-loop-less c = omega (arith, next c .low, within (c .before .before .before))
-
 loop-again : tie.Need-loop-again Inv-loop μ-loop
 loop-again c =
     let turn = c .before .before .before in
@@ -166,19 +145,7 @@ returns-2 c =
 
 pub row-spec : {M : Type 1} → statement M
 row-spec =
-    tie.close
-    (tie.spec
-    Inv-loop
-    μ-loop
-    limit-requires
-    add-next-blocking
-    next-blocking-requires
-    loop-holds
-    sub-left
-    demand-at-requires
-    add-pairs
-    returns
-    next-blocking-requires-2
-    loop-less
-    loop-again
-    returns-2)
+    tie.close (tie.spec
+    Inv-loop μ-loop (λ c κs. search needs) (λ c. omega (arith, c .before .pre .1 .1 .1 .0 .short))
+    next-blocking-requires loop-holds (λ c. within c) demand-at-requires add-pairs returns next-blocking-requires-2
+    (λ c. omega (arith, next c .low, within (c .before .before .before))) loop-again returns-2)

@@ -1,11 +1,6 @@
 -- `verdict::holds::holds_of` meets its contract: E of each string is put in its place.
-use Prim.Native.Nat.{_-_, _≤_}
-use mathlib.Core.Path.{_≡_, refl, ap, _∙_}
-use native.Mathlib.Omega.{arith}
-use lib.ListN.{set}
-use Rattle.verdict.proofs.StringSums.{string-at}
-use Rattle.verdict.proofs.Holding.{holdsTo, holds-more, holds-all}
-use Rattle.verdict.proofs.holds.holds_of.Statement.{statement}
+use Rattle.base.proofs.Prelude.{_-_, _≤_, _≡_, refl, ap, _∙_, arith, set}
+use Rattle.verdict.proofs.{StringSums.string-at, Holding.{holdsTo, holds-more, holds-all}, holds.holds_of.Statement.statement}
 use Rattle.verdict.proofs.holds.holds_of.Tie as tie
 
 abbrev Inv-loop : tie.InvT-loop
@@ -14,31 +9,10 @@ Inv-loop p n strings holds₀ i₀ holds i = (i ≤ n) × (holds ≡ holdsTo p i
 abbrev μ-loop : tie.MeasureT-loop
 μ-loop p n strings holds₀ i₀ holds i = n - i
 
-loop-holds : tie.Need-loop-holds Inv-loop μ-loop
-loop-holds c = (omega arith, refl)
-
-mul-s : tie.Need-mul-s Inv-loop μ-loop
-mul-s c = omega (arith, c .before .before .before .pre .lawful .nMax)
-
-array-copy-out-s : tie.Need-array-copy-out-s Inv-loop μ-loop
-array-copy-out-s c = omega (arith, c .before .before .before .pre .lawful .nMax)
-
 hold-requires : tie.Need-hold-requires Inv-loop μ-loop
 hold-requires c κs =
     let start = c .before .before .before .before in
     string-at (start .args .p) (start .pre) (c .before .before .loop .i) (c .before .loop-test .taken)
-
-mul-holds : tie.Need-mul-holds Inv-loop μ-loop
-mul-holds c = omega (arith, c .before .before .before .before .before .pre .lawful .nMax)
-
-array-write-holds : tie.Need-array-write-holds Inv-loop μ-loop
-array-write-holds c = omega (arith, c .before .before .before .before .before .pre .lawful .nMax)
-
-add-i : tie.Need-add-i Inv-loop μ-loop
-add-i c = omega arith
-
-loop-less : tie.Need-loop-less Inv-loop μ-loop
-loop-less c = omega arith
 
 loop-again : tie.Need-loop-again Inv-loop μ-loop
 loop-again c =
@@ -55,17 +29,9 @@ returns c =
 
 pub holds-of-spec : {M : Type 1} → statement M
 holds-of-spec =
-    tie.close
-    (tie.spec
-    Inv-loop
-    μ-loop
-    loop-holds
-    mul-s
-    array-copy-out-s
-    hold-requires
-    mul-holds
-    array-write-holds
-    add-i
-    loop-less
-    loop-again
-    returns)
+    tie.close (tie.spec
+    Inv-loop μ-loop (λ c. (omega arith, refl)) (λ c. omega (arith, c .before .before .before .pre .lawful .nMax))
+    (λ c. omega (arith, c .before .before .before .pre .lawful .nMax)) hold-requires
+    (λ c. omega (arith, c .before .before .before .before .before .pre .lawful .nMax))
+    (λ c. omega (arith, c .before .before .before .before .before .pre .lawful .nMax)) (λ c. omega arith)
+    (λ c. omega arith) loop-again returns)

@@ -1,9 +1,6 @@
 -- `verdict::limits::limit` meets its contract: before the smallest D and from the largest on nothing blocks.
-use mathlib.Core.Path.{sym}
-use native.Mathlib.Omega.{arith}
-use borrow.Author.Needs.{needs}
-use Rattle.laws.proofs.Demand.{blockLimit-late, blockLimit-between}
-use Rattle.verdict.proofs.Blocking.{blockLimit-early}
+use Rattle.base.proofs.Prelude.{sym, arith, needs}
+use Rattle.laws.proofs.Demand.{blockLimit-early, blockLimit-late, blockLimit-between}
 use Rattle.verdict.proofs.limits.limit.Statement.{statement}
 use Rattle.verdict.proofs.limits.limit.Tie as tie
 
@@ -17,12 +14,6 @@ returns-2 c =
     let start = c .before .before in
     sym (blockLimit-late (start .args .p) (start .args .l) (omega (arith, start .pre .1 .1)))
 
-longest-blocker-requires : tie.Need-longest-blocker-requires
-longest-blocker-requires c κs = search needs
-
-smaller-requires : tie.Need-smaller-requires
-smaller-requires c κs = search needs
-
 returns-3 : tie.Need-returns-3
 returns-3 c =
     let start = c .before .before .before .before in
@@ -31,5 +22,4 @@ returns-3 c =
     omega (arith, c .smaller .ensures, c .before .longest-blocker .ensures, between)
 
 pub limit-spec : {M : Type 1} → statement M
-limit-spec =
-    tie.close (tie.spec returns returns-2 longest-blocker-requires smaller-requires returns-3)
+limit-spec = tie.close (tie.spec returns returns-2 (λ c κs. search needs) (λ c κs. search needs) returns-3)

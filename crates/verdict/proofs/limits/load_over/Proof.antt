@@ -1,16 +1,8 @@
 -- `verdict::limits::load_over` meets its contract: what is added up so far, with the shares of the strings that are left, is the load.
-use Prim.Native.Nat.{_+_, _-_, _*_, _/_, _≤_}
-use mathlib.Core.Path.{_≡_, ap, _∙_}
-use native.Mathlib.Omega.{arith}
-use lib.ListN.{drop, getD}
-use Rattle.rules.specs.declared.BatteryString.{BatteryString}
-use Prim.Native.Nat.{ℕ}
-use Rattle.lists.specs.Count.{sumOf}
-use Rattle.rules.specs.Plan.{stringsOf, noString, multipleOf}
-use Rattle.rules.specs.Demand.{holdOf, load}
-use Rattle.verdict.proofs.Blocking.{share-le}
-use Rattle.verdict.proofs.StringSums.{string-at, sum-at, sum-end}
-use Rattle.verdict.proofs.limits.load_over.Statement.{statement}
+use Rattle.base.proofs.Prelude.{_+_, _-_, _*_, _/_, _≤_, _≡_, ap, _∙_, arith, drop, getD, ℕ}
+use Rattle.rules.specs.{declared.BatteryString.BatteryString, Plan.{stringsOf, noString, multipleOf}, Demand.{holdOf, load}}
+use Rattle.base.specs.Count.{sumOf}
+use Rattle.verdict.proofs.{Blocking.share-le, StringSums.{string-at, sum-at, sum-end}, limits.load_over.Statement.statement}
 use Rattle.verdict.proofs.limits.load_over.Tie as tie
 
 abbrev Inv-loop : tie.InvT-loop
@@ -23,12 +15,6 @@ abbrev μ-loop : tie.MeasureT-loop
 loop-holds : tie.Need-loop-holds Inv-loop μ-loop
 unfolding load
 loop-holds c = (omega arith, omega arith, omega arith)
-
-mul-s : tie.Need-mul-s Inv-loop μ-loop
-mul-s c = omega (arith, c .before .before .before .pre .0 .lawful .nMax)
-
-array-copy-out-s : tie.Need-array-copy-out-s Inv-loop μ-loop
-array-copy-out-s c = omega (arith, c .before .before .before .pre .0 .lawful .nMax)
 
 period-share-requires : tie.Need-period-share-requires Inv-loop μ-loop
 period-share-requires c κs =
@@ -45,15 +31,6 @@ small c =
     let string = string-at (start .args .p) ready (c .before .before .before .loop .i) (c .before .before .loop-test .taken) in
     let within : start .args .h ≤ 100000 = omega (arith, start .pre .1, ready .lawful .hMax) in
     omega (arith, c .period-share .ensures, share-le (start .args .p) (start .args .h) _ string within)
-
-add-sum : tie.Need-add-sum Inv-loop μ-loop
-add-sum c = omega (arith, small c, c .before .before .before .before .before .pre .0 .lawful .nMax)
-
-add-i : tie.Need-add-i Inv-loop μ-loop
-add-i c = omega arith
-
-loop-less : tie.Need-loop-less Inv-loop μ-loop
-loop-less c = omega arith
 
 loop-again : tie.Need-loop-again Inv-loop μ-loop
 loop-again c =
@@ -76,16 +53,8 @@ returns c =
 
 pub load-over-spec : {M : Type 1} → statement M
 load-over-spec =
-    tie.close
-    (tie.spec
-    Inv-loop
-    μ-loop
-    loop-holds
-    mul-s
-    array-copy-out-s
-    period-share-requires
-    add-sum
-    add-i
-    loop-less
-    loop-again
-    returns)
+    tie.close (tie.spec
+    Inv-loop μ-loop loop-holds (λ c. omega (arith, c .before .before .before .pre .0 .lawful .nMax))
+    (λ c. omega (arith, c .before .before .before .pre .0 .lawful .nMax)) period-share-requires
+    (λ c. omega (arith, small c, c .before .before .before .before .before .pre .0 .lawful .nMax)) (λ c. omega arith)
+    (λ c. omega arith) loop-again returns)

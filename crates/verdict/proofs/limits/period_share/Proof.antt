@@ -1,17 +1,7 @@
 -- `verdict::limits::period_share` meets its contract: a short hold and at most h jobs, so the product fits.
-use Prim.Native.Nat.{_*_, _/_}
-use mathlib.Core.Path.{ap}
-use native.Mathlib.Omega.{arith}
-use borrow.Author.Needs.{needs}
-use Rattle.verdict.proofs.Blocking.{share-le}
-use Rattle.verdict.proofs.limits.period_share.Statement.{statement}
+use Rattle.base.proofs.Prelude.{_*_, _/_, ap, arith, needs}
+use Rattle.verdict.proofs.{Blocking.share-le, limits.period_share.Statement.statement}
 use Rattle.verdict.proofs.limits.period_share.Tie as tie
-
-hold-requires : tie.Need-hold-requires
-hold-requires c κs = search needs
-
-div-result : tie.Need-div-result
-div-result c = search needs
 
 mul-result : tie.Need-mul-result
 mul-result c =
@@ -28,4 +18,4 @@ returns c =
     ap (λ e. e * (start .args .h / start .args .s .t .0)) (c .before .hold .ensures)
 
 pub period-share-spec : {M : Type 1} → statement M
-period-share-spec = tie.close (tie.spec hold-requires div-result mul-result returns)
+period-share-spec = tie.close (tie.spec (λ c κs. search needs) (λ c. search needs) mul-result returns)

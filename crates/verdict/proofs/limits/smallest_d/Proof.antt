@@ -1,17 +1,10 @@
 -- `verdict::limits::smallest_d` meets its contract: the smaller of the smallest so far and of the smallest
 -- that is left is the smallest of all.
-use Prim.Native.Nat.{_-_, _≤_, min}
-use mathlib.Core.Path.{_≡_}
-use native.Mathlib.Omega.{arith}
-use borrow.Author.Needs.{needs}
-use lib.ListN.{take, drop, getD}
-use Rattle.rules.specs.declared.BatteryString.{BatteryString}
-use Prim.Native.Nat.{ℕ}
-use Rattle.lists.specs.Count.{smallest, smallestWith}
-use Rattle.rules.specs.Plan.{stringsOf, noString, dMin}
-use Rattle.lists.proofs.Lists.{smallestWith-le}
-use Rattle.verdict.proofs.StringSums.{smallest-start, smallest-at, smallest-end}
-use Rattle.verdict.proofs.limits.smallest_d.Statement.{statement}
+use Rattle.base.proofs.Prelude.{_-_, _≤_, min, _≡_, arith, needs, take, drop, getD, ℕ}
+use Rattle.rules.specs.{declared.BatteryString.BatteryString, Plan.{stringsOf, noString, dMin}}
+use Rattle.base.specs.Count.{smallest, smallestWith}
+use Rattle.base.proofs.Lists.{smallestWith-le}
+use Rattle.verdict.proofs.{StringSums.{smallest-start, smallest-at, smallest-end}, limits.smallest_d.Statement.statement}
 use Rattle.verdict.proofs.limits.smallest_d.Tie as tie
 
 abbrev Inv-loop : tie.InvT-loop
@@ -24,9 +17,6 @@ Inv-loop n strings least₀ i₀ least i =
 abbrev μ-loop : tie.MeasureT-loop
 μ-loop n strings least₀ i₀ least i = n - i
 
-array-copy-out-first : tie.Need-array-copy-out-first Inv-loop μ-loop
-array-copy-out-first c = omega arith
-
 loop-holds : tie.Need-loop-holds Inv-loop μ-loop
 loop-holds c =
     let start = c .before .before in
@@ -35,21 +25,6 @@ loop-holds c =
     let whole = smallest-start p (start .pre) d in
     let bound = smallestWith-le d (d (getD (p .strings) 0 noString)) (drop 1 (stringsOf p)) in
     (omega arith, start .pre .lawful .nPos, omega arith, omega (arith, whole, bound))
-
-mul-s : tie.Need-mul-s Inv-loop μ-loop
-mul-s c = omega (arith, c .before .before .before .before .pre .lawful .nMax)
-
-array-copy-out-s : tie.Need-array-copy-out-s Inv-loop μ-loop
-array-copy-out-s c = omega (arith, c .before .before .before .before .pre .lawful .nMax)
-
-smaller-requires : tie.Need-smaller-requires Inv-loop μ-loop
-smaller-requires c κs = search needs
-
-add-i : tie.Need-add-i Inv-loop μ-loop
-add-i c = omega arith
-
-loop-less : tie.Need-loop-less Inv-loop μ-loop
-loop-less c = omega arith
 
 loop-again : tie.Need-loop-again Inv-loop μ-loop
 loop-again c =
@@ -70,16 +45,8 @@ returns c =
 
 pub smallest-d-spec : {M : Type 1} → statement M
 smallest-d-spec =
-    tie.close
-    (tie.spec
-    Inv-loop
-    μ-loop
-    array-copy-out-first
-    loop-holds
-    mul-s
-    array-copy-out-s
-    smaller-requires
-    add-i
-    loop-less
-    loop-again
-    returns)
+    tie.close (tie.spec
+    Inv-loop μ-loop (λ c. omega arith) loop-holds
+    (λ c. omega (arith, c .before .before .before .before .pre .lawful .nMax))
+    (λ c. omega (arith, c .before .before .before .before .pre .lawful .nMax)) (λ c κs. search needs) (λ c. omega arith)
+    (λ c. omega arith) loop-again returns)

@@ -1,17 +1,9 @@
 -- `verdict::pairs::judged` meets its contract: overload decides first, then the pairs.
-use mathlib.Core.Path.{sym, _∙_}
-use native.Mathlib.Omega.{arith}
-use borrow.Author.Needs.{needs}
-use borrow.Author.Tests.{lt-ltb, le-ltb}
-use Rattle.rules.specs.Plan.{multipleOf}
-use Rattle.rules.specs.Demand.{load, overloaded}
-use Rattle.rules.specs.Verdict.{allPairs}
-use Rattle.horizon.proofs.Pairs.{verdictOver-overload, verdictOver-scan}
+use Rattle.base.proofs.Prelude.{sym, _∙_, arith, needs, lt-ltb, le-ltb}
+use Rattle.rules.specs.{Plan.multipleOf, Demand.{load, overloaded}, Verdict.allPairs}
+use Rattle.demand.proofs.Pairs.{verdictOver-overload, verdictOver-scan}
 use Rattle.verdict.proofs.pairs.judged.Statement.{statement}
 use Rattle.verdict.proofs.pairs.judged.Tie as tie
-
-load-over-requires : tie.Need-load-over-requires
-load-over-requires c κs = search needs
 
 returns : tie.Need-returns
 unfolding overloaded
@@ -19,9 +11,6 @@ returns c =
     let start = c .before .before in
     let p = start .args .p in
     sym (verdictOver-overload p (allPairs p) (lt-ltb (multipleOf p) (load p) (omega (arith, start .pre .1, c .before .load-over .ensures))))
-
-scan-requires : tie.Need-scan-requires
-scan-requires c κs = search needs
 
 returns-2 : tie.Need-returns-2
 unfolding overloaded
@@ -32,4 +21,4 @@ returns-2 c =
     c .scan .ensures ∙ sym (verdictOver-scan p (allPairs p) light)
 
 pub judged-spec : {M : Type 1} → statement M
-judged-spec = tie.close (tie.spec load-over-requires returns scan-requires returns-2)
+judged-spec = tie.close (tie.spec (λ c κs. search needs) returns (λ c κs. search needs) returns-2)

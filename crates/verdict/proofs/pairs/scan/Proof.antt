@@ -1,21 +1,11 @@
 -- `verdict::pairs::scan` meets its contract: a walk over the pairs that are left, with the count of
 -- those before them, finds what a walk over all finds.
-use Prim.Native.Nat.{ℕ, _+_, _-_, _*_, _%_, _≤_, _<_}
-use mathlib.Core.Path.{_≡_, sym, ap, _∙_}
-use mathlib.Core.List.{_++_}
-use native.Mathlib.Omega.{arith}
-use borrow.Author.Needs.{needs}
-use lib.ListN.{length, getD, length-set, length-replicate}
-use Rattle.rules.specs.Plan.{multipleOf, dMax}
-use Rattle.rules.specs.Verdict.{allPairs}
+use Rattle.base.proofs.Prelude.{ℕ, _+_, _-_, _*_, _%_, _≤_, _<_, _≡_, sym, ap, _∙_, _++_, arith, needs, length, getD, length-set, length-replicate}
+use Rattle.rules.specs.{Plan.{multipleOf, dMax}, Verdict.allPairs, declared.Verdict.the-variants.Fail, Demand.demand}
 use Rattle.days.specs.Days.{days}
-use Rattle.rules.specs.declared.Verdict.the-variants.{Fail}
-use Rattle.rules.specs.Demand.{demand}
 use Rattle.laws.proofs.Lawful.{LawfulPlan, dMax-le}
-use Rattle.horizon.proofs.Pairs.{rowFrom, rows, scanFrom, allPairs-rows, scan-row, scan-good, scan-bad, scan-row-end, scan-end}
-use Rattle.verdict.proofs.Asked.{askedBy-le}
-use Rattle.verdict.proofs.Rows.{Latest, Row, latest-start, latest-next, row-short, row-within, row-limit, row-past, row-takers, row-demand}
-use Rattle.verdict.proofs.pairs.scan.Statement.{statement}
+use Rattle.demand.proofs.Pairs.{rowFrom, rows, scanFrom, allPairs-rows, scan-row, scan-good, scan-bad, scan-row-end, scan-end}
+use Rattle.verdict.proofs.{Asked.askedBy-le, Rows.{Latest, Row, latest-start, latest-next, row-short, row-within, row-limit, row-past, row-takers, row-demand}, pairs.scan.Statement.statement}
 use Rattle.verdict.proofs.pairs.scan.Tie as tie
 
 abbrev Inv-loop : tie.InvT-loop
@@ -40,15 +30,6 @@ Inv-pairs p h first last end takers₀ pairs₀ l₀ takers pairs l =
 
 abbrev μ-pairs : tie.MeasureT-pairs
 μ-pairs p h first last end takers₀ pairs₀ l₀ takers pairs l = end - l
-
-smallest-d-requires : tie.Need-smallest-d-requires Inv-loop μ-loop Inv-pairs μ-pairs
-smallest-d-requires c κs = c .pre .0
-
-none-known-requires : tie.Need-none-known-requires Inv-loop μ-loop Inv-pairs μ-pairs
-none-known-requires c κs = search needs
-
-largest-d-requires : tie.Need-largest-d-requires Inv-loop μ-loop Inv-pairs μ-pairs
-largest-d-requires c κs = c .before .pre .0
 
 add-end : tie.Need-add-end Inv-loop μ-loop Inv-pairs μ-pairs
 add-end c =
@@ -82,18 +63,6 @@ limit-requires : tie.Need-limit-requires Inv-loop μ-loop Inv-pairs μ-pairs
 limit-requires c κs =
     let last = c .before .before .before in
     (last .before .before .pre .0, (last .before .smallest-d .ensures, last .largest-d .ensures))
-
-work-within-requires : tie.Need-work-within-requires Inv-loop μ-loop Inv-pairs μ-pairs
-work-within-requires c κs = (c .before .before .before .before .before .before .pre .0, omega arith)
-
-cast-at : tie.Need-cast-at Inv-loop μ-loop Inv-pairs μ-pairs
-cast-at c = omega arith
-
-mul-takers : tie.Need-mul-takers Inv-loop μ-loop Inv-pairs μ-pairs
-mul-takers c = omega arith
-
-array-write-takers : tie.Need-array-write-takers Inv-loop μ-loop Inv-pairs μ-pairs
-array-write-takers c = omega arith
 
 loop-holds : tie.Need-loop-holds Inv-loop μ-loop Inv-pairs μ-pairs
 loop-holds c =
@@ -130,21 +99,6 @@ kept-small c =
     let l = c .before .before .before .before .before .pairs .l in
     omega (arith, c .before .before .work-within .ensures .0, askedBy-le _ 0 l (lawful c) (omega arith))
 
-sub-back : tie.Need-sub-back Inv-loop μ-loop Inv-pairs μ-pairs
-sub-back c = within c
-
-cast-back : tie.Need-cast-back Inv-loop μ-loop Inv-pairs μ-pairs
-cast-back c = omega arith
-
-add-demand : tie.Need-add-demand Inv-loop μ-loop Inv-pairs μ-pairs
-add-demand c = omega (arith, short c, kept-small c)
-
-mul-demand : tie.Need-mul-demand Inv-loop μ-loop Inv-pairs μ-pairs
-mul-demand c = omega arith
-
-array-read-demand : tie.Need-array-read-demand Inv-loop μ-loop Inv-pairs μ-pairs
-array-read-demand c = omega arith
-
 add-demand-2 : tie.Need-add-demand-2 Inv-loop μ-loop Inv-pairs μ-pairs
 add-demand-2 c =
     let l = c .before .before .before .before .before .pairs .l in
@@ -152,15 +106,6 @@ add-demand-2 c =
     let took = row-takers _ _ _ _ _ (lawful c) (c .before .loop .inv .0) b (c .loop-test .taken) in
     let small = askedBy-le _ 1 (l - b) (lawful c) (omega arith) in
     omega (arith, short c, kept-small c, took, small)
-
-add-pairs : tie.Need-add-pairs Inv-loop μ-loop Inv-pairs μ-pairs
-add-pairs c = omega (arith, short c)
-
-add-b : tie.Need-add-b Inv-loop μ-loop Inv-pairs μ-pairs
-add-b c = omega (arith, short (c .before))
-
-loop-less : tie.Need-loop-less Inv-loop μ-loop Inv-pairs μ-pairs
-loop-less c = omega arith
 
 loop-again : tie.Need-loop-again Inv-loop μ-loop Inv-pairs μ-pairs
 loop-again c =
@@ -173,12 +118,6 @@ loop-again c =
     let held = row-limit _ _ _ _ _ (lawful turn) (inv .0) b (turn .loop-test .taken) in
     let good : demand p (at .pairs .l) b ≤ at .pairs .l = omega (arith, sum) in
     (inv .0, omega arith, omega arith, sym (scan-good p (turn .before .loop .pairs) (at .pairs .l) b _ held good) ∙ inv .3)
-
-add-l : tie.Need-add-l Inv-loop μ-loop Inv-pairs μ-pairs
-add-l c = omega arith
-
-pairs-less : tie.Need-pairs-less Inv-loop μ-loop Inv-pairs μ-pairs
-pairs-less c = omega arith
 
 pairs-again : tie.Need-pairs-again Inv-loop μ-loop Inv-pairs μ-pairs
 pairs-again c =
@@ -220,35 +159,10 @@ returns-2 c =
 
 pub scan-spec : {M : Type 1} → statement M
 scan-spec =
-    tie.close
-    (tie.spec
-    Inv-loop
-    μ-loop
-    Inv-pairs
-    μ-pairs
-    smallest-d-requires
-    largest-d-requires
-    add-end
-    none-known-requires
-    pairs-holds
-    limit-requires
-    work-within-requires
-    cast-at
-    mul-takers
-    array-write-takers
-    loop-holds
-    sub-back
-    cast-back
-    add-demand
-    mul-demand
-    array-read-demand
-    add-demand-2
-    add-pairs
-    add-b
-    loop-less
-    loop-again
-    add-l
-    pairs-less
-    pairs-again
-    returns
-    returns-2)
+    tie.close (tie.spec
+    Inv-loop μ-loop Inv-pairs μ-pairs (λ c κs. c .pre .0) (λ c κs. c .before .pre .0) add-end (λ c κs. search needs)
+    pairs-holds limit-requires (λ c κs. (c .before .before .before .before .before .before .pre .0, omega arith))
+    (λ c. omega arith) (λ c. omega arith) (λ c. omega arith) loop-holds (λ c. within c) (λ c. omega arith)
+    (λ c. omega (arith, short c, kept-small c)) (λ c. omega arith) (λ c. omega arith) add-demand-2
+    (λ c. omega (arith, short c)) (λ c. omega (arith, short (c .before))) (λ c. omega arith) loop-again
+    (λ c. omega arith) (λ c. omega arith) pairs-again returns returns-2)

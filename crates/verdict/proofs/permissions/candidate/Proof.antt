@@ -1,20 +1,10 @@
 -- `verdict::permissions::candidate` meets its contract: the count of ones decides first, then the verdict with that set.
-use mathlib.Core.Path.{sym, ap, _∙_, subst}
-use mathlib.Core.Bool.{_&&_}
-use borrow.Author.Needs.{needs}
-use borrow.Author.Tests.{eq-eqb, ne-eqb}
-use lib.Count.{ones}
-use Rattle.rules.specs.Plan.{multipleOf}
-use Rattle.rules.specs.Verdict.{verdictOf, isPass}
-use Rattle.rules.specs.Search.{setPasses}
-use Rattle.horizon.proofs.Sets.{withSet-multiple}
-use Rattle.verdict.specs.Asked.{Ready}
-use Rattle.verdict.proofs.Permit.{ready-with}
-use Rattle.verdict.proofs.permissions.candidate.Statement.{statement}
+use Rattle.base.proofs.Prelude.{sym, ap, _∙_, subst, _&&_, needs, eq-eqb, ne-eqb, ones}
+use Rattle.rules.specs.{Plan.multipleOf, Verdict.{verdictOf, isPass}, Search.setPasses}
+use Rattle.demand.proofs.Sets.{withSet-multiple}
+use Rattle.verdict.specs.inner.Asked.{Ready}
+use Rattle.verdict.proofs.{Permit.ready-with, permissions.candidate.Statement.statement}
 use Rattle.verdict.proofs.permissions.candidate.Tie as tie
-
-with-set-requires : tie.Need-with-set-requires
-with-set-requires c κs = search needs
 
 passes-requires : tie.Need-passes-requires
 passes-requires c κs =
@@ -38,4 +28,4 @@ returns-2 c =
     sym (ap (λ t. t && setPasses (start .args .p) (start .args .set)) (ne-eqb (ones (start .args .set)) (start .args .ones) (c .if1 .left)))
 
 pub candidate-spec : {M : Type 1} → statement M
-candidate-spec = tie.close (tie.spec with-set-requires passes-requires returns returns-2)
+candidate-spec = tie.close (tie.spec (λ c κs. search needs) passes-requires returns returns-2)

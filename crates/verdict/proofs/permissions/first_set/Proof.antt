@@ -1,18 +1,9 @@
 -- `verdict::permissions::first_set` meets its contract: the first passing set of those that are left is the first of all.
-use Prim.Native.Nat.{ℕ, _+_, _-_, _^_, _≤_, _<_}
-use mathlib.Core.Path.{_≡_, sym, _∙_}
-use mathlib.Core.Bool.{false, _&&_}
-use mathlib.Core.List.{List, _++_}
-use native.Mathlib.Omega.{arith}
-use borrow.Author.Tests.{eqb-true, eqb-false}
-use lib.Count.{ones}
-use lib.Dec.{eqb}
-use Rattle.rules.specs.declared.Plan.{Plan}
-use Rattle.rules.specs.Search.{setPasses, firstPassing, searchOf}
-use Rattle.lists.proofs.Lists.{by-bool, and-left, and-right}
+use Rattle.base.proofs.Prelude.{ℕ, _+_, _-_, _^_, _≤_, _<_, _≡_, sym, _∙_, false, _&&_, List, _++_, arith, eqb-true, eqb-false, ones, eqb}
+use Rattle.rules.specs.{declared.Plan.Plan, Search.{setPasses, firstPassing, searchOf}}
+use Rattle.base.proofs.Lists.{by-bool, and-left, and-right}
 use Rattle.laws.proofs.Powers.{sets-small, shift-is-sets}
-use Rattle.sets.proofs.Search.{nobody-of-none}
-use Rattle.sets.proofs.SetWalk.{setsFrom, setRows, searchOf-rows, walk-row, walk-other, walk-fails, walk-found, walk-row-end, walk-end}
+use Rattle.demand.proofs.{Search.nobody-of-none, SetWalk.{setsFrom, setRows, searchOf-rows, walk-row, walk-other, walk-fails, walk-found, walk-row-end, walk-end}}
 use Rattle.verdict.proofs.permissions.first_set.Statement.{statement}
 use Rattle.verdict.proofs.permissions.first_set.Tie as tie
 
@@ -39,22 +30,10 @@ Inv-sets p h n most end ones₀ ones = (ones ≤ n + 1) × (n ≤ 10) × (end �
 abbrev μ-sets : tie.MeasureT-sets
 μ-sets p h n most end ones₀ ones = n + 1 - ones
 
-cast-most : tie.Need-cast-most Inv-loop μ-loop Inv-sets μ-sets
-cast-most c = omega (arith, c .pre .0 .lawful .nMax)
-
-cast-end : tie.Need-cast-end Inv-loop μ-loop Inv-sets μ-sets
-cast-end c = omega (arith, c .pre .0 .lawful .nMax)
-
-shl-end : tie.Need-shl-end Inv-loop μ-loop Inv-sets μ-sets
-shl-end c = omega (arith, c .pre .0 .lawful .nMax)
-
 sets-holds : tie.Need-sets-holds Inv-loop μ-loop Inv-sets μ-sets
 sets-holds c =
     let few = c .pre .0 .lawful .nMax in
     (omega arith, few, shift-is-sets (c .args .p .n) few, sym (searchOf-rows (c .args .p)))
-
-too-much-work-requires : tie.Need-too-much-work-requires Inv-loop μ-loop Inv-sets μ-sets
-too-much-work-requires c κs = c .before .before .before .pre
 
 loop-holds : tie.Need-loop-holds Inv-loop μ-loop Inv-sets μ-sets
 loop-holds c =
@@ -62,16 +41,10 @@ loop-holds c =
     let p = at .before .args .p in
     (omega arith, sym (walk-row p (p .n) (at .sets .ones) 0 (omega arith)) ∙ at .sets .inv .3)
 
-candidate-requires : tie.Need-candidate-requires Inv-loop μ-loop Inv-sets μ-sets
-candidate-requires c κs = c .before .before .before .before .before .pre
-
 add-set : tie.Need-add-set Inv-loop μ-loop Inv-sets μ-sets
 add-set c =
     let at = c .before .before .before .before .before .before in
     omega (arith, at .sets .inv .2, sets-small (at .before .args .p .n) (at .sets .inv .1))
-
-loop-less : tie.Need-loop-less Inv-loop μ-loop Inv-sets μ-sets
-loop-less c = omega arith
 
 loop-again : tie.Need-loop-again Inv-loop μ-loop Inv-sets μ-sets
 loop-again c =
@@ -81,12 +54,6 @@ loop-again c =
     let loop = c .before .before .before .loop in
     let below : loop .set < 2 ^ p .n = omega (arith, at .sets .inv .2) in
     (omega arith, sym (passed p (p .n) k (loop .set) _ below (sym (c .before .candidate .ensures) ∙ c .if4 .left)) ∙ loop .inv .1)
-
-add-ones : tie.Need-add-ones Inv-loop μ-loop Inv-sets μ-sets
-add-ones c = omega arith
-
-sets-less : tie.Need-sets-less Inv-loop μ-loop Inv-sets μ-sets
-sets-less c = omega arith
 
 sets-again : tie.Need-sets-again Inv-loop μ-loop Inv-sets μ-sets
 sets-again c =
@@ -122,25 +89,8 @@ returns-3 c =
 
 pub first-set-spec : {M : Type 1} → statement M
 first-set-spec =
-    tie.close
-    (tie.spec
-    Inv-loop
-    μ-loop
-    Inv-sets
-    μ-sets
-    cast-most
-    cast-end
-    shl-end
-    sets-holds
-    too-much-work-requires
-    loop-holds
-    candidate-requires
-    add-set
-    loop-less
-    loop-again
-    add-ones
-    sets-less
-    sets-again
-    returns
-    returns-2
-    returns-3)
+    tie.close (tie.spec
+    Inv-loop μ-loop Inv-sets μ-sets (λ c. omega (arith, c .pre .0 .lawful .nMax))
+    (λ c. omega (arith, c .pre .0 .lawful .nMax)) (λ c. omega (arith, c .pre .0 .lawful .nMax)) sets-holds
+    (λ c κs. c .before .before .before .pre) loop-holds (λ c κs. c .before .before .before .before .before .pre) add-set
+    (λ c. omega arith) loop-again (λ c. omega arith) (λ c. omega arith) sets-again returns returns-2 returns-3)

@@ -1,17 +1,10 @@
 -- `verdict::permissions::too_much_work` meets its contract: work that breaks the rule alone breaks it with any set.
-use Prim.Native.Nat.{_+_, _-_, _≤_}
-use mathlib.Core.Path.{_≡_, sym, ap, _∙_, subst}
-use native.Mathlib.Omega.{arith}
+use Rattle.base.proofs.Prelude.{_+_, _-_, _≤_, _≡_, sym, ap, _∙_, subst, arith}
 use Rattle.rules.specs.Search.{withSet}
-use Rattle.lists.proofs.Lists.{true-not-false}
-use Rattle.horizon.proofs.Sets.{withSet-lawful}
-use Rattle.horizon.proofs.Alone.{work-alone-breaks}
-use Rattle.verdict.specs.Asked.{Ready, askedBy}
-use Rattle.verdict.specs.Steps.{Due}
-use Rattle.verdict.proofs.Asked.{askedBy-le, askedBy-none, demand-parts}
-use Rattle.verdict.proofs.Permit.{ready-with}
-use Rattle.verdict.proofs.Onward.{Onto, onto-soonest}
-use Rattle.verdict.proofs.permissions.too_much_work.Statement.{statement}
+use Rattle.base.proofs.Lists.{true-not-false}
+use Rattle.demand.proofs.{Sets.withSet-lawful, Alone.work-alone-breaks}
+use Rattle.verdict.specs.{inner.Asked.{Ready, askedBy}, inner.Steps.Due}
+use Rattle.verdict.proofs.{Asked.{askedBy-le, askedBy-none, demand-parts}, Permit.ready-with, Onward.{Onto, onto-soonest}, permissions.too_much_work.Statement.statement}
 use Rattle.verdict.proofs.permissions.too_much_work.Tie as tie
 
 abbrev Inv-loop : tie.InvT-loop
@@ -33,15 +26,6 @@ at c = turn c .before
 
 ready : (c : tie.After-with-set Inv-loop μ-loop) → Ready (c .with-set .result)
 ready c = subst Ready (sym (c .with-set .ensures)) (ready-with (c .before .args .p) 0 (c .before .pre .0))
-
-with-set-requires : tie.Need-with-set-requires Inv-loop μ-loop
-with-set-requires c κs = c .pre .0
-
-parts-of-requires : tie.Need-parts-of-requires Inv-loop μ-loop
-parts-of-requires c κs = ready c
-
-steps-after-requires : tie.Need-steps-after-requires Inv-loop μ-loop
-steps-after-requires c κs = (ready (c .before .before .before .before), omega arith)
 
 add-end : tie.Need-add-end Inv-loop μ-loop
 add-end c =
@@ -101,9 +85,6 @@ onto :
 onto c =
     onto-soonest _ (ready (alone (at c))) _ _ _ _ (turn c .loop-test .taken) (c .advance .ensures .1 .1 .1) (c .advance .ensures .0)
 
-loop-less : tie.Need-loop-less Inv-loop μ-loop
-loop-less c = omega (arith, onto (c .before .before) .past, onto (c .before .before) .within)
-
 loop-again : tie.Need-loop-again Inv-loop μ-loop
 loop-again c =
     let step = c .before .before in (
@@ -113,23 +94,10 @@ loop-again c =
       sum step ∙ sym (onto step .asked 0),
     )
 
-returns-2 : tie.Need-returns-2 Inv-loop μ-loop
-returns-2 c t = absurd (true-not-false (sym t))
-
 pub too-much-work-spec : {M : Type 1} → statement M
 too-much-work-spec =
-    tie.close
-    (tie.spec
-    Inv-loop
-    μ-loop
-    with-set-requires
-    parts-of-requires
-    steps-after-requires
-    add-end
-    loop-holds
-    advance-requires
-    add-keepers
-    returns
-    loop-less
-    loop-again
-    returns-2)
+    tie.close (tie.spec
+    Inv-loop μ-loop (λ c κs. c .pre .0) (λ c κs. ready c)
+    (λ c κs. (ready (c .before .before .before .before), omega arith)) add-end loop-holds advance-requires add-keepers
+    returns (λ c. omega (arith, onto (c .before .before) .past, onto (c .before .before) .within)) loop-again
+    (λ c t. absurd (true-not-false (sym t))))

@@ -1,14 +1,8 @@
 -- `verdict::permissions::with_set` meets its contract: the strings done, with those left as what is left
 -- of the number permits them, are the whole.
-use Prim.Native.Nat.{_-_, _≤_}
-use mathlib.Core.Path.{_≡_, refl, sym, ap, _∙_}
-use mathlib.Core.List.{_++_}
-use native.Mathlib.Omega.{arith}
-use borrow.Author.Needs.{needs}
-use lib.ListN.{length, take, drop, length-set}
+use Rattle.base.proofs.Prelude.{_-_, _≤_, _≡_, refl, sym, ap, _∙_, _++_, arith, needs, length, take, drop, length-set}
 use Rattle.rules.specs.Search.{permit, withSet}
-use Rattle.verdict.proofs.Permit.{left-next, done-next, done-all}
-use Rattle.verdict.proofs.permissions.with_set.Statement.{statement}
+use Rattle.verdict.proofs.{Permit.{unpermitted-next, permitted-next, done-all}, permissions.with_set.Statement.statement}
 use Rattle.verdict.proofs.permissions.with_set.Tie as tie
 
 abbrev Inv-loop : tie.InvT-loop
@@ -21,30 +15,6 @@ Inv-loop set n run strings₀ rest₀ i₀ strings rest i =
 abbrev μ-loop : tie.MeasureT-loop
 μ-loop set n run strings₀ rest₀ i₀ strings rest i = 10 - i
 
-loop-holds : tie.Need-loop-holds Inv-loop μ-loop
-loop-holds c = (omega arith, c .before .before .pre .ten, refl, refl)
-
-mul-s : tie.Need-mul-s Inv-loop μ-loop
-mul-s c = omega arith
-
-array-copy-out-s : tie.Need-array-copy-out-s Inv-loop μ-loop
-array-copy-out-s c = omega arith
-
-permitted-requires : tie.Need-permitted-requires Inv-loop μ-loop
-permitted-requires c κs = search needs
-
-mul-strings : tie.Need-mul-strings Inv-loop μ-loop
-mul-strings c = omega arith
-
-array-set-from-strings : tie.Need-array-set-from-strings Inv-loop μ-loop
-array-set-from-strings c = omega arith
-
-add-i : tie.Need-add-i Inv-loop μ-loop
-add-i c = omega arith
-
-loop-less : tie.Need-loop-less Inv-loop μ-loop
-loop-less c = omega arith
-
 loop-again : tie.Need-loop-again Inv-loop μ-loop
 loop-again c =
     let at = c .before .before .before in
@@ -56,8 +26,8 @@ loop-again c =
     let ten = start .pre .ten in (
       omega arith,
       length-set now i (c .permitted .result) ∙ inv .1,
-      left-next all now i (c .permitted .result) (inv .2),
-      done-next all now (at .loop .rest) i (c .permitted .result) (omega (arith, inv .1)) (omega (arith, ten)) (inv .2)
+      unpermitted-next all now i (c .permitted .result) (inv .2),
+      permitted-next all now (at .loop .rest) i (c .permitted .result) (omega (arith, inv .1)) (omega (arith, ten)) (inv .2)
           (c .permitted .ensures)
           ∙ inv .3,
     )
@@ -76,17 +46,7 @@ returns c =
 
 pub with-set-spec : {M : Type 1} → statement M
 with-set-spec =
-    tie.close
-    (tie.spec
-    Inv-loop
-    μ-loop
-    loop-holds
-    mul-s
-    array-copy-out-s
-    permitted-requires
-    mul-strings
-    array-set-from-strings
-    add-i
-    loop-less
-    loop-again
+    tie.close (tie.spec
+    Inv-loop μ-loop (λ c. (omega arith, c .before .before .pre .ten, refl, refl)) (λ c. omega arith) (λ c. omega arith)
+    (λ c κs. search needs) (λ c. omega arith) (λ c. omega arith) (λ c. omega arith) (λ c. omega arith) loop-again
     returns)

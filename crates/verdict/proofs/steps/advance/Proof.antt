@@ -1,26 +1,12 @@
 -- `verdict::steps::advance` meets its contract: the strings done stand at l, those left at the interval before it; what is added up
 -- so far is what those done ask for more.
-use Prim.Native.Nat.{ℕ, _+_, _-_, _*_, _≤_, _<_, min}
-use mathlib.Core.Path.{_≡_, ap, _∙_}
-use mathlib.Core.Bool.{cond}
-use native.Mathlib.Omega.{arith}
-use borrow.Author.Needs.{needs}
-use lib.Dec.{eqb}
-use lib.ListN.{length, drop, getD, length-set}
-use lib.Seq.{getD-set-other}
-use Rattle.rules.specs.declared.BatteryString.{BatteryString}
-use Rattle.rules.specs.declared.Plan.{Plan}
-use Rattle.lists.specs.Count.{sumOf, smallestWith}
-use Rattle.rules.specs.Plan.{stringsOf, noString}
-use Rattle.lists.proofs.Lists.{smallestWith-le}
-use Rattle.lists.proofs.Filling.{below-set}
+use Rattle.base.proofs.Prelude.{ℕ, _+_, _-_, _*_, _≤_, _<_, min, _≡_, ap, _∙_, cond, arith, needs, eqb, length, drop, getD, length-set, getD-set-other}
+use Rattle.rules.specs.{declared.BatteryString.BatteryString, declared.Plan.Plan, Plan.{stringsOf, noString}}
+use Rattle.base.specs.Count.{sumOf, smallestWith}
+use Rattle.base.proofs.{Lists.smallestWith-le, Filling.below-set}
 use Rattle.laws.proofs.Lawful.{PlanString}
-use Rattle.verdict.specs.Asked.{askedOf, askedBy}
-use Rattle.verdict.specs.Steps.{stepAfter}
-use Rattle.verdict.proofs.Asked.{askedOf-le}
-use Rattle.verdict.proofs.Stepping.{step-soon, step-by, asked-by}
-use Rattle.verdict.proofs.StringSums.{string-at, sum-at, sum-end, smallest-at, smallest-end}
-use Rattle.verdict.proofs.steps.advance.Statement.{statement}
+use Rattle.verdict.specs.{inner.Asked.{askedOf, askedBy}, inner.Steps.stepAfter}
+use Rattle.verdict.proofs.{Asked.askedOf-le, Stepping.{step-soon, step-by, asked-by}, StringSums.{string-at, sum-at, sum-end, smallest-at, smallest-end}, steps.advance.Statement.statement}
 use Rattle.verdict.proofs.steps.advance.Tie as tie
 
 abbrev Inv-loop : tie.InvT-loop
@@ -56,12 +42,6 @@ loop-holds c = (
   omega (arith, smallestWith-le (stepAfter (c .args .l)) (c .args .end) (stringsOf (c .args .p))),
 )
 
-mul-due : tie.Need-mul-due Inv-loop μ-loop
-mul-due c = omega (arith, c .before .before .before .pre .0 .lawful .nMax)
-
-element-copy-out-due : tie.Need-element-copy-out-due Inv-loop μ-loop
-element-copy-out-due c = omega (arith, c .before .before .before .pre .0 .lawful .nMax)
-
 -- what is known at a turn: the plan, the interval, the string and its step
 abbrev plan : tie.Then1 Inv-loop μ-loop → Plan
 plan c = c .before .before .before .args .p
@@ -92,15 +72,6 @@ due-is c =
     let loop = c .before .before .loop in
     loop .inv .3 (loop .i) (omega arith) (c .if1 .taken)
 
-mul-more-at : tie.Need-mul-more-at Inv-loop μ-loop
-mul-more-at c = omega (arith, c .before .before .before .before .pre .0 .lawful .nMax)
-
-element-copy-out-more-at : tie.Need-element-copy-out-more-at Inv-loop μ-loop
-element-copy-out-more-at c = omega (arith, c .before .before .before .before .pre .0 .lawful .nMax)
-
-more-at-requires : tie.Need-more-at-requires Inv-loop μ-loop
-more-at-requires c κs = search needs
-
 -- what it asks for more, which is small
 kept :
     (c : tie.After-more-at Inv-loop μ-loop)
@@ -121,15 +92,6 @@ add-keepers c =
     let start = turn .before .before .before in
     let small = askedOf-le (plan turn) 0 (day turn) _ (of-plan turn) (start .pre .1 .1 .0) in
     omega (arith, kept c, small, start .pre .0 .lawful .nMax)
-
-mul-more-at-2 : tie.Need-mul-more-at-2 Inv-loop μ-loop
-mul-more-at-2 c = omega (arith, c .before .before .before .before .before .before .pre .0 .lawful .nMax)
-
-element-copy-out-more-at-2 : tie.Need-element-copy-out-more-at-2 Inv-loop μ-loop
-element-copy-out-more-at-2 c = omega (arith, c .before .before .before .before .before .before .pre .0 .lawful .nMax)
-
-more-at-requires-2 : tie.Need-more-at-requires-2 Inv-loop μ-loop
-more-at-requires-2 c κs = search needs
 
 took :
     (c : tie.After-more-at2 Inv-loop μ-loop)
@@ -180,21 +142,6 @@ later c =
 -- a place of the plan is one of ten
 inside : (c : tie.Then1 Inv-loop μ-loop) → c .before .before .loop .i < 10
 inside c = omega (arith, c .before .before .before .pre .0 .lawful .nMax)
-
-mul-next : tie.Need-mul-next Inv-loop μ-loop
-mul-next c = omega (arith, inside (step-turn c))
-
-element-write-next : tie.Need-element-write-next Inv-loop μ-loop
-element-write-next c = inside (step-turn c)
-
-smaller-requires : tie.Need-smaller-requires Inv-loop μ-loop
-smaller-requires c κs = search needs
-
-add-i : tie.Need-add-i Inv-loop μ-loop
-add-i c = omega (arith, inside (step-turn (c .before)))
-
-loop-less : tie.Need-loop-less Inv-loop μ-loop
-loop-less c = omega arith
 
 loop-again : tie.Need-loop-again Inv-loop μ-loop
 loop-again c =
@@ -258,28 +205,13 @@ returns c =
 
 pub advance-spec : {M : Type 1} → statement M
 advance-spec =
-    tie.close
-    (tie.spec
-    Inv-loop
-    μ-loop
-    loop-holds
-    mul-due
-    element-copy-out-due
-    mul-more-at
-    element-copy-out-more-at
-    more-at-requires
-    add-keepers
-    mul-more-at-2
-    element-copy-out-more-at-2
-    more-at-requires-2
-    add-takers
-    mul-step-from
-    element-copy-out-step-from
-    step-from-requires
-    mul-next
-    element-write-next
-    smaller-requires
-    add-i
-    loop-less
-    loop-again
-    returns)
+    tie.close (tie.spec
+    Inv-loop μ-loop loop-holds (λ c. omega (arith, c .before .before .before .pre .0 .lawful .nMax))
+    (λ c. omega (arith, c .before .before .before .pre .0 .lawful .nMax))
+    (λ c. omega (arith, c .before .before .before .before .pre .0 .lawful .nMax))
+    (λ c. omega (arith, c .before .before .before .before .pre .0 .lawful .nMax)) (λ c κs. search needs) add-keepers
+    (λ c. omega (arith, c .before .before .before .before .before .before .pre .0 .lawful .nMax))
+    (λ c. omega (arith, c .before .before .before .before .before .before .pre .0 .lawful .nMax)) (λ c κs. search needs)
+    add-takers mul-step-from element-copy-out-step-from step-from-requires (λ c. omega (arith, inside (step-turn c)))
+    (λ c. inside (step-turn c)) (λ c κs. search needs) (λ c. omega (arith, inside (step-turn (c .before))))
+    (λ c. omega arith) loop-again returns)

@@ -1,12 +1,7 @@
 -- `verdict::steps::job_of` meets its contract: the test of the definition is the code's.
-use mathlib.Core.Path.{sym, _∙_}
-use borrow.Author.Needs.{needs}
-use Rattle.verdict.proofs.Stepping.{jobOf-yes, jobOf-no}
-use Rattle.verdict.proofs.steps.job_of.Statement.{statement}
+use Rattle.base.proofs.Prelude.{sym, _∙_, needs}
+use Rattle.verdict.proofs.{Stepping.{jobOf-yes, jobOf-no}, steps.job_of.Statement.statement}
 use Rattle.verdict.proofs.steps.job_of.Tie as tie
-
-hold-requires : tie.Need-hold-requires
-hold-requires c κs = search needs
 
 returns : tie.Need-returns
 returns c =
@@ -19,4 +14,4 @@ returns-2 c =
     sym (jobOf-no (start .args .p) (start .args .x) (start .args .s) (c .if1 .left))
 
 pub job-of-spec : {M : Type 1} → statement M
-job-of-spec = tie.close (tie.spec hold-requires returns returns-2)
+job-of-spec = tie.close (tie.spec (λ c κs. search needs) returns returns-2)

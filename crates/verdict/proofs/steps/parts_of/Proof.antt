@@ -1,14 +1,10 @@
 -- `verdict::steps::parts_of` meets its contract: each string's part is put in its place.
-use Prim.Native.Nat.{ℕ, _-_, _≤_, _<_}
-use mathlib.Core.Path.{_≡_, refl, _∙_}
-use native.Mathlib.Omega.{arith}
-use lib.ListN.{length, getD, length-set}
+use Rattle.base.proofs.Prelude.{ℕ, _-_, _≤_, _<_, _≡_, refl, _∙_, arith, length, getD, length-set}
 use Rattle.rules.specs.Plan.{noString}
-use Rattle.lists.proofs.Filling.{below-set}
+use Rattle.base.proofs.Filling.{below-set}
 use Rattle.laws.proofs.Lawful.{PlanString}
-use Rattle.verdict.specs.Steps.{jobOf}
-use Rattle.verdict.proofs.StringSums.{string-at}
-use Rattle.verdict.proofs.steps.parts_of.Statement.{statement}
+use Rattle.verdict.specs.inner.Steps.{jobOf}
+use Rattle.verdict.proofs.{StringSums.string-at, steps.parts_of.Statement.statement}
 use Rattle.verdict.proofs.steps.parts_of.Tie as tie
 
 abbrev Inv-loop : tie.InvT-loop
@@ -28,18 +24,6 @@ loop-holds : tie.Need-loop-holds Inv-loop μ-loop
 loop-holds c =
     (omega arith, refl, refl, refl, (λ j h. absurd (omega arith)), (λ j h. absurd (omega arith)), (λ j h. absurd (omega arith)))
 
-mul-s : tie.Need-mul-s Inv-loop μ-loop
-mul-s c = omega (arith, c .before .before .before .pre .lawful .nMax)
-
-array-copy-out-s : tie.Need-array-copy-out-s Inv-loop μ-loop
-array-copy-out-s c = omega (arith, c .before .before .before .pre .lawful .nMax)
-
-mul-every : tie.Need-mul-every Inv-loop μ-loop
-mul-every c = omega (arith, c .before .before .before .before .pre .lawful .nMax)
-
-array-write-every : tie.Need-array-write-every Inv-loop μ-loop
-array-write-every c = omega (arith, c .before .before .before .before .pre .lawful .nMax)
-
 -- the string of this turn is one of the plan's
 string :
     (c : tie.After-s Inv-loop μ-loop)
@@ -48,30 +32,6 @@ string :
 string c =
     let start = c .before .before .before .before in
     string-at (start .args .p) (start .pre) (c .before .before .loop .i) (c .before .loop-test .taken)
-
-job-of-requires : tie.Need-job-of-requires Inv-loop μ-loop
-job-of-requires c κs = string c
-
-mul-keeps : tie.Need-mul-keeps Inv-loop μ-loop
-mul-keeps c = omega (arith, c .before .before .before .before .before .pre .lawful .nMax)
-
-array-write-keeps : tie.Need-array-write-keeps Inv-loop μ-loop
-array-write-keeps c = omega (arith, c .before .before .before .before .before .pre .lawful .nMax)
-
-job-of-requires-2 : tie.Need-job-of-requires-2 Inv-loop μ-loop
-job-of-requires-2 c κs = string (c .before)
-
-mul-takes : tie.Need-mul-takes Inv-loop μ-loop
-mul-takes c = omega (arith, c .before .before .before .before .before .before .pre .lawful .nMax)
-
-array-write-takes : tie.Need-array-write-takes Inv-loop μ-loop
-array-write-takes c = omega (arith, c .before .before .before .before .before .before .pre .lawful .nMax)
-
-add-i : tie.Need-add-i Inv-loop μ-loop
-add-i c = omega arith
-
-loop-less : tie.Need-loop-less Inv-loop μ-loop
-loop-less c = omega arith
 
 loop-again : tie.Need-loop-again Inv-loop μ-loop
 loop-again c =
@@ -103,22 +63,13 @@ returns c =
 
 pub parts-of-spec : {M : Type 1} → statement M
 parts-of-spec =
-    tie.close
-    (tie.spec
-    Inv-loop
-    μ-loop
-    loop-holds
-    mul-s
-    array-copy-out-s
-    mul-every
-    array-write-every
-    job-of-requires
-    mul-keeps
-    array-write-keeps
-    job-of-requires-2
-    mul-takes
-    array-write-takes
-    add-i
-    loop-less
-    loop-again
-    returns)
+    tie.close (tie.spec
+    Inv-loop μ-loop loop-holds (λ c. omega (arith, c .before .before .before .pre .lawful .nMax))
+    (λ c. omega (arith, c .before .before .before .pre .lawful .nMax))
+    (λ c. omega (arith, c .before .before .before .before .pre .lawful .nMax))
+    (λ c. omega (arith, c .before .before .before .before .pre .lawful .nMax)) (λ c κs. string c)
+    (λ c. omega (arith, c .before .before .before .before .before .pre .lawful .nMax))
+    (λ c. omega (arith, c .before .before .before .before .before .pre .lawful .nMax)) (λ c κs. string (c .before))
+    (λ c. omega (arith, c .before .before .before .before .before .before .pre .lawful .nMax))
+    (λ c. omega (arith, c .before .before .before .before .before .before .pre .lawful .nMax)) (λ c. omega arith)
+    (λ c. omega arith) loop-again returns)

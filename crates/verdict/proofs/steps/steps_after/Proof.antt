@@ -1,16 +1,10 @@
 -- `verdict::steps::steps_after` meets its contract: each string's step is put in its place.
-use Prim.Native.Nat.{ℕ, _+_, _-_, _*_, _≤_, _<_}
-use mathlib.Core.Path.{_≡_, ap, _∙_}
-use native.Mathlib.Omega.{arith}
-use lib.ListN.{length, getD, length-set}
-use Rattle.rules.specs.declared.BatteryString.{BatteryString}
-use Rattle.rules.specs.Plan.{noString}
-use Rattle.lists.proofs.Filling.{below-set}
+use Rattle.base.proofs.Prelude.{ℕ, _+_, _-_, _*_, _≤_, _<_, _≡_, ap, _∙_, arith, length, getD, length-set}
+use Rattle.rules.specs.{declared.BatteryString.BatteryString, Plan.noString}
+use Rattle.base.proofs.Filling.{below-set}
 use Rattle.laws.proofs.Lawful.{PlanString}
-use Rattle.verdict.specs.Steps.{stepAfter}
-use Rattle.verdict.proofs.Stepping.{step-soon}
-use Rattle.verdict.proofs.StringSums.{string-at}
-use Rattle.verdict.proofs.steps.steps_after.Statement.{statement}
+use Rattle.verdict.specs.inner.Steps.{stepAfter}
+use Rattle.verdict.proofs.{Stepping.step-soon, StringSums.string-at, steps.steps_after.Statement.statement}
 use Rattle.verdict.proofs.steps.steps_after.Tie as tie
 
 abbrev Inv-loop : tie.InvT-loop
@@ -22,15 +16,6 @@ Inv-loop l n strings next₀ i₀ next i =
 abbrev μ-loop : tie.MeasureT-loop
 μ-loop l n strings next₀ i₀ next i = n - i
 
-loop-holds : tie.Need-loop-holds Inv-loop μ-loop
-loop-holds c = (omega arith, omega arith, λ j h. absurd (omega arith))
-
-mul-s : tie.Need-mul-s Inv-loop μ-loop
-mul-s c = omega (arith, c .before .before .before .pre .0 .lawful .nMax)
-
-array-copy-out-s : tie.Need-array-copy-out-s Inv-loop μ-loop
-array-copy-out-s c = omega (arith, c .before .before .before .pre .0 .lawful .nMax)
-
 -- the string of a turn, which is one of the plan's
 abbrev string : tie.After-s Inv-loop μ-loop → BatteryString
 string c = getD (c .before .before .before .before .args .p .strings) (c .before .before .loop .i) noString
@@ -39,9 +24,6 @@ of-plan : (c : tie.After-s Inv-loop μ-loop) → PlanString (c .before .before .
 of-plan c =
     let start = c .before .before .before .before in
     string-at (start .args .p) (start .pre .0) (c .before .before .loop .i) (c .before .loop-test .taken)
-
-jobs-in-requires : tie.Need-jobs-in-requires Inv-loop μ-loop
-jobs-in-requires c κs = of-plan c .lawful
 
 -- what is put in its place is its step
 put :
@@ -60,18 +42,6 @@ add-next : tie.Need-add-next Inv-loop μ-loop
 add-next c =
     let start = c .before .before .before .before .before .before .before in
     omega (arith, put (c .before .before), step-soon _ (of-plan (c .before .before .before) .lawful) (start .args .l))
-
-mul-next-2 : tie.Need-mul-next-2 Inv-loop μ-loop
-mul-next-2 c = omega (arith, c .before .before .before .before .before .before .before .pre .0 .lawful .nMax)
-
-array-write-next : tie.Need-array-write-next Inv-loop μ-loop
-array-write-next c = omega (arith, c .before .before .before .before .before .before .before .pre .0 .lawful .nMax)
-
-add-i : tie.Need-add-i Inv-loop μ-loop
-add-i c = omega arith
-
-loop-less : tie.Need-loop-less Inv-loop μ-loop
-loop-less c = omega arith
 
 loop-again : tie.Need-loop-again Inv-loop μ-loop
 loop-again c =
@@ -93,19 +63,10 @@ returns c = record { size = c .before .loop .inv .1; each = λ i h. c .before .l
 
 pub steps-after-spec : {M : Type 1} → statement M
 steps-after-spec =
-    tie.close
-    (tie.spec
-    Inv-loop
-    μ-loop
-    loop-holds
-    mul-s
-    array-copy-out-s
-    jobs-in-requires
-    mul-next
-    add-next
-    mul-next-2
-    array-write-next
-    add-i
-    loop-less
-    loop-again
-    returns)
+    tie.close (tie.spec
+    Inv-loop μ-loop (λ c. (omega arith, omega arith, λ j h. absurd (omega arith)))
+    (λ c. omega (arith, c .before .before .before .pre .0 .lawful .nMax))
+    (λ c. omega (arith, c .before .before .before .pre .0 .lawful .nMax)) (λ c κs. of-plan c .lawful) mul-next add-next
+    (λ c. omega (arith, c .before .before .before .before .before .before .before .pre .0 .lawful .nMax))
+    (λ c. omega (arith, c .before .before .before .before .before .before .before .pre .0 .lawful .nMax))
+    (λ c. omega arith) (λ c. omega arith) loop-again returns)

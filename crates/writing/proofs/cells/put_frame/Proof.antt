@@ -1,15 +1,9 @@
 -- `put_frame` meets its contract. Invariant: the cells so far stand at the head of the part, and what stood behind them stays.
-use Prim.Native.Nat.{ℕ, _+_, _*_, _-_, _≤_, _<_}
-use mathlib.Core.Path.{_≡_, refl, sym, ap, _∙_, subst}
-use mathlib.Core.List.{List, [], _∷_, _++_, flatMap}
-use native.Mathlib.Omega.{arith}
-use lib.ListN.{length, take, drop, getD, length-drop, length-append}
-use borrow.Rule.Slice.PartMut.{putMid}
-use Rattle.writing.specs.declared.cells.Cell.{Cell}
-use Rattle.lists.specs.Count.{sumOf}
-use Rattle.writing.specs.Cells.{numberText, cellsSize, cellsText, Room}
-use Rattle.writing.proofs.Texts.{lent-part, lent-length, Stands, stands-none, stands-next, numberText-length, cellsText-length, cellsSize-step, cellsText-step, cellsSize-within}
-use Rattle.writing.proofs.cells.put_frame.Statement.{statement}
+use Rattle.base.proofs.Prelude.{ℕ, _+_, _*_, _-_, _≤_, _<_, _≡_, refl, sym, ap, _∙_, subst, List, [], _∷_, _++_, arith, length, take, drop, getD, length-drop, length-append, putMid}
+use mathlib.Core.List.{flatMap}
+use Rattle.writing.specs.{declared.cells.Cell.Cell, inner.Cells.{numberText, cellsSize, cellsText, Room}}
+use Rattle.base.specs.Count.{sumOf}
+use Rattle.writing.proofs.{Texts.{lent-part, lent-length, TextStands, stands-none, stands-next, numberText-length, cellsText-length, cellsSize-step, cellsText-step, cellsSize-within}, cells.put_frame.Statement.statement}
 use Rattle.writing.proofs.cells.put_frame.Tie as tie
 
 -- stands where there is no cell
@@ -17,9 +11,9 @@ abbrev noCell : Cell
 noCell = record { size = 0; value = 0 }
 
 -- the first i cells stand at the head of the part
-pub record Standing (before : List ℕ) (cells : List Cell) (part : List ℕ) (at i : ℕ) : Type 0 where
+record Standing (before : List ℕ) (cells : List Cell) (part : List ℕ) (at i : ℕ) : Type 0 where
   pub place : at ≡ cellsSize (take i cells)
-  pub text : Stands before (cellsText (take i cells)) part
+  pub text : TextStands before (cellsText (take i cells)) part
 
 -- there is room for the next cell and for the end
 next-room : (before part : List ℕ) (cells : List Cell) (at i count : ℕ) → Standing before cells part at i → i < count
@@ -59,7 +53,7 @@ next-stands before part next cells at i s h room got =
     record {
       place = ap (λ k. k + cell .size) (s .place) ∙ sym (cellsSize-step cells noCell i h);
       text =
-          subst (λ text. Stands before text (putMid (at * 2) (length part - at * 2) part next)) (sym (cellsText-step cells noCell i h))
+          subst (λ text. TextStands before text (putMid (at * 2) (length part - at * 2) part next)) (sym (cellsText-step cells noCell i h))
           (stands-next before (cellsText (take i cells)) (numberText (cell .size) (cell .value)) part next (at * 2) (cell .size * 2)
           (s .text) so-far
           (numberText-length (cell .size) (cell .value)) room got);
@@ -74,12 +68,6 @@ abbrev μ-loop : tie.MeasureT-loop
 loop-holds : tie.Need-loop-holds Inv-loop μ-loop
 unfolding cellsSize cellsText sumOf flatMap
 loop-holds c = (omega arith, record { place = refl; text = stands-none _ })
-
-mul-cell : tie.Need-mul-cell Inv-loop μ-loop
-mul-cell c = omega arith
-
-array-copy-out-cell : tie.Need-array-copy-out-cell Inv-loop μ-loop
-array-copy-out-cell c = omega arith
 
 mul-put-number : tie.Need-mul-put-number Inv-loop μ-loop
 mul-put-number c =
@@ -129,12 +117,6 @@ add-at c =
     let fits = next-room (s .args .part .now) (o .loop .part) (s .args .t2) (o .loop .at) (o .loop .i) (s .args .count) (o .loop .inv .1)
     (omega arith) (s .pre) in
     omega arith
-
-add-i : tie.Need-add-i Inv-loop μ-loop
-add-i c = omega arith
-
-loop-less : tie.Need-loop-less Inv-loop μ-loop
-loop-less c = omega arith
 
 loop-again : tie.Need-loop-again Inv-loop μ-loop
 loop-again c =
@@ -211,26 +193,7 @@ returns c =
 
 pub put-frame-spec : {M : Type 1} → statement M
 put-frame-spec =
-    tie.close
-    (tie.spec
-    Inv-loop
-    μ-loop
-    loop-holds
-    mul-cell
-    array-copy-out-cell
-    mul-put-number
-    sub-put-number
-    part-put-number-start
-    part-put-number-end
-    put-number-requires
-    add-at
-    add-i
-    loop-less
-    loop-again
-    mul-put-end
-    sub-put-end
-    part-put-end-start
-    part-put-end-end
-    put-end-requires
-    same-length
-    returns)
+    tie.close (tie.spec
+    Inv-loop μ-loop loop-holds (λ c. omega arith) (λ c. omega arith) mul-put-number sub-put-number part-put-number-start
+    part-put-number-end put-number-requires add-at (λ c. omega arith) (λ c. omega arith) loop-again mul-put-end
+    sub-put-end part-put-end-start part-put-end-end put-end-requires same-length returns)

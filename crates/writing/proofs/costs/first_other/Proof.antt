@@ -1,13 +1,7 @@
 -- `first_other` meets its contract. Invariant: the strings so far have the moving cost of the first.
-use Prim.Native.Nat.{ℕ, _+_, _-_, _≤_, _<_}
-use mathlib.Core.Path.{_≡_, sym, subst}
-use native.Mathlib.Omega.{arith}
-use native.Mathlib.Decide.{ℕ-discrete}
-use borrow.Author.Needs.{needs}
-use lib.ListN.{length, getD, length-map}
+use Rattle.base.proofs.Prelude.{ℕ, _+_, _-_, _≤_, _<_, _≡_, sym, subst, arith, ℕ-discrete, needs, length, getD, length-map}
 use Rattle.rules.specs.Plan.{noString}
-use Rattle.writing.proofs.FirstOther.{costAfter, other-here, other-none}
-use Rattle.writing.proofs.costs.first_other.Statement.{statement}
+use Rattle.writing.proofs.{FirstOther.{costAfter, other-here, other-none}, costs.first_other.Statement.statement}
 use Rattle.writing.proofs.costs.first_other.Tie as tie
 
 abbrev Inv-loop : tie.InvT-loop
@@ -17,34 +11,16 @@ Inv-loop n strings first i₀ i =
 abbrev μ-loop : tie.MeasureT-loop
 μ-loop n strings first i₀ i = n - i
 
-array-copy-out-first : tie.Need-array-copy-out-first Inv-loop μ-loop
-array-copy-out-first c = search needs
-
 loop-holds : tie.Need-loop-holds Inv-loop μ-loop
 loop-holds c =
     let s = c .before .before in
     (omega arith, s .pre .1, simp length-map at (s .good .0 .1 .1 .1 .1 .0 .1 .0 .1), λ j low. absurd (omega arith))
-
-mul-s : tie.Need-mul-s Inv-loop μ-loop
-mul-s c = omega arith
-
-array-copy-out-s : tie.Need-array-copy-out-s Inv-loop μ-loop
-array-copy-out-s c = omega arith
-
-add-result : tie.Need-add-result Inv-loop μ-loop
-add-result c = omega arith
 
 returns : tie.Need-returns Inv-loop μ-loop
 returns c =
     let at = c .before .before .before .before .before in
     let inside : at .loop .i < at .before .before .before .args .p .n = omega arith in
     sym (other-here (at .before .before .before .args .p) (at .loop .i) inside (c .if1 .taken) (at .loop .inv .3))
-
-add-i : tie.Need-add-i Inv-loop μ-loop
-add-i c = omega arith
-
-loop-less : tie.Need-loop-less Inv-loop μ-loop
-loop-less c = omega arith
 
 loop-again : tie.Need-loop-again Inv-loop μ-loop
 loop-again c =
@@ -60,9 +36,6 @@ loop-again c =
           ],
     )
 
-add-result-2 : tie.Need-add-result-2 Inv-loop μ-loop
-add-result-2 c = omega arith
-
 returns-2 : tie.Need-returns-2 Inv-loop μ-loop
 returns-2 c =
     let at = c .before in
@@ -70,18 +43,6 @@ returns-2 c =
 
 pub first-other-spec : {M : Type 1} → statement M
 first-other-spec =
-    tie.close
-    (tie.spec
-    Inv-loop
-    μ-loop
-    array-copy-out-first
-    loop-holds
-    mul-s
-    array-copy-out-s
-    add-result
-    returns
-    add-i
-    loop-less
-    loop-again
-    add-result-2
-    returns-2)
+    tie.close (tie.spec
+    Inv-loop μ-loop (λ c. search needs) loop-holds (λ c. omega arith) (λ c. omega arith) (λ c. omega arith) returns
+    (λ c. omega arith) (λ c. omega arith) loop-again (λ c. omega arith) returns-2)

@@ -1,29 +1,18 @@
 -- `digit` meets its contract: the test chooses the same letter or figure as the definition.
-use borrow.Author.Needs.{needs}
-use borrow.Author.Tests.{lt-ltb, le-ltb}
+use Rattle.base.proofs.Prelude.{needs, lt-ltb, le-ltb}
 use Rattle.writing.specs.Written.{digitText}
 use Rattle.writing.proofs.digits.digit.Statement.{statement}
 use Rattle.writing.proofs.digits.digit.Tie as tie
 
-add-result : tie.Need-add-result
-add-result c = search needs
-
-cast-result : tie.Need-cast-result
-cast-result c = search needs
-
 returns : tie.Need-returns
 unfolding digitText
 returns c = rw (lt-ltb _ _ (c .if1 .taken))
-
-add-result-2 : tie.Need-add-result-2
-add-result-2 c = search needs
-
-cast-result-2 : tie.Need-cast-result-2
-cast-result-2 c = search needs
 
 returns-2 : tie.Need-returns-2
 unfolding digitText
 returns-2 c = rw (le-ltb _ _ (c .if1 .left))
 
 pub digit-spec : {M : Type 1} → statement M
-digit-spec = tie.close (tie.spec add-result cast-result returns add-result-2 cast-result-2 returns-2)
+digit-spec =
+    tie.close (tie.spec
+    (λ c. search needs) (λ c. search needs) returns (λ c. search needs) (λ c. search needs) returns-2)

@@ -1,27 +1,8 @@
 -- `put_byte` meets its contract: the two digits stand where the first two bytes stood.
-use Prim.Native.Nat.{_/_, _%_}
-use mathlib.Core.Path.{_≡_}
-use native.Mathlib.Omega.{arith}
-use borrow.Author.Needs.{needs}
+use Rattle.base.proofs.Prelude.{_/_, _%_, _≡_, arith, needs}
 use Rattle.writing.specs.Written.{digitText, byteText}
-use Rattle.writing.proofs.Texts.{set-two}
-use Rattle.writing.proofs.digits.put_byte.Statement.{statement}
+use Rattle.writing.proofs.{Texts.set-two, digits.put_byte.Statement.statement}
 use Rattle.writing.proofs.digits.put_byte.Tie as tie
-
-digit-requires : tie.Need-digit-requires
-digit-requires c κs = search needs
-
-slice-write-part : tie.Need-slice-write-part
-slice-write-part c = search needs
-
-digit-requires-2 : tie.Need-digit-requires-2
-digit-requires-2 c κs = search needs
-
-slice-write-part-2 : tie.Need-slice-write-part-2
-slice-write-part-2 c = search needs
-
-same-length : tie.Need-same-length
-same-length c = search needs
 
 returns : tie.Need-returns
 unfolding byteText
@@ -33,11 +14,5 @@ returns c =
 
 pub put-byte-spec : {M : Type 1} → statement M
 put-byte-spec =
-    tie.close
-    (tie.spec
-    digit-requires
-    slice-write-part
-    digit-requires-2
-    slice-write-part-2
-    same-length
-    returns)
+    tie.close (tie.spec
+    (λ c κs. search needs) (λ c. search needs) (λ c κs. search needs) (λ c. search needs) (λ c. search needs) returns)

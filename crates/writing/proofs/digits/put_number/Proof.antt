@@ -1,15 +1,8 @@
 -- `put_number` meets its contract. Invariant: the digits of the bytes that are still to come, with what stands from their place on, are
 -- the whole.
-use Prim.Native.Nat.{suc, _≤_, _*_, _-_, _%_}
-use mathlib.Core.Path.{_≡_, refl, _∙_}
-use native.Mathlib.Nat.{mod-lt}
-use mathlib.Core.List.{_++_}
-use native.Mathlib.Omega.{arith}
-use lib.ListN.{length, drop, length-drop}
-use Rattle.writing.specs.Written.{byteText}
-use Rattle.writing.specs.Cells.{numberText}
-use Rattle.writing.proofs.Texts.{lent-part, lent-length, byteText-length, number-done, number-step}
-use Rattle.writing.proofs.digits.put_number.Statement.{statement}
+use Rattle.base.proofs.Prelude.{suc, _≤_, _*_, _-_, _%_, _≡_, refl, _∙_, mod-lt, _++_, arith, length, drop, length-drop}
+use Rattle.writing.specs.{Written.byteText, inner.Cells.numberText}
+use Rattle.writing.proofs.{Texts.{lent-part, lent-length, byteText-length, number-done, number-step}, digits.put_number.Statement.statement}
 use Rattle.writing.proofs.digits.put_number.Tie as tie
 
 abbrev Inv-loop : tie.InvT-loop
@@ -19,24 +12,6 @@ Inv-loop part₀ size n i₀ rest₀ part i rest =
 abbrev μ-loop : tie.MeasureT-loop
 μ-loop part₀ size n i₀ rest₀ part i rest = i
 
-loop-holds : tie.Need-loop-holds Inv-loop μ-loop
-loop-holds c = (omega arith, refl, refl)
-
-sub-i : tie.Need-sub-i Inv-loop μ-loop
-sub-i c = omega arith
-
-mul-put-byte : tie.Need-mul-put-byte Inv-loop μ-loop
-mul-put-byte c = omega arith
-
-sub-put-byte : tie.Need-sub-put-byte Inv-loop μ-loop
-sub-put-byte c = omega arith
-
-part-put-byte-start : tie.Need-part-put-byte-start Inv-loop μ-loop
-part-put-byte-start c = omega arith
-
-part-put-byte-end : tie.Need-part-put-byte-end Inv-loop μ-loop
-part-put-byte-end c = omega arith
-
 put-byte-requires : tie.Need-put-byte-requires Inv-loop μ-loop
 put-byte-requires c κs =
     let part = c .before .before .loop .part in
@@ -45,9 +20,6 @@ put-byte-requires c κs =
       omega
           (arith, mod-lt (c .before .before .loop .rest) {m = 256} (omega arith)),
     )
-
-loop-less : tie.Need-loop-less Inv-loop μ-loop
-loop-less c = omega arith
 
 loop-again : tie.Need-loop-again Inv-loop μ-loop
 unfolding byteText
@@ -68,26 +40,11 @@ loop-again c =
       same ∙ before ∙ at-loop .loop .inv .2,
     )
 
-same-length : tie.Need-same-length Inv-loop μ-loop
-same-length c = omega arith
-
 returns : tie.Need-returns Inv-loop μ-loop
 returns c = number-done (c .before .loop .i) (c .before .loop .rest) (c .before .loop .part) _ (omega arith) (c .before .loop .inv .2)
 
 pub put-number-spec : {M : Type 1} → statement M
 put-number-spec =
-    tie.close
-    (tie.spec
-    Inv-loop
-    μ-loop
-    loop-holds
-    sub-i
-    mul-put-byte
-    sub-put-byte
-    part-put-byte-start
-    part-put-byte-end
-    put-byte-requires
-    loop-less
-    loop-again
-    same-length
-    returns)
+    tie.close (tie.spec
+    Inv-loop μ-loop (λ c. (omega arith, refl, refl)) (λ c. omega arith) (λ c. omega arith) (λ c. omega arith)
+    (λ c. omega arith) (λ c. omega arith) put-byte-requires (λ c. omega arith) loop-again (λ c. omega arith) returns)

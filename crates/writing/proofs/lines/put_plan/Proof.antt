@@ -1,45 +1,21 @@
 -- `put_plan` meets its contract: the header's line, then the strings' lines in the next part, then the releases' lines in the part after
 -- that.
-use Prim.Native.Nat.{ℕ, _+_, _-_, _*_, _≤_}
-use mathlib.Core.Path.{_≡_, refl, sym, ap, _∙_}
-use mathlib.Core.List.{List, [], _∷_, _++_, flatMap}
-use native.Mathlib.Omega.{arith}
-use lib.ListN.{length, take, drop, length-append, length-drop}
-use lib.Seq.{length-take-le}
-use borrow.Rule.Slice.PartMut.{putMid}
-use borrow.Author.Needs.{needs}
-use Rattle.rules.specs.declared.Plan.{Plan}
-use Rattle.rules.specs.declared.Release.{Release}
-use Rattle.rules.specs.declared.Releases.{Releases}
-use Rattle.rules.specs.Plan.{stringsOf}
-use Rattle.rules.specs.Release.{releasesOf}
-use Rattle.rules.specs.Layout.{Layout, Frames, lineSize, version01, framesFor}
+use Rattle.base.proofs.Prelude.{ℕ, _+_, _-_, _*_, _≤_, _≡_, refl, sym, ap, _∙_, List, [], _∷_, _++_, flatMap, arith, length, take, drop, length-append, length-drop, length-take-le, putMid, needs}
+use Rattle.rules.specs.{declared.Plan.Plan, declared.Releases.Releases, Plan.stringsOf, Release.releasesOf, Layout.{Version, lineSize, headerFrame, stringFrame, releaseFrame}}
+use Rattle.layouts.specs.inner.Versions.{meantBy, Known}
+use Rattle.layouts.proofs.Versions.{header-line, header-line-short, string-line, string-line-short, ten-short, release-line}
+use Rattle.writing.specs.{declared.cells.Cell.Cell, Written.{headerText, headerSays, stringText, releaseText, planText}, inner.Cells.{cellsSize, cellsText, SaysFrame, PlanFits}}
+use Rattle.writing.proofs.{Texts.{lent-part, flatMap-length, TextStands, stands-first, stands-next}, Rows.{headerText-length, stringText-length, releaseText-length, line-put, line-room, strings-long, text-long}, lines.put_plan.Statement.statement}
 use Rattle.layouts.specs.declared.Version as code
-use Rattle.layouts.specs.Versions.{framesBy, Known}
-use Rattle.layouts.proofs.Versions.{by-version, same-release, header-line, string-line, string-line-short, header-line-short, ten-short}
-use Rattle.writing.specs.declared.cells.Cell.{Cell}
-use Rattle.writing.specs.Written.{headerText, headerSays, stringText, releaseText, planText}
-use Rattle.writing.specs.Cells.{cellsSize, cellsText, SaysFrame, PlanFits}
-use Rattle.writing.proofs.Texts.{lent-part, flatMap-length, Stands, stands-first, stands-next}
-use Rattle.writing.proofs.Rows.{headerText-length, stringText-length, releaseText-length, line-put, line-room, strings-long, text-long}
-use Rattle.writing.proofs.lines.put_plan.Statement.{statement}
 use Rattle.writing.proofs.lines.put_plan.Tie as tie
 
--- all versions write a release alike
-same-releases : (rs : List Release) (k : ℕ) → flatMap (releaseText version01) rs ≡ flatMap (releaseText (framesFor k)) rs
-unfolding releaseText
-same-releases rs k = by-version (λ v. flatMap (releaseText version01) rs ≡ flatMap (releaseText v) rs) refl refl k
-
-release-long : (k : ℕ) → lineSize (framesFor k .release) ≡ 17
-release-long k = ap (λ (l : Layout). lineSize l) (same-release k)
-
 module _ (version : code.Version) (known : Known version) (p : Plan) (rs : Releases) (before : List ℕ)
-    (fits : PlanFits (framesBy version) p rs (length before))
+    (fits : PlanFits (meantBy version) p rs (length before))
   where
     -- ---- The text by its lengths, as the code counts them
 
-    abbrev v : Frames
-    v = framesBy version
+    abbrev v : Version
+    v = meantBy version
 
     abbrev header : ℕ
     header = version .header .line
@@ -53,13 +29,13 @@ module _ (version : code.Version) (known : Known version) (p : Plan) (rs : Relea
     releases-many : length (releasesOf rs) ≡ rs .count
     releases-many = length-take-le (rs .count) (rs .list) (omega (arith, fits .releases .few, fits .releases .thousand))
 
-    strings-are : strings ≡ p .n * lineSize (v .string)
+    strings-are : strings ≡ p .n * lineSize (stringFrame v)
     strings-are = ap (λ k. p .n * k) (string-line version known)
 
-    releases-are : rs .count * 17 ≡ rs .count * lineSize (v .release)
-    releases-are = ap (λ k. rs .count * k) (sym (release-long (version .number)))
+    releases-are : rs .count * version .release .line ≡ rs .count * lineSize (releaseFrame v)
+    releases-are = ap (λ k. rs .count * k) (release-line version known)
 
-    room : header + strings + rs .count * 17 ≤ length before
+    room : header + strings + rs .count * version .release .line ≤ length before
     room =
         omega (
           arith,
@@ -77,44 +53,44 @@ module _ (version : code.Version) (known : Known version) (p : Plan) (rs : Relea
 
     -- ---- The header, the strings, the releases
 
-    header-stands : (cells : List Cell) (part : List ℕ) → SaysFrame cells 5 (v .header) (headerSays (v .version) p)
+    header-stands : (cells : List Cell) (part : List ℕ) → SaysFrame cells 5 (headerFrame v) (headerSays (v .number) p)
         → part ≡ (cellsText (take 5 cells) ++ (0x0a ∷ [])) ++ drop (cellsSize (take 5 cells) * 2 + 1) before
-        → Stands before (headerText v p) part
+        → TextStands before (headerText v p) part
     unfolding headerText
     header-stands cells part says got =
-        stands-first before (headerText v p) part (lineSize (v .header)) (headerText-length v p)
+        stands-first before (headerText v p) part (lineSize (headerFrame v)) (headerText-length v p)
         (omega (arith, room, header-line version known))
-        (line-put cells 5 (v .header) (headerSays (v .version) p) before part says got)
+        (line-put cells 5 (headerFrame v) (headerSays (v .number) p) before part says got)
 
-    strings-stand : (part next : List ℕ) → Stands before (headerText v p) part
+    strings-stand : (part next : List ℕ) → TextStands before (headerText v p) part
         → next ≡ flatMap (stringText v) (stringsOf p)
-        ++ drop (length (stringsOf p) * lineSize (v .string)) (take (length part - header) (drop header part))
-        → Stands before (headerText v p ++ flatMap (stringText v) (stringsOf p)) (putMid header (length part - header) part next)
+        ++ drop (length (stringsOf p) * lineSize (stringFrame v)) (take (length part - header) (drop header part))
+        → TextStands before (headerText v p ++ flatMap (stringText v) (stringsOf p)) (putMid header (length part - header) part next)
     strings-stand part next stands got =
-        let many = ap (λ n. n * lineSize (v .string)) strings-many in
+        let many = ap (λ n. n * lineSize (stringFrame v)) strings-many in
         stands-next before (headerText v p) (flatMap (stringText v) (stringsOf p)) part next header
-        (length (stringsOf p) * lineSize (v .string)) stands
+        (length (stringsOf p) * lineSize (stringFrame v)) stands
         (headerText-length v p ∙ sym (header-line version known))
-        (flatMap-length (stringText v) (lineSize (v .string)) (stringText-length v) (stringsOf p))
+        (flatMap-length (stringText v) (lineSize (stringFrame v)) (stringText-length v) (stringsOf p))
         (omega (arith, room, stands .size, strings-are)) got
 
-    releases-stand : (part next : List ℕ) → Stands before (headerText v p ++ flatMap (stringText v) (stringsOf p)) part
-        → next ≡ flatMap (releaseText version01) (releasesOf rs)
-        ++ drop (length (releasesOf rs) * 17) (take (length part - (header + strings)) (drop (header + strings) part))
-        → Stands before (planText v p (releasesOf rs)) (putMid (header + strings) (length part - (header + strings)) part next)
+    releases-stand : (part next : List ℕ) → TextStands before (headerText v p ++ flatMap (stringText v) (stringsOf p)) part
+        → next ≡ flatMap (releaseText v) (releasesOf rs)
+        ++ drop (length (releasesOf rs) * lineSize (releaseFrame v))
+        (take (length part - (header + strings)) (drop (header + strings) part))
+        → TextStands before (planText v p (releasesOf rs)) (putMid (header + strings) (length part - (header + strings)) part next)
     unfolding planText
     releases-stand part next stands got =
         let head = headerText v p in
         let lines = flatMap (stringText v) (stringsOf p) in
-        let releases = flatMap (releaseText version01) (releasesOf rs) in
-        let many = ap (λ n. n * 17) releases-many in
-        rw (sym (same-releases (releasesOf rs) (version .number)))
-        (stands-next before (head ++ lines) releases part next (header + strings) (length (releasesOf rs) * 17) stands
+        let many = ap (λ n. n * lineSize (releaseFrame v)) releases-many in
+        stands-next before (head ++ lines) (flatMap (releaseText v) (releasesOf rs)) part next (header + strings)
+        (length (releasesOf rs) * lineSize (releaseFrame v)) stands
         (length-append head lines
         ∙ omega
         (arith, headerText-length v p, header-line version known, strings-long v p rs strings-many releases-many, strings-are))
-        (flatMap-length (releaseText version01) 17 (releaseText-length version01) (releasesOf rs))
-        (omega (arith, room, stands .size)) got)
+        (flatMap-length (releaseText v) (lineSize (releaseFrame v)) (releaseText-length v) (releasesOf rs))
+        (omega (arith, room, stands .size, releases-are)) got
 
 -- where the function starts
 abbrev begin : tie.After-put-frame → tie.Start
@@ -127,15 +103,13 @@ abbrev later : tie.After-slice-known3 → tie.After-slice-known2
 later c = c .before .before .before .before
 
 -- what is asked of the page, at the start
-room-at : (s : tie.Start) → s .args .version .header .line + s .args .p .n * s .args .version .string .line + s .args .rs .count * 17
+room-at : (s : tie.Start)
+    → s .args .version .header .line + s .args .p .n * s .args .version .string .line + s .args .rs .count * s .args .version .release .line
     ≤ length (s .args .part .now)
 room-at s = room (s .args .version) (s .pre .0) (s .args .p) (s .args .rs) (s .args .part .now) (s .pre .1)
 
 short-at : (s : tie.Start) → s .args .version .header .line + s .args .p .n * s .args .version .string .line ≤ 1000
 short-at s = short (s .args .version) (s .pre .0) (s .args .p) (s .args .rs) (s .args .part .now) (s .pre .1)
-
-mul-strings : tie.Need-mul-strings
-mul-strings c = omega (arith, short-at (c .before .before .before))
 
 header-cells-requires : tie.Need-header-cells-requires
 header-cells-requires c κs =
@@ -145,13 +119,13 @@ header-cells-requires c κs =
 put-frame-requires : tie.Need-put-frame-requires
 put-frame-requires c κs =
     let s = c .before .before .before .before .before in
-    line-room (c .header-cells .result) 5 (framesBy (s .args .version) .header) _ _ (c .header-cells .ensures) (omega arith)
+    line-room (c .header-cells .result) 5 (headerFrame (meantBy (s .args .version))) _ _ (c .header-cells .ensures) (omega arith)
     (omega (arith, room-at s, header-line (s .args .version) (s .pre .0)))
 
 -- ---- What stands after each part
 
 headed : (c : tie.After-slice-known2)
-    → Stands (start c .args .part .now) (headerText (framesBy (start c .args .version)) (start c .args .p))
+    → TextStands (start c .args .part .now) (headerText (meantBy (start c .args .version)) (start c .args .p))
     (c .before .before .put-frame .last .0)
 headed c =
     let s = start c in
@@ -168,23 +142,14 @@ page-two c =
     putMid header (length part - header) part (c .before .before .put-strings .last .0)
 
 stringed : (c : tie.After-slice-known3)
-    → Stands (start (later c) .args .part .now)
-    (headerText (framesBy (start (later c) .args .version)) (start (later c) .args .p)
-    ++ flatMap (stringText (framesBy (start (later c) .args .version))) (stringsOf (start (later c) .args .p)))
+    → TextStands (start (later c) .args .part .now)
+    (headerText (meantBy (start (later c) .args .version)) (start (later c) .args .p)
+    ++ flatMap (stringText (meantBy (start (later c) .args .version))) (stringsOf (start (later c) .args .p)))
     (page-two c)
 stringed c =
     let s = start (later c) in
     strings-stand (s .args .version) (s .pre .0) (s .args .p) (s .args .rs) (s .args .part .now) (s .pre .1) _ _ (headed (later c))
     (c .before .before .put-strings .ensures)
-
-sub-put-strings : tie.Need-sub-put-strings
-sub-put-strings c = omega (arith, headed c .size, room-at (start c))
-
-part-put-strings-start : tie.Need-part-put-strings-start
-part-put-strings-start c = omega (arith, headed c .size, room-at (start c))
-
-part-put-strings-end : tie.Need-part-put-strings-end
-part-put-strings-end c = search needs
 
 put-strings-requires : tie.Need-put-strings-requires
 put-strings-requires c κs =
@@ -204,34 +169,22 @@ put-strings-requires c κs =
           }),
     )
 
-add-put-releases : tie.Need-add-put-releases
-add-put-releases c = omega (arith, short-at (start (later c)))
-
-sub-put-releases : tie.Need-sub-put-releases
-sub-put-releases c = omega (arith, stringed c .size, room-at (start (later c)))
-
-part-put-releases-start : tie.Need-part-put-releases-start
-part-put-releases-start c = omega (arith, stringed c .size, room-at (start (later c)))
-
-part-put-releases-end : tie.Need-part-put-releases-end
-part-put-releases-end c = search needs
-
 put-releases-requires : tie.Need-put-releases-requires
 put-releases-requires c κs =
     let known = c .before in
     let s = start (later known) in
     let place = s .args .version .header .line + s .args .p .n * s .args .version .string .line in
     let fit = s .pre .1 .releases in
-    rw (lent-part place (page-two known))
-    (record {
-      few = fit .few;
-      thousand = fit .thousand;
-      places = fit .places;
-      bytes = omega (arith, stringed known .size, room-at s, length-drop place (page-two known));
-    })
-
-same-length : tie.Need-same-length
-same-length c = search needs
+    let long = releases-are (s .args .version) (s .pre .0) (s .args .p) (s .args .rs) (s .args .part .now) (s .pre .1) in (
+      s .pre .0,
+      rw (lent-part place (page-two known))
+          (record {
+            few = fit .few;
+            thousand = fit .thousand;
+            places = fit .places;
+            bytes = omega (arith, stringed known .size, room-at s, length-drop place (page-two known), long);
+          }),
+    )
 
 returns : tie.Need-returns
 returns c =
@@ -242,19 +195,10 @@ returns c =
 
 pub put-plan-spec : {M : Type 1} → statement M
 put-plan-spec =
-    tie.close
-    (tie.spec
-    mul-strings
-    header-cells-requires
-    put-frame-requires
-    sub-put-strings
-    part-put-strings-start
-    part-put-strings-end
-    put-strings-requires
-    add-put-releases
-    sub-put-releases
-    part-put-releases-start
-    part-put-releases-end
-    put-releases-requires
-    same-length
-    returns)
+    tie.close (tie.spec
+    (λ c. omega (arith, short-at (c .before .before .before))) header-cells-requires put-frame-requires
+    (λ c. omega (arith, headed c .size, room-at (start c))) (λ c. omega (arith, headed c .size, room-at (start c)))
+    (λ c. search needs) put-strings-requires (λ c. omega (arith, short-at (start (later c))))
+    (λ c. omega (arith, stringed c .size, room-at (start (later c))))
+    (λ c. omega (arith, stringed c .size, room-at (start (later c)))) (λ c. search needs) put-releases-requires
+    (λ c. search needs) returns)

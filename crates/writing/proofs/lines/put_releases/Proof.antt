@@ -1,157 +1,136 @@
 -- `put_releases` meets its contract. Invariant: the lines of the releases so far stand at the head of the part.
-use Prim.Native.Nat.{ℕ, _+_, _-_, _*_, _≤_, _<_}
-use mathlib.Core.Path.{_≡_, ap, subst}
-use mathlib.Core.List.{List}
-use native.Mathlib.Omega.{arith}
-use lib.ListN.{length, take, getD, length-drop}
-use lib.Seq.{length-take-le, getD-take}
-use Rattle.rules.specs.declared.Release.{Release}
-use Rattle.rules.specs.declared.Releases.{Releases}
-use Rattle.rules.specs.Release.{releasesOf, noRelease}
-use Rattle.rules.specs.Layout.{version01}
-use Rattle.lists.proofs.Lists.{all-at}
-use Rattle.writing.specs.Written.{releaseSays, releaseText}
-use Rattle.writing.specs.Cells.{ReleasesFit}
-use Rattle.writing.proofs.Texts.{lent-part}
-use Rattle.writing.proofs.Rows.{Rows, rows-start, rows-next, rows-end, rows-room, releaseText-length, line-put, line-room}
-use Rattle.writing.proofs.lines.put_releases.Statement.{statement}
+use Rattle.base.proofs.Prelude.{ℕ, _+_, _-_, _*_, _≤_, _<_, _≡_, sym, ap, _∙_, subst, List, _++_, flatMap, arith, length, take, drop, getD, length-drop, length-take-le, getD-take}
+use Rattle.base.proofs.Lists.{all-at}
+use Rattle.rules.specs.{declared.Release.Release, declared.Releases.Releases, Release.{releasesOf, noRelease}, Layout.{lineSize, releaseFrame}}
+use Rattle.layouts.specs.inner.Versions.{meantBy, Known}
+use Rattle.layouts.proofs.Versions.{release-line}
+use Rattle.writing.specs.{Written.{releaseSays, releaseText}, inner.Cells.ReleasesFit}
+use Rattle.writing.proofs.{Texts.{lent-part, TextStands}, Rows.{rows-start, rows-next, rows-written, rows-room, releaseText-length, line-put, line-room}, lines.put_releases.Statement.statement}
+use Rattle.layouts.specs.declared.Version as code
 use Rattle.writing.proofs.lines.put_releases.Tie as tie
 
--- the lines of the first i releases
-abbrev Lines : List Release → ℕ → List ℕ → List ℕ → ℕ → Type 0
-Lines list count before part i = Rows (releaseText version01) 17 (releaseText-length version01) (take count list) noRelease before part i
+-- a release's line is as long as the version says
+each-long : (version : code.Version) → Known version → (s : Release)
+    → length (releaseText (meantBy version) s) ≡ version .release .line
+each-long version known s = releaseText-length (meantBy version) s ∙ sym (release-line version known)
 
--- all releases are there
-counted : (rs : Releases) (k : ℕ) → ReleasesFit version01 rs k → length (releasesOf rs) ≡ rs .count
-counted rs k fit = length-take-le (rs .count) (rs .list) (omega (arith, fit .few, fit .thousand))
+-- the lines of the first i of so many releases
+abbrev Lines : code.Version → List Release → ℕ → List ℕ → List ℕ → ℕ → Type 0
+Lines version list count before part i = TextStands before (flatMap (releaseText (meantBy version)) (take i (take count list))) part
 
-next-room : (rs : Releases) (before part : List ℕ) (i : ℕ) → ReleasesFit version01 rs (length before)
-    → Lines (rs .list) (rs .count) before part i → i < rs .count
-    → i * 17 + 17 ≤ length part
-next-room rs before part i fit rows h =
-    rows-room (releaseText version01) 17 (releaseText-length version01) (releasesOf rs) noRelease before part i rows
-    (omega (arith, counted rs (length before) fit))
-    (omega (arith, ap (λ n. n * 17) (counted rs (length before) fit), fit .bytes))
+module _ (version : code.Version) (known : Known version) (rs : Releases) (before : List ℕ)
+    (fit : ReleasesFit (meantBy version) rs (length before))
+  where
+    -- all releases are there, and the part holds their lines
+    counted : length (releasesOf rs) ≡ rs .count
+    counted = length-take-le (rs .count) (rs .list) (omega (arith, fit .few, fit .thousand))
+
+    held : length (releasesOf rs) * version .release .line ≤ length before
+    held =
+        omega (
+          arith,
+          ap (λ n. n * version .release .line) counted,
+          ap (λ k. rs .count * k) (release-line version known),
+          fit .bytes,
+        )
+
+    next-room : (part : List ℕ) (i : ℕ) → Lines version (rs .list) (rs .count) before part i → i < rs .count
+        → i * version .release .line + version .release .line ≤ length part
+    next-room part i rows h =
+        rows-room (releaseText (meantBy version)) (version .release .line) (each-long version known) (releasesOf rs) noRelease
+        before part i rows
+        (omega (arith, counted)) held
 
 abbrev Inv-loop : tie.InvT-loop
-Inv-loop part₀ count list i₀ part i = (i ≤ count) × Lines list count part₀ part i
+Inv-loop part₀ version count list line i₀ part i = (i ≤ count) × Lines version list count part₀ part i
 
 abbrev μ-loop : tie.MeasureT-loop
-μ-loop part₀ count list i₀ part i = count - i
+μ-loop part₀ version count list line i₀ part i = count - i
+
+abbrev start : tie.At-loop Inv-loop μ-loop → tie.Start Inv-loop μ-loop
+start o = o .before .before .before
+
+-- there is room for the next line
+fits : (c : tie.In-loop Inv-loop μ-loop)
+    → c .before .loop .i * start (c .before) .args .version .release .line + start (c .before) .args .version .release .line
+    ≤ length (c .before .loop .part)
+fits c =
+    let o = c .before in
+    let s = start o in
+    next-room (s .args .version) (s .pre .0) (s .args .rs) (s .args .part .now) (s .pre .1) (o .loop .part) (o .loop .i) (o .loop .inv .1)
+    (omega arith)
 
 loop-holds : tie.Need-loop-holds Inv-loop μ-loop
-loop-holds c = (
-  omega arith,
-  rows-start (releaseText version01) 17 (releaseText-length version01) (releasesOf (c .before .before .args .rs)) noRelease
-      _,
-)
-
-mul-r : tie.Need-mul-r Inv-loop μ-loop
-mul-r c = omega arith
-
-array-copy-out-r : tie.Need-array-copy-out-r Inv-loop μ-loop
-array-copy-out-r c = omega arith
-
-mul-put-frame : tie.Need-mul-put-frame Inv-loop μ-loop
-mul-put-frame c =
-    let o = c .before .before in
-    let s = o .before .before .before in
-    let fits = next-room (s .args .rs) (s .args .part .now) (o .loop .part) (o .loop .i) (s .pre) (o .loop .inv .1) (omega arith) in
-    omega arith
-
-sub-put-frame : tie.Need-sub-put-frame Inv-loop μ-loop
-sub-put-frame c =
-    let o = c .before .before in
-    let s = o .before .before .before in
-    let fits = next-room (s .args .rs) (s .args .part .now) (o .loop .part) (o .loop .i) (s .pre) (o .loop .inv .1) (omega arith) in
-    omega arith
-
-part-put-frame-start : tie.Need-part-put-frame-start Inv-loop μ-loop
-part-put-frame-start c =
-    let o = c .before .before in
-    let s = o .before .before .before in
-    let fits = next-room (s .args .rs) (s .args .part .now) (o .loop .part) (o .loop .i) (s .pre) (o .loop .inv .1) (omega arith) in
-    omega arith
-
-part-put-frame-end : tie.Need-part-put-frame-end Inv-loop μ-loop
-part-put-frame-end c =
-    let o = c .before .before in
-    let s = o .before .before .before in
-    let fits = next-room (s .args .rs) (s .args .part .now) (o .loop .part) (o .loop .i) (s .pre) (o .loop .inv .1) (omega arith) in
-    omega arith
+loop-holds c =
+    let s = c .before .before in
+    let version = s .args .version in (
+      omega arith,
+      rows-start (releaseText (meantBy version)) (version .release .line) (each-long version (s .pre .0))
+          (releasesOf (s .args .rs)) noRelease _,
+    )
 
 release-cells-requires : tie.Need-release-cells-requires Inv-loop μ-loop
 release-cells-requires c κs =
     let o = c .before .before .before in
-    let s = o .before .before .before in
+    let s = start o in
     let rs = s .args .rs in
-    let this = getD-take (rs .count) (rs .list) (o .loop .i) noRelease (omega arith) in
-    subst (λ r. r .place ≤ 10) this
-    (all-at (λ r. r .place ≤ 10) (releasesOf rs) noRelease (s .pre .places) (o .loop .i) (omega (arith, counted rs _ (s .pre))))
+    let many = counted (s .args .version) (s .pre .0) rs (s .args .part .now) (s .pre .1) in (
+      s .pre .0,
+      subst (λ r. r .place ≤ 10) (getD-take (rs .count) (rs .list) (o .loop .i) noRelease (omega arith))
+          (all-at (λ r. r .place ≤ 10) (releasesOf rs) noRelease (s .pre .1 .places) (o .loop .i) (omega arith)),
+    )
 
 put-frame-requires : tie.Need-put-frame-requires Inv-loop μ-loop
 put-frame-requires c κs =
-    let o = c .before .before .before .before in
-    let s = o .before .before .before in
-    let fits = next-room (s .args .rs) (s .args .part .now) (o .loop .part) (o .loop .i) (s .pre) (o .loop .inv .1) (omega arith) in
-    let a = o .loop .i * 17 in
+    let into = c .before .before .before in
+    let o = into .before in
+    let version = start o .args .version in
+    let a = o .loop .i * version .release .line in
     rw (lent-part a (o .loop .part))
-    (line-room (c .release-cells .result) 4 (version01 .release) _ _ (c .release-cells .ensures) (omega arith)
-    (omega (arith, length-drop a (o .loop .part))))
-
-add-i : tie.Need-add-i Inv-loop μ-loop
-add-i c = omega arith
-
-loop-less : tie.Need-loop-less Inv-loop μ-loop
-loop-less c = omega arith
+    (line-room (c .release-cells .result) 4 (releaseFrame (meantBy version)) _ _ (c .release-cells .ensures) (omega arith)
+    (omega (arith, fits into, length-drop a (o .loop .part), release-line version (start o .pre .0))))
 
 loop-again : tie.Need-loop-again Inv-loop μ-loop
 unfolding releaseText
 loop-again c =
-    let o = c .before .before .before .before .before .before .before in
-    let s = o .before .before .before in
-    let fits = next-room (s .args .rs) (s .args .part .now) (o .loop .part) (o .loop .i) (s .pre) (o .loop .inv .1) (omega arith) in
-    let list = releasesOf (s .args .rs) in
+    let into = c .before .before .before .before .before .before in
+    let o = into .before in
+    let s = start o in
+    let version = s .args .version in
+    let v = meantBy version in
+    let rs = s .args .rs in
     let i = o .loop .i in
     let made = c .before .before .before .release-cells in
-    let this : getD list i noRelease ≡ getD (s .args .rs .list) i noRelease = getD-take (s .args .rs .count) (s .args .rs .list) i
-    noRelease (omega arith) in
-    let put = line-put (made .result) 4 (version01 .release) (releaseSays (getD (s .args .rs .list) i noRelease)) _ _ (made .ensures)
-    (c .before .before .put-frame .ensures) in (
+    let this = getD-take (rs .count) (rs .list) i noRelease (omega arith) in
+    let put = line-put (made .result) 4 (releaseFrame v) (releaseSays (getD (rs .list) i noRelease)) _ _ (made .ensures)
+    (c .before .before .put-frame .ensures) in
+    let part = o .loop .part in
+    let a = i * version .release .line in
+    let there = take (length part - a) (drop a part) in
+    let long = ap (λ k. releaseText v (getD (rs .list) i noRelease) ++ drop k there) (sym (release-line version (s .pre .0))) in (
       omega arith,
-      rows-next (releaseText version01) 17 (releaseText-length version01) list noRelease (s .args .part .now) (o .loop .part)
-          (c .before .before .put-frame .last .0) i (o .loop .inv .1)
-          (omega (arith, counted (s .args .rs) _ (s .pre))) fits (rw this put),
+      rows-next (releaseText v) (version .release .line) (each-long version (s .pre .0)) (releasesOf rs) noRelease (s .args .part .now)
+          part (c .before .before .put-frame .last .0) i (o .loop .inv .1)
+          (omega (arith, counted version (s .pre .0) rs (s .args .part .now) (s .pre .1))) (fits into) (rw this (put ∙ long)),
     )
-
-same-length : tie.Need-same-length Inv-loop μ-loop
-same-length c = c .before .loop .inv .1 .size
 
 returns : tie.Need-returns Inv-loop μ-loop
 returns c =
     let o = c .before in
-    let s = o .before .before .before in
-    rows-end (releaseText version01) 17 (releaseText-length version01) (releasesOf (s .args .rs)) noRelease
-    (s .args .part .now) (o .loop .part) (o .loop .i) (o .loop .inv .1)
-    (omega (arith, counted (s .args .rs) _ (s .pre)))
+    let s = start o in
+    let version = s .args .version in
+    let rs = s .args .rs in
+    let v = meantBy version in
+    rows-written (releaseText v) (lineSize (releaseFrame v)) (releaseText-length v) (releasesOf rs)
+    noRelease (s .args .part .now) (o .loop .part) (o .loop .i) (o .loop .inv .1)
+    (omega (arith, counted version (s .pre .0) rs (s .args .part .now) (s .pre .1)))
 
 pub put-releases-spec : {M : Type 1} → statement M
 put-releases-spec =
-    tie.close
-    (tie.spec
-    Inv-loop
-    μ-loop
-    loop-holds
-    mul-r
-    array-copy-out-r
-    mul-put-frame
-    sub-put-frame
-    part-put-frame-start
-    part-put-frame-end
-    release-cells-requires
-    put-frame-requires
-    add-i
-    loop-less
-    loop-again
-    same-length
-    returns)
+    tie.close (tie.spec
+    Inv-loop μ-loop loop-holds (λ c. omega (arith, start (c .before) .pre .1 .few))
+    (λ c. omega (arith, start (c .before) .pre .1 .few)) (λ c. omega (arith, fits (c .before)))
+    (λ c. omega (arith, fits (c .before))) (λ c. omega (arith, fits (c .before))) (λ c. omega (arith, fits (c .before)))
+    release-cells-requires put-frame-requires
+    (λ c. omega (arith, start (c .before .before .before .before .before .before .before) .pre .1 .few))
+    (λ c. omega arith) loop-again (λ c. c .before .loop .inv .1 .size) returns)

@@ -1,35 +1,24 @@
 -- `put_strings` meets its contract. Invariant: the lines of the strings so far stand at the head of the part.
-use Prim.Native.Nat.{ℕ, _+_, _-_, _*_, _≤_, _<_}
-use mathlib.Core.Path.{_≡_, sym, ap, _∙_}
-use mathlib.Core.List.{List, _++_, flatMap}
-use native.Mathlib.Omega.{arith}
-use lib.ListN.{length, take, drop, getD, length-drop}
-use lib.Seq.{length-take-le, getD-take}
-use Rattle.rules.specs.declared.BatteryString.{BatteryString}
-use Rattle.rules.specs.declared.Plan.{Plan}
-use Rattle.rules.specs.Plan.{stringsOf, noString}
-use Rattle.rules.specs.Layout.{lineSize}
-use Rattle.layouts.specs.declared.Version as code
-use Rattle.layouts.specs.Versions.{framesBy, Known}
+use Rattle.base.proofs.Prelude.{ℕ, _+_, _-_, _*_, _≤_, _<_, _≡_, sym, ap, _∙_, List, _++_, flatMap, arith, length, take, drop, getD, length-drop, length-take-le, getD-take}
+use Rattle.rules.specs.{declared.BatteryString.BatteryString, declared.Plan.Plan, Plan.{stringsOf, noString}, Layout.{lineSize, stringFrame}}
+use Rattle.layouts.specs.inner.Versions.{meantBy, Known}
 use Rattle.layouts.proofs.Versions.{string-line}
-use Rattle.writing.specs.Written.{stringSays, stringText}
-use Rattle.writing.specs.Cells.{StringsFit}
-use Rattle.writing.proofs.Texts.{lent-part, Stands}
-use Rattle.writing.proofs.Rows.{rows-start, rows-next, rows-end, rows-room, stringText-length, line-put, line-room}
-use Rattle.writing.proofs.lines.put_strings.Statement.{statement}
+use Rattle.writing.specs.{Written.{stringSays, stringText}, inner.Cells.StringsFit}
+use Rattle.writing.proofs.{Texts.{lent-part, TextStands}, Rows.{rows-start, rows-next, rows-written, rows-room, stringText-length, line-put, line-room}, lines.put_strings.Statement.statement}
+use Rattle.layouts.specs.declared.Version as code
 use Rattle.writing.proofs.lines.put_strings.Tie as tie
 
 -- a string's line is as long as the version says
 each-long : (version : code.Version) → Known version → (s : BatteryString)
-    → length (stringText (framesBy version) s) ≡ version .string .line
-each-long version known s = stringText-length (framesBy version) s ∙ sym (string-line version known)
+    → length (stringText (meantBy version) s) ≡ version .string .line
+each-long version known s = stringText-length (meantBy version) s ∙ sym (string-line version known)
 
 -- the lines of the first i of n strings
 abbrev Lines : code.Version → List BatteryString → ℕ → List ℕ → List ℕ → ℕ → Type 0
-Lines version strings n before part i = Stands before (flatMap (stringText (framesBy version)) (take i (take n strings))) part
+Lines version strings n before part i = TextStands before (flatMap (stringText (meantBy version)) (take i (take n strings))) part
 
 module _ (version : code.Version) (known : Known version) (p : Plan) (before : List ℕ)
-    (fit : StringsFit (framesBy version) p (length before))
+    (fit : StringsFit (meantBy version) p (length before))
   where
     -- all n strings are there, and the part holds their lines
     counted : length (stringsOf p) ≡ p .n
@@ -47,7 +36,7 @@ module _ (version : code.Version) (known : Known version) (p : Plan) (before : L
     next-room : (part : List ℕ) (i : ℕ) → Lines version (p .strings) (p .n) before part i → i < p .n
         → i * version .string .line + version .string .line ≤ length part
     next-room part i rows h =
-        rows-room (stringText (framesBy version)) (version .string .line) (each-long version known) (stringsOf p) noString
+        rows-room (stringText (meantBy version)) (version .string .line) (each-long version known) (stringsOf p) noString
         before part i rows
         (omega (arith, counted)) held
 
@@ -75,30 +64,9 @@ loop-holds c =
     let s = c .before .before in
     let version = s .args .version in (
       omega arith,
-      rows-start (stringText (framesBy version)) (version .string .line) (each-long version (s .pre .0))
+      rows-start (stringText (meantBy version)) (version .string .line) (each-long version (s .pre .0))
           (stringsOf (s .args .p)) noString _,
     )
-
-mul-s : tie.Need-mul-s Inv-loop μ-loop
-mul-s c = omega (arith, start (c .before) .pre .1 .few)
-
-array-copy-out-s : tie.Need-array-copy-out-s Inv-loop μ-loop
-array-copy-out-s c = omega (arith, start (c .before) .pre .1 .few)
-
-mul-put-frame : tie.Need-mul-put-frame Inv-loop μ-loop
-mul-put-frame c = omega (arith, fits (c .before))
-
-sub-put-frame : tie.Need-sub-put-frame Inv-loop μ-loop
-sub-put-frame c = omega (arith, fits (c .before))
-
-part-put-frame-start : tie.Need-part-put-frame-start Inv-loop μ-loop
-part-put-frame-start c = omega (arith, fits (c .before))
-
-part-put-frame-end : tie.Need-part-put-frame-end Inv-loop μ-loop
-part-put-frame-end c = omega (arith, fits (c .before))
-
-string-cells-requires : tie.Need-string-cells-requires Inv-loop μ-loop
-string-cells-requires c κs = start (c .before .before .before) .pre .0
 
 put-frame-requires : tie.Need-put-frame-requires Inv-loop μ-loop
 put-frame-requires c κs =
@@ -107,14 +75,8 @@ put-frame-requires c κs =
     let version = start o .args .version in
     let a = o .loop .i * version .string .line in
     rw (lent-part a (o .loop .part))
-    (line-room (c .string-cells .result) 6 (framesBy version .string) _ _ (c .string-cells .ensures) (omega arith)
+    (line-room (c .string-cells .result) 6 (stringFrame (meantBy version)) _ _ (c .string-cells .ensures) (omega arith)
     (omega (arith, fits into, length-drop a (o .loop .part), string-line version (start o .pre .0))))
-
-add-i : tie.Need-add-i Inv-loop μ-loop
-add-i c = omega (arith, start (c .before .before .before .before .before .before .before) .pre .1 .few)
-
-loop-less : tie.Need-loop-less Inv-loop μ-loop
-loop-less c = omega arith
 
 loop-again : tie.Need-loop-again Inv-loop μ-loop
 unfolding stringText
@@ -123,12 +85,12 @@ loop-again c =
     let o = into .before in
     let s = start o in
     let version = s .args .version in
-    let v = framesBy version in
+    let v = meantBy version in
     let p = s .args .p in
     let i = o .loop .i in
     let made = c .before .before .before .string-cells in
     let this : getD (stringsOf p) i noString ≡ getD (p .strings) i noString = getD-take (p .n) (p .strings) i noString (omega arith) in
-    let put = line-put (made .result) 6 (v .string) (stringSays (getD (p .strings) i noString)) _ _ (made .ensures)
+    let put = line-put (made .result) 6 (stringFrame v) (stringSays (getD (p .strings) i noString)) _ _ (made .ensures)
     (c .before .before .put-frame .ensures) in
     let part = o .loop .part in
     let a = i * version .string .line in
@@ -140,36 +102,23 @@ loop-again c =
           (omega (arith, counted version (s .pre .0) p (s .args .part .now) (s .pre .1))) (fits into) (rw this (put ∙ long)),
     )
 
-same-length : tie.Need-same-length Inv-loop μ-loop
-same-length c = c .before .loop .inv .1 .size
-
 returns : tie.Need-returns Inv-loop μ-loop
 returns c =
     let o = c .before in
     let s = start o in
     let version = s .args .version in
     let p = s .args .p in
-    rows-end (stringText (framesBy version)) (lineSize (framesBy version .string)) (stringText-length (framesBy version)) (stringsOf p)
+    rows-written (stringText (meantBy version)) (lineSize (stringFrame (meantBy version))) (stringText-length (meantBy version))
+    (stringsOf p)
     noString (s .args .part .now) (o .loop .part) (o .loop .i) (o .loop .inv .1)
     (omega (arith, counted version (s .pre .0) p (s .args .part .now) (s .pre .1)))
 
 pub put-strings-spec : {M : Type 1} → statement M
 put-strings-spec =
-    tie.close
-    (tie.spec
-    Inv-loop
-    μ-loop
-    loop-holds
-    mul-s
-    array-copy-out-s
-    mul-put-frame
-    sub-put-frame
-    part-put-frame-start
-    part-put-frame-end
-    string-cells-requires
-    put-frame-requires
-    add-i
-    loop-less
-    loop-again
-    same-length
-    returns)
+    tie.close (tie.spec
+    Inv-loop μ-loop loop-holds (λ c. omega (arith, start (c .before) .pre .1 .few))
+    (λ c. omega (arith, start (c .before) .pre .1 .few)) (λ c. omega (arith, fits (c .before)))
+    (λ c. omega (arith, fits (c .before))) (λ c. omega (arith, fits (c .before))) (λ c. omega (arith, fits (c .before)))
+    (λ c κs. start (c .before .before .before) .pre .0) put-frame-requires
+    (λ c. omega (arith, start (c .before .before .before .before .before .before .before) .pre .1 .few))
+    (λ c. omega arith) loop-again (λ c. c .before .loop .inv .1 .size) returns)

@@ -1,18 +1,8 @@
--- `header_cells` meets its contract: cell by cell it is the header's layout in either version.
-use mathlib.Core.Path.{sym, ap}
-use borrow.Author.Needs.{needs}
-use lib.Seq.{getD-take}
-use Rattle.rules.specs.declared.BatteryString.{BatteryString}
-use Rattle.rules.specs.Plan.{noString}
-use Rattle.writing.proofs.CellsSaid.{header-says}
-use Rattle.writing.proofs.says.header_cells.Statement.{statement}
+-- `header_cells` meets its contract: cell by cell it is the header's layout in every version.
+use Rattle.base.proofs.Prelude.{sym, ap, needs, getD-take}
+use Rattle.rules.specs.{declared.BatteryString.BatteryString, Plan.noString}
+use Rattle.writing.proofs.{CellsSaid.header-says, says.header_cells.Statement.statement}
 use Rattle.writing.proofs.says.header_cells.Tie as tie
-
-array-copy-out-first : tie.Need-array-copy-out-first
-array-copy-out-first c = search needs
-
-cast-t14 : tie.Need-cast-t14
-cast-t14 c = search needs
 
 returns : tie.Need-returns
 returns c =
@@ -22,4 +12,4 @@ returns c =
     (ap (λ (first : BatteryString). first .a .0) (sym (getD-take (p .n) (p .strings) 0 noString (s .pre .1 .0))))
 
 pub header-cells-spec : {M : Type 1} → statement M
-header-cells-spec = tie.close (tie.spec array-copy-out-first cast-t14 returns)
+header-cells-spec = tie.close (tie.spec (λ c. search needs) (λ c. search needs) returns)

@@ -1,10 +1,6 @@
--- `string_cells` meets its contract: cell by cell it is the string's layout in either version.
-use Rattle.writing.proofs.CellsSaid.{string-says}
-use Rattle.writing.proofs.says.string_cells.Statement.{statement}
+-- `string_cells` meets its contract: cell by cell it is the string's layout in every version.
+use Rattle.writing.proofs.{CellsSaid.string-says, says.string_cells.Statement.statement}
 use Rattle.writing.proofs.says.string_cells.Tie as tie
 
-returns : tie.Need-returns
-returns c = string-says (c .args .version) (c .pre) (c .args .s)
-
 pub string-cells-spec : {M : Type 1} → statement M
-string-cells-spec = tie.close (tie.spec returns)
+string-cells-spec = tie.close (tie.spec (λ c. string-says (c .args .version) (c .pre) (c .args .s)))

@@ -1,2 +1,0 @@
-pub mod Blockers
-pub mod Rows

@@ -1,0 +1,4 @@
+pub mod FirstBreak
+pub mod Quick
+pub mod Limit
+pub mod BestSet

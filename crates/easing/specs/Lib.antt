@@ -1,2 +1,0 @@
-pub mod Easing
-pub mod Permission

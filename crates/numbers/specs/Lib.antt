@@ -1,3 +1,0 @@
--- Numbers apart from any plan. Read: Divisors, Multiples.
-pub mod Divisors
-pub mod Multiples

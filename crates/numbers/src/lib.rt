@@ -1,1 +1,0 @@
-// No code: numbers apart from any plan, their definitions and laws. See specs/ and proofs/.

@@ -1,0 +1,23 @@
+-- The order of the list is nobody's business, in the order in which the steps build on each other. Permuted: what a swap of two neighbours
+-- leaves the same, any list. SameVerdict: so H, limits, demand, load, pairs and verdicts. Moving: a set goes along with its strings.
+-- SameSearch: so both searches say "none", or find as many takers. Turned: P1 with its strings turned round. Ties: a run that differs.
+pub mod Permuted
+pub mod SameVerdict
+pub mod Moving
+pub mod SameSearch
+pub mod Turned
+pub mod Ties
+-- Easing never hurts. Asked: what one string asks, and no more once it is eased. Blocked: a blocking that the eased plan allows was
+-- allowed before, or asked for. NeverHurts: the plan still passes. Changes: a change of one string alone is an easing. Permissions:
+-- a change of permissions is none.
+pub mod Asked
+pub mod Blocked
+pub mod NeverHurts
+pub mod Changes
+pub mod Permissions
+-- Blockers side by side. Weaker: a longer blocker is the stricter rule, and what that means for plans and sets that passed before W-205.
+-- Ruled: a rule is decided by its range. SideBySide: four rules in one table. ADayIsAll: no more than a day can be taken off.
+pub mod Weaker
+pub mod Ruled
+pub mod SideBySide
+pub mod ADayIsAll
