@@ -5,7 +5,7 @@ use crate::stop::Stop;
 use std::path::Path;
 
 /// The words of a start, and what has to be said. There is no file of these names.
-const COMPLAINTS: [(&[&str], &str); 22] = [
+const COMPLAINTS: [(&[&str], &str); 27] = [
     (&[], "no word; clerk help lists them"),
     (&["xyz"], "no word xyz; clerk help lists them"),
     (&["xyz", "x.plan"], "no word xyz; clerk help lists them"),
@@ -41,6 +41,17 @@ const COMPLAINTS: [(&[&str], &str); 22] = [
     (&["to-01", "x.plan", "7"], "to-01 [FILE]"),
     (&["to-02", "x.plan"], "cannot read x.plan: no such file"),
     (&["to-01", "x.plan"], "cannot read x.plan: no such file"),
+    (&["same"], "same FILE FILE"),
+    (&["same", "x.plan"], "same FILE FILE"),
+    (&["same", "x.plan", "y.plan", "z.plan"], "same FILE FILE"),
+    (
+        &["same", "x.plan", "y.plan"],
+        "cannot read x.plan: no such file",
+    ),
+    (
+        &["same", "-", "-"],
+        "same FILE FILE: one of the two at most is -",
+    ),
     (&["each", "x", "y"], "each [COMMANDS]"),
     (&["each", "x"], "cannot read x: no such file"),
 ];

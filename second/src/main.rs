@@ -13,6 +13,7 @@ mod faults;
 mod misses;
 mod mix;
 mod options;
+mod orders;
 mod plans;
 mod questions;
 mod rules;
@@ -53,6 +54,7 @@ fn main() -> ExitCode {
         Some(Task::Calendar) => show_calendar(),
         Some(Task::Dates(asked)) => run_dates(&asked),
         Some(Task::Misses(asked)) => run_misses(&asked),
+        Some(Task::Orders(asked)) => run_orders(&asked),
         None => {
             eprintln!("{USAGE}");
             ExitCode::from(UNABLE)
@@ -176,6 +178,20 @@ fn run_dates(asked: &Asked) -> ExitCode {
 
 fn run_misses(asked: &misses::ask::Asked) -> ExitCode {
     match misses::ask::ask_all(asked) {
+        Ok(Ok(counts)) => {
+            println!("{counts}");
+            ExitCode::SUCCESS
+        }
+        Ok(Err(wrong)) => {
+            println!("second: {}", wrong.trim_end());
+            ExitCode::FAILURE
+        }
+        Err(error) => unable(&format!("{}: {error}", asked.clerk.display())),
+    }
+}
+
+fn run_orders(asked: &orders::ask::Asked) -> ExitCode {
+    match orders::ask::ask_all(asked) {
         Ok(Ok(counts)) => {
             println!("{counts}");
             ExitCode::SUCCESS

@@ -2,6 +2,7 @@
 
 use crate::calendar::ask::Asked;
 use crate::misses;
+use crate::orders;
 use crate::wrong::Mistake;
 use std::path::PathBuf;
 use std::str::FromStr;
@@ -15,6 +16,7 @@ pub const USAGE: &str =
        second --wrong equation-7|one-by-one|stop-at-dmax|load-equal-to-h|start-early|stopped-pays|one-week|who-is-interrupted FILE
        second --calendar
        second --misses CLERK [--plans N] [--small M] [--seed S]
+       second --orders CLERK DESK [--pairs N] [--seed S]
        second --dates [--ask CLERK] [--questions N] [--seed S]
        second --selftest";
 
@@ -28,6 +30,7 @@ pub enum Task {
     Calendar,
     Dates(Asked),
     Misses(misses::ask::Asked),
+    Orders(orders::ask::Asked),
 }
 
 /// The program that is compared with this one.
@@ -97,6 +100,7 @@ pub fn task(mut words: impl Iterator<Item = String>) -> Option<Task> {
             "--calendar" => return Some(Task::Calendar),
             "--dates" => return asked(words).map(Task::Dates),
             "--misses" => return missing(words).map(Task::Misses),
+            "--orders" => return reordered(words).map(Task::Orders),
             "--desk" => desk = Some(value(&mut words)?),
             "--clerk" => clerk = Some(value(&mut words)?),
             "--about" => about = value(&mut words)?,
@@ -160,6 +164,25 @@ fn missing(mut words: impl Iterator<Item = String>) -> Option<misses::ask::Asked
         clerk,
         plans,
         small,
+        seed,
+    })
+}
+
+/// Whom to ask which string is which, and whom for verdicts and sets, for how many pairs of files.
+fn reordered(mut words: impl Iterator<Item = String>) -> Option<orders::ask::Asked> {
+    let (clerk, desk) = (value(&mut words)?, value(&mut words)?);
+    let (mut pairs, mut seed) = (5_000, 1);
+    while let Some(word) = words.next() {
+        match word.as_str() {
+            "--pairs" => pairs = value(&mut words)?,
+            "--seed" => seed = value(&mut words)?,
+            _ => return None,
+        }
+    }
+    Some(orders::ask::Asked {
+        clerk,
+        desk,
+        pairs,
         seed,
     })
 }

@@ -3,6 +3,7 @@
 use crate::calendar::answer::Calendar;
 use crate::chance::Chance;
 use crate::misses::plans::any_small_plan;
+use crate::orders::answer::{matched, Matched};
 use crate::rules::answer::Answer;
 use crate::rules::every_list::can_miss_by;
 use crate::rules::frames::{read, Refusal};
@@ -28,6 +29,7 @@ pub fn wrong_cases() -> Vec<&'static str> {
         versions(),
         writings(),
         turnings(),
+        orders(),
         showings(),
         dates(),
         beside_dates(),
@@ -301,6 +303,42 @@ fn turnings() -> Cases {
             turned(&writing::text(&first), new) == refused(12, 3),
         ),
         ("a fault before 12", turned(&late, new) == refused(3, 4)),
+    ]
+}
+
+/// Two sites with the same strings, each in its own order; strings that are alike.
+fn orders() -> Cases {
+    let site_a = plan(&[(10, 3, 5), (10, 5, 10), (20, 1, 10)], 1).with_set(1);
+    let site_b = plan(&[(20, 1, 10), (10, 3, 5), (10, 5, 10)], 1).with_set(2);
+    let kept = plan(&[(20, 1, 10), (10, 3, 5), (10, 5, 10)], 1).with_set(0);
+    let alike = plan(&[(10, 1, 5), (10, 1, 5), (10, 1, 5)], 0);
+    let (middle, first) = (alike.with_set(2), alike.with_set(1));
+    let (two, five) = (alike.with_set(6), plan(&[(10, 1, 5)], 0));
+    vec![
+        (
+            "another order",
+            matched(&site_a, &site_b) == Matched::Same(vec![2, 3, 1]),
+        ),
+        (
+            "and back",
+            matched(&site_b, &site_a) == Matched::Same(vec![3, 1, 2]),
+        ),
+        (
+            "each with its own permission",
+            matched(&site_a, &kept) == Matched::Alone(1),
+        ),
+        (
+            "alike strings in order",
+            matched(&middle, &first) == Matched::Same(vec![2, 1, 3]),
+        ),
+        (
+            "too many of a kind",
+            matched(&middle, &two) == Matched::Alone(3),
+        ),
+        (
+            "other numbers",
+            matched(&five, &alike) == Matched::Counts(1, 3),
+        ),
     ]
 }
 

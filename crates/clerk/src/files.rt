@@ -32,7 +32,11 @@ pub(crate) fn read_named(command: &[u8], room: &mut [u8]) -> Got {
     if word_count(command) < 2 {
         return read_input(room);
     }
-    let name = word(command, 1);
+    read_by(word(command, 1), room)
+}
+
+// The bytes of the file of this name, or of standard input where that is `-`.
+pub(crate) fn read_by(name: &[u8], room: &mut [u8]) -> Got {
     if same(name, b"-") {
         return read_input(room);
     }

@@ -5,6 +5,7 @@ mod dates;
 mod each;
 mod files;
 mod miss;
+mod orders;
 mod plans;
 mod quick;
 mod save;

@@ -7,7 +7,8 @@ use rules::Answer;
 ghost use Prim.Native.Nat.{_≤_};
 ghost use lib.ListN.{length};
 
-// How a command ended; of several the largest. REFUSED is also the end of one that has nothing to write, as no list that misses.
+// How a command ended; of several the largest. REFUSED is also the end of one that has nothing to write, as no list that misses, and of
+// one that finds two plans to differ.
 pub(crate) const ANSWERED: u8 = 0;
 
 pub(crate) const REFUSED: u8 = 1;
@@ -83,6 +84,12 @@ pub(crate) fn complain(what: &[u8]) -> u8 {
 // Why nothing is written: there is no such plan file. Standard output stays empty, since the next program would read a reason as a plan.
 pub(crate) fn nothing(why: &[u8]) -> u8 {
     say(why, b"", b"");
+    REFUSED
+}
+
+// Which file is refused, where there are several; its refusal has been written.
+pub(crate) fn refused_file(name: &[u8]) -> u8 {
+    say(b"refused: ", name, b"");
     REFUSED
 }
 

@@ -5,6 +5,7 @@ use super::dates::date;
 use super::dates::day;
 use super::dates::yearly_days;
 use super::miss::miss;
+use super::orders::same_strings;
 use super::quick::quick_verdict;
 use super::save::save;
 use super::say;
@@ -21,6 +22,8 @@ pub(crate) fn answer(command: &[u8]) -> u8 {
         miss(command)
     } else if same(first, b"show") {
         show(command)
+    } else if same(first, b"same") {
+        same_strings(command)
     } else if same(first, b"to-02") {
         turn(command, false, b"to-02 [FILE]")
     } else if same(first, b"to-01") {
@@ -62,6 +65,14 @@ fn help() -> u8 {
     let end = say::more(
         end,
         b"quick [FILE]            the quick verdict on the plan in FILE\n",
+    );
+    let end = say::more(
+        end,
+        b"same FILE FILE          whether two plans hold the same strings in another order: same and the place\n",
+    );
+    let end = say::more(
+        end,
+        b"                        in the second of each string of the first, or what differs\n",
     );
     let end = say::more(
         end,

@@ -1,4 +1,5 @@
 pub mod Pages
 pub mod Dates
 pub mod Shown
+pub mod Same
 pub mod inner

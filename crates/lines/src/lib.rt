@@ -2,6 +2,7 @@
 mod dates;
 mod pages;
 mod parts;
+mod same;
 mod shown;
 mod templates;
 
@@ -14,6 +15,9 @@ use parts::outcome_line;
 use parts::verdict_line;
 use rules::Answer;
 use rules::Verdict;
+pub use same::alone_line;
+pub use same::counts_line;
+pub use same::same_line;
 pub use shown::load_line;
 pub use shown::plan_line;
 pub use shown::release_line;

@@ -13,6 +13,7 @@ use Rattle.missed.specs.declared.Missed.{Missed}
 use Rattle.layouts.specs.declared.Version.{Version}
 use Rattle.writing.specs.declared.Saved.{Saved}
 use Rattle.tries.specs.declared.Shown.{Shown}
+use Rattle.matching.specs.declared.Matched.{Matched}
 use Rattle.days.proofs.Day.plus.Reads as Day-plus
 use Rattle.days.proofs.Day.since.Reads as Day-since
 use Rattle.days.proofs.Day.before.Reads as Day-before
@@ -73,6 +74,11 @@ use Rattle.lines.proofs.plan_line.Reads as plan-line
 use Rattle.lines.proofs.string_line.Reads as string-line
 use Rattle.lines.proofs.load_line.Reads as load-line
 use Rattle.lines.proofs.release_line.Reads as release-line
+use Rattle.lines.proofs.same_line.Reads as same-line
+use Rattle.lines.proofs.alone_line.Reads as alone-line
+use Rattle.lines.proofs.counts_line.Reads as counts-line
+use Rattle.matching.proofs.same_strings.Reads as same-strings
+use Rattle.matching.proofs.matched_line.Reads as matched-line
 use Rattle.showing.proofs.plan_shown.Reads as plan-shown
 use Rattle.showing.proofs.string_shown.Reads as string-shown
 use Rattle.showing.proofs.load_shown.Reads as load-shown
@@ -306,6 +312,22 @@ one-load-line κs a e f r s h k = h .0 ∙ sym (k .0)
 
 pub one-release-line : (κs : Lfts 0) (a : _) (e f : _) (r s : Page) → release-line.Learnt κs a r e → release-line.Learnt κs a s f → r ≡ s
 one-release-line κs a e f r s h k = h .0 ∙ sym (k .0)
+
+pub one-same-line : (κs : Lfts 0) (a : _) (e f : _) (r s : Page) → same-line.Learnt κs a r e → same-line.Learnt κs a s f → r ≡ s
+one-same-line κs a e f r s h k = h .0 ∙ sym (k .0)
+
+pub one-alone-line : (κs : Lfts 0) (a : _) (e f : _) (r s : Page) → alone-line.Learnt κs a r e → alone-line.Learnt κs a s f → r ≡ s
+one-alone-line κs a e f r s h k = h .0 ∙ sym (k .0)
+
+pub one-counts-line : (κs : Lfts 0) (a : _) (e f : _) (r s : Page) → counts-line.Learnt κs a r e → counts-line.Learnt κs a s f → r ≡ s
+one-counts-line κs a e f r s h k = h .0 ∙ sym (k .0)
+
+-- matching
+pub one-same-strings : (κs : Lfts 0) (a : _) (e f : _) (r s : Matched) → same-strings.Learnt κs a r e → same-strings.Learnt κs a s f → r ≡ s
+one-same-strings κs a e f r s h k = h ∙ sym k
+
+pub one-matched-line : (κs : Lfts 0) (a : _) (e f : _) (r s : Page) → matched-line.Learnt κs a r e → matched-line.Learnt κs a s f → r ≡ s
+one-matched-line κs a e f r s h k = h .0 ∙ sym (k .0)
 
 -- showing
 pub one-plan-shown : (κs : Lfts 0) (a : _) (e f : _) (r s : Page) → plan-shown.Learnt κs a r e → plan-shown.Learnt κs a s f → r ≡ s

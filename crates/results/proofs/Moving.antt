@@ -8,8 +8,8 @@ use native.Mathlib.Nat.{zero-add, add-left-comm, div-eq-of-lt, add-mul-div-left,
 use lib.Count.{ones-step}
 use Rattle.rules.specs.{declared.BatteryString.BatteryString, declared.Plan.Plan, Plan.stringsOf, Search.{permit, withSet}}
 use Rattle.demand.proofs.Sets.{permitted, withSet-strings}
-use Rattle.results.specs.Order.{Permuted, same, skip, swap, chain, Reordered, Partner}
-use Rattle.results.proofs.{Permuted.length-permuted, SameVerdict.same-verdict}
+use Rattle.results.specs.Order.{Permuted, same, skip, swap, chain, Reordered, CarriedSet}
+use Rattle.results.proofs.Permuted.{length-permuted}
 
 -- ---- The lowest digit
 
@@ -124,16 +124,16 @@ module _ (p q : Plan) (r : Reordered p q) where
   reordered-with : (m k : ℕ) → Permuted (permit m (stringsOf p)) (permit k (stringsOf q)) → Reordered (withSet p m) (withSet q k)
   unfolding withSet
   reordered-with m k move =
-      record { same-n = r .same-n; same-run = r .same-run; strings = rw (withSet-strings p m, withSet-strings q k) move }
+      record { same-n = r .same-n; strings = rw (withSet-strings p m, withSet-strings q k) move }
 
-  -- every set has a partner in the other order
-  pub partner : (m : ℕ) → m < 2 ^ p .n → Partner p q m
-  partner m h =
+  -- every set is carried along to the other order
+  pub carry-set : (m : ℕ) → m < 2 ^ p .n → CarriedSet p q m
+  carry-set m h =
       let there = moved (r .strings) (p .n) m (omega (arith, length-take (p .n) (p .strings))) h in
       let sets : 2 ^ q .n ≡ 2 ^ p .n = ap (λ n. 2 ^ n) (r .same-n) in
       record {
         set = there .number;
         below = omega (arith, there .below);
         as-many = there .as-many;
-        verdict = same-verdict (withSet p m) (withSet q (there .number)) (reordered-with m (there .number) (there .strings));
+        order = reordered-with m (there .number) (there .strings);
       }

@@ -1,7 +1,7 @@
--- What is the same of a list in another order: lengths, sums, extremes, and tests of all and of any. Each is by its first element and the
--- rest, and a swap of two neighbours leaves it as it was.
+-- What is the same of a list in another order: lengths, sums, counts, extremes, and tests of all and of any. Each is by its first element
+-- and the rest, and a swap of two neighbours leaves it as it was.
 use Rattle.base.proofs.Prelude.{ℕ, suc, _+_, min, max, _≡_, refl, ap, _∙_, Bool, true, false, cond, List, [], _∷_, arith, length}
-use Rattle.base.specs.Count.{All, sumOf, largest, smallest, smallestWith, every, any}
+use Rattle.base.specs.Count.{All, sumOf, largest, smallest, smallestWith, every, any, countOf}
 use Rattle.results.specs.Order.{Permuted, same, skip, swap, chain}
 
 -- ---- Two in either order
@@ -49,6 +49,13 @@ module _ {ℓ} {A : Type ℓ} where
   sumOf-permuted f (skip x r) = ap (λ n. f x + n) (sumOf-permuted f r)
   sumOf-permuted f (swap x y xs) = omega arith
   sumOf-permuted f (chain r s) = sumOf-permuted f s ∙ sumOf-permuted f r
+
+  pub countOf-permuted : (f : A → Bool) {xs ys : List A} → Permuted xs ys → countOf f ys ≡ countOf f xs
+  unfolding countOf
+  countOf-permuted f same = refl
+  countOf-permuted f (skip x r) = ap (λ n. cond (f x) 1 0 + n) (countOf-permuted f r)
+  countOf-permuted f (swap x y xs) = omega arith
+  countOf-permuted f (chain r s) = countOf-permuted f s ∙ countOf-permuted f r
 
   -- ---- Extremes
 

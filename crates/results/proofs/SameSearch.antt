@@ -1,13 +1,13 @@
--- The search in another order: it says "none" for both, or finds as many takers. A set that passes for one has a partner with as many ones
--- that passes for the other, so neither search can find fewer. The sets themselves may differ.
+-- The search in another order: it says "none" for both, or finds as many takers. A set that passes for one is carried along to one with as
+-- many ones that passes for the other, so neither search can find fewer. The sets themselves may differ.
 use Rattle.base.proofs.Prelude.{ℕ, _^_, _≤_, _<_, _≡_, refl, sym, ap, _∙_, _↔_, Option, none, some, arith, le-antisymm, ones}
 use Rattle.faults.specs.declared.Checked.the-variants.{Lawful}
 use Rattle.base.specs.Count.{firstOf}
-use Rattle.rules.specs.{declared.Plan.Plan, declared.Assign.the-variants.{Takers, Nobody}, Verdict.isPass, Search.{assigned, setPasses, ordered, searchOf}, Refusal.{planCheck, searchAnswer}}
+use Rattle.rules.specs.{declared.Plan.Plan, declared.Assign.the-variants.{Takers, Nobody}, Verdict.isPass, Search.{assigned, withSet, setPasses, ordered, searchOf}, Refusal.{planCheck, searchAnswer}}
 use Rattle.laws.proofs.Answers.{search-lawful}
 use Rattle.demand.proofs.Search.{search-passes, search-fewest, none-of-nobody, nobody-of-none}
 use Rattle.results.specs.Order.{Reordered, AsManyTakers, nobody-both, takers-both}
-use Rattle.results.proofs.{SameVerdict.{reordered-back, checked-reordered}, Moving.partner}
+use Rattle.results.proofs.{SameVerdict.{reordered-back, same-verdict}, Moving.carry-set}
 
 -- ---- What a search says
 
@@ -27,22 +27,24 @@ takers-said p m e = ap assigned e
 -- ---- From one order to the other
 
 module _ (p q : Plan) (r : Reordered p q) where
-  -- a set and its partner both pass, or both fail
-  partner-passes : (m : ℕ) (h : m < 2 ^ p .n) → setPasses q (partner p q r m h .set) ≡ setPasses p m
+  -- a set and the one it is carried to both pass, or both fail
+  carried-passes : (m : ℕ) (h : m < 2 ^ p .n) → setPasses q (carry-set p q r m h .set) ≡ setPasses p m
   unfolding setPasses
-  partner-passes m h = ap isPass (partner p q r m h .verdict)
+  carried-passes m h =
+      let there = carry-set p q r m h in
+      ap isPass (same-verdict (withSet p m) (withSet q (there .set)) (there .order))
 
   none-from-reordered : searchOf q ≡ Nobody → searchOf p ≡ Nobody
   none-from-reordered none-passes =
       nobody-of-none p (λ m h.
-      let there = partner p q r m h in
-      sym (partner-passes m h) ∙ none-of-nobody q none-passes (there .set) (there .below))
+      let there = carry-set p q r m h in
+      sym (carried-passes m h) ∙ none-of-nobody q none-passes (there .set) (there .below))
 
   no-more-takers : (m k : ℕ) → searchOf p ≡ Takers m → searchOf q ≡ Takers k → ones k ≤ ones m
   no-more-takers m k found other =
       let passes = search-passes p m found in
-      let there = partner p q r m (passes .1) in
-      let fewest = search-fewest q k other (there .set) (there .below) (partner-passes m (passes .1) ∙ passes .0) in
+      let there = carry-set p q r m (passes .1) in
+      let fewest = search-fewest q k other (there .set) (there .below) (carried-passes m (passes .1) ∙ passes .0) in
       omega (arith, there .as-many)
 
 -- ---- The same search
@@ -51,7 +53,7 @@ module _ (p q : Plan) (r : Reordered p q) where
   same-none : (searchOf p ≡ Nobody) ↔ (searchOf q ≡ Nobody)
   same-none = (none-from-reordered q p (reordered-back p q r), none-from-reordered p q r)
 
-  pub as-many-takers : (m k : ℕ) → searchOf p ≡ Takers m → searchOf q ≡ Takers k → ones k ≡ ones m
+  as-many-takers : (m k : ℕ) → searchOf p ≡ Takers m → searchOf q ≡ Takers k → ones k ≡ ones m
   as-many-takers m k found other =
       le-antisymm (no-more-takers p q r m k found other) (no-more-takers q p (reordered-back p q r) k m other found)
 
@@ -69,5 +71,5 @@ module _ (p q : Plan) (r : Reordered p q) where
           let other = takers-said q k f in
           rw (found, other) (takers-both m k (as-many-takers m k found other))
 
-  pub same-search-answer : planCheck p ≡ Lawful → AsManyTakers (searchAnswer p) (searchAnswer q)
-  same-search-answer ok = rw (search-lawful p ok, search-lawful q (checked-reordered p q r ok)) same-search
+  pub same-search-answer : planCheck p ≡ Lawful → planCheck q ≡ Lawful → AsManyTakers (searchAnswer p) (searchAnswer q)
+  same-search-answer ok also = rw (search-lawful p ok, search-lawful q also) same-search

@@ -15,12 +15,12 @@ use Rattle.results.specs.Order.{Reordered}
 use Rattle.results.proofs.Permuted.{permuted-back, all-permuted, sumOf-permuted, largest-permuted, smallest-permuted, every-permuted, any-permuted}
 
 pub reordered-back : (p q : Plan) → Reordered p q → Reordered q p
-reordered-back p q r = record { same-n = sym (r .same-n); same-run = sym (r .same-run); strings = permuted-back (r .strings) }
+reordered-back p q r = record { same-n = sym (r .same-n); strings = permuted-back (r .strings) }
 
 module _ (p q : Plan) (r : Reordered p q) where
   -- ---- H and the limits
 
-  same-multiple : multipleOf q ≡ multipleOf p
+  pub same-multiple : multipleOf q ≡ multipleOf p
   unfolding multipleOf commonMultiple
   same-multiple =
       let each : commonMultiple (stringsOf q) ≡ commonMultiple (stringsOf p) =
@@ -49,7 +49,7 @@ module _ (p q : Plan) (r : Reordered p q) where
   unfolding demand need holdOf movingCost
   same-demand l b = ap (λ n. b + n) (sumOf-permuted (need p l b) (r .strings))
 
-  same-load : load q ≡ load p
+  pub same-load : load q ≡ load p
   unfolding load holdOf movingCost
   same-load =
       ap (λ h. sumOf (λ (s : BatteryString). holdOf q s * (h / s .t .0)) (stringsOf q)) same-multiple
@@ -127,14 +127,14 @@ module _ (p q : Plan) (r : Reordered p q) where
 
   -- ---- Lawful, and the answers
 
-  lawful-reordered : LawfulPlan p → LawfulPlan q
-  lawful-reordered ok =
+  lawful-reordered : LawfulPlan p → q .run ≡ p .run → LawfulPlan q
+  lawful-reordered ok same-run =
       let low : multipleOf q ≤ 100000 = rw same-multiple (ok .hMax) in
       record {
         nPos = rw (r .same-n) (ok .nPos);
         nMax = rw (r .same-n) (ok .nMax);
-        runPos = rw (r .same-run) (ok .runPos);
-        runMax = rw (r .same-run) (ok .runMax);
+        runPos = rw same-run (ok .runPos);
+        runMax = rw same-run (ok .runMax);
         each = all-permuted LawfulString (r .strings) (ok .each);
         hPos = multipleOf-pos q;
         hMax = low;
@@ -142,24 +142,25 @@ module _ (p q : Plan) (r : Reordered p q) where
         hLeast = multipleOf-least q;
       }
 
-  pub checked-reordered : planCheck p ≡ Lawful → planCheck q ≡ Lawful
-  checked-reordered h = lawful-checked q (lawful-reordered (planCheck-lawful p h))
+  checked-reordered : q .run ≡ p .run → planCheck p ≡ Lawful → planCheck q ≡ Lawful
+  checked-reordered same-run h = lawful-checked q (lawful-reordered (planCheck-lawful p h) same-run)
 
-  module _ (ok : planCheck p ≡ Lawful) where
+  module _ (ok : planCheck p ≡ Lawful) (also : planCheck q ≡ Lawful) where
     pub same-answer : verdictAnswer q ≡ verdictAnswer p
-    same-answer = verdict-lawful q (checked-reordered ok) ∙ same-verdict ∙ sym (verdict-lawful p ok)
+    same-answer = verdict-lawful q also ∙ same-verdict ∙ sym (verdict-lawful p ok)
 
-    same-break-answer : breakAnswer q ≡ breakAnswer p
+    pub same-break-answer : breakAnswer q ≡ breakAnswer p
     same-break-answer =
         let found : firstBroken q (allPairs q) ≡ firstBroken p (allPairs p) = ap (firstBroken q) same-pairs ∙ same-first (allPairs p) in
-        break-lawful q (checked-reordered ok) ∙ ap brokenAt found ∙ sym (break-lawful p ok)
+        break-lawful q also ∙ ap brokenAt found ∙ sym (break-lawful p ok)
 
     pub same-quick-answer : quickAnswer q ≡ quickAnswer p
-    same-quick-answer = quick-lawful q (checked-reordered ok) ∙ same-quick ∙ sym (quick-lawful p ok)
+    same-quick-answer = quick-lawful q also ∙ same-quick ∙ sym (quick-lawful p ok)
 
 -- both ways
-passes-in-any-order : (p q : Plan) → Reordered p q → Passes p ↔ Passes q
+pub passes-in-any-order : (p q : Plan) → Reordered p q → Passes p ↔ Passes q
 passes-in-any-order p q r = (passes-reordered p q r, passes-reordered q p (reordered-back p q r))
 
-lawful-in-any-order : (p q : Plan) → Reordered p q → (planCheck p ≡ Lawful) ↔ (planCheck q ≡ Lawful)
-lawful-in-any-order p q r = (checked-reordered p q r, checked-reordered q p (reordered-back p q r))
+-- N plays no part in a verdict, but it has bounds of its own
+pub lawful-in-any-order : (p q : Plan) → Reordered p q → q .run ≡ p .run → (planCheck p ≡ Lawful) ↔ (planCheck q ≡ Lawful)
+lawful-in-any-order p q r same-run = (checked-reordered p q r same-run, checked-reordered q p (reordered-back p q r) (sym same-run))

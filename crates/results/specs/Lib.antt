@@ -1,4 +1,6 @@
 pub mod Order
+pub mod Places
+pub mod Partners
 pub mod Easing
 pub mod Permission
 pub mod Blockers

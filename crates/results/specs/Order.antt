@@ -1,17 +1,21 @@
--- Strings in another order (document 02, W-209): what it is for a plan to be another in a different order, and for two searches to agree.
+-- Strings in another order (document 02, W-209), as the theory needs it, and what it is for two searches to agree. The same by places, as a
+-- reader would say it, is in Places.
 --     Permuted xs ys        ys are the elements of xs in another order: neighbours have changed places, any number of times
---     Reordered p q         q has the strings of p in another order, each with its own permission, and the same N
---     Partner p q m         a set of q with as many takers as the set m of p, and the same verdict
+--     Reordered p q         q has the strings of p in another order, each with its own permission; N is each plan's own
+--     CarriedSet p q m      a set of q under which each string has the permission that the set m of p gives it, and so as many takers
+--     SameFault a b         the checks a and b both find nothing, or both find the same fault, perhaps at another place
 --     AsManyTakers a b      the searches a and b both say "none", or both find a set, with as many takers
 use Prim.Native.Nat.{ℕ, _^_, _<_}
 use mathlib.Core.Path.{_≡_}
 use mathlib.Core.List.{List, _∷_}
 use lib.Count.{ones}
+use Rattle.faults.specs.declared.Fault.{Fault}
+use Rattle.faults.specs.declared.Checked.{Checked}
+use Rattle.faults.specs.declared.Checked.the-variants.{Lawful, Refused}
 use Rattle.rules.specs.declared.Plan.{Plan}
 use Rattle.rules.specs.declared.Assign.{Assign}
 use Rattle.rules.specs.declared.Assign.the-variants.{Takers, Nobody}
 use Rattle.rules.specs.Plan.{stringsOf}
-use Rattle.rules.specs.Verdict.{verdictOf}
 use Rattle.rules.specs.Search.{withSet}
 
 module _ {ℓ} {A : Type ℓ} where
@@ -27,15 +31,18 @@ module _ {ℓ} {A : Type ℓ} where
 
 pub record Reordered (p q : Plan) : Type 0 where
   pub same-n : q .n ≡ p .n
-  pub same-run : q .run ≡ p .run
   pub strings : Permuted (stringsOf p) (stringsOf q)
 
-pub record Partner (p q : Plan) (m : ℕ) : Type 0 where
+pub record CarriedSet (p q : Plan) (m : ℕ) : Type 0 where
   pub set : ℕ
   pub below : set < 2 ^ q .n
   pub as-many : ones set ≡ ones m
-  pub verdict : verdictOf (withSet q set) ≡ verdictOf (withSet p m)
+  pub order : Reordered (withSet p m) (withSet q set)
 
 pub data AsManyTakers : Assign → Assign → Type 0 where
   nobody-both : AsManyTakers Nobody Nobody
   takers-both : (m k : ℕ) → ones k ≡ ones m → AsManyTakers (Takers m) (Takers k)
+
+pub data SameFault : Checked → Checked → Type 0 where
+  both-lawful : SameFault Lawful Lawful
+  both-refused : (f : Fault) (i j : ℕ) → SameFault (Refused f i) (Refused f j)

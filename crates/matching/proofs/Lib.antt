@@ -1,0 +1,3 @@
+pub mod LikeStrings
+pub mod Passed
+pub mod SaysSame
