@@ -4,7 +4,7 @@
 --     AnotherOrder xs ys    ys are the strings of xs in another order: `to` says at which place of ys the string at a place of xs stands,
 --                           `from` says it the other way, and each undoes the other: a bijection of the places
 --     InAnotherOrder p q    the plan q has the strings of p in another order, each with its own permission; N is each plan's own
---     placeGiven ps i          the i-th of a list of places, from 1
+--     placeGiven ps i       the i-th of a list of places, from 1
 --     TakesTo xs ys ps      the same order as a list: the i-th of ps is a place of ys, its own, at which the string at place i of xs stands
 --     SmallestTo xs ys ps   ps is the smallest such list: where another first differs from it, the other has the larger place
 use Prim.Native.Nat.{ℕ, _-_, _≤_, _<_}

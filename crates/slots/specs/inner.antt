@@ -1,4 +1,4 @@
--- What loops remember and private contracts say, for the proofs inside: nobody has to believe it, and no promise of a public function
--- speaks of it.
+-- What the proofs of a day's steps say of slots. Of public contracts only that of `chosen_place`, which crate run calls, speaks of it: by
+-- `chosenFor`, which says each question in the page's own tests.
 pub mod Job
 pub mod Question
