@@ -16,10 +16,10 @@ use Rattle.matching.specs.{declared.Matching.the-variants.{Same, Alone, 
 -- ---- The strings that count
 
 module _ (p : Plan) (n : ℕ) (counted : n ≡ min (p .n) 10) (ten : length (p .strings) ≡ 10) where
-  pub counted-strings : take n (p .strings) ≡ stringsOf p
+  counted-strings : take n (p .strings) ≡ stringsOf p
   counted-strings = ap (λ k. take k (p .strings)) counted ∙ take-min (p .n) 10 (p .strings) ten
 
-  pub counted-length : length (stringsOf p) ≡ n
+  counted-length : length (stringsOf p) ≡ n
   counted-length = omega (arith, counted, ten, length-take (p .n) (p .strings))
 
 -- ---- The partner of the string at i, of arrays of which the first n count
@@ -88,30 +88,46 @@ module _ (xs ys : List BatteryString) where
         let whole : n - 0 ≡ length xs = omega arith in
         rw whole refl
 
--- ---- The answers
+-- ---- The answers, of arrays of ten of which the first n and the first m count
 
-module _ (p q : Plan) (n m : ℕ) (first : length (stringsOf p) ≡ n) (second : length (stringsOf q) ≡ m) where
+module _ (p q : Plan) (n m : ℕ) (few : n ≡ min (p .n) 10) (other-few : m ≡ min (q .n) 10)
+    (ten : length (p .strings) ≡ 10) (other-ten : length (q .strings) ≡ 10) where
+  first : length (stringsOf p) ≡ n
+  first = counted-length p n few ten
+
+  second : length (stringsOf q) ≡ m
+  second = counted-length q m other-few other-ten
+
   pub told-counts : (n ≡ m → ⊥) → noPlaces (Counts n m) ≡ matchedOf (stringsOf p) (stringsOf q)
   unfolding matchedOf
   told-counts differ = rw (first, second, ne-eqb n m differ)
 
-  told-by : (o : Option ℕ) → n ≡ m → firstAlone (stringsOf p) (stringsOf q) ≡ o
-      → toldBy o (stringsOf p) (stringsOf q) ≡ matchedOf (stringsOf p) (stringsOf q)
-  unfolding matchedOf
-  told-by o same e = rw (first, second, eq-eqb n m same) (ap (λ o. toldBy o (stringsOf p) (stringsOf q)) (sym e))
+  module _ (same : n ≡ m) where
+    firsts : take n (p .strings) ≡ stringsOf p
+    firsts = counted-strings p n few ten
 
-  -- one is alone among the strings that count
-  pub told-alone : (i : ℕ) → n ≡ m → take n (p .strings) ≡ stringsOf p → take n (q .strings) ≡ stringsOf q
-      → firstAlone (take n (p .strings)) (take n (q .strings)) ≡ some i → noPlaces (Alone i) ≡ matchedOf (stringsOf p) (stringsOf q)
-  told-alone i same firsts seconds alone = told-by (some i) same (ap₂ firstAlone (sym firsts) (sym seconds) ∙ alone)
+    seconds : take n (q .strings) ≡ stringsOf q
+    seconds = counted-strings q n (same ∙ other-few) other-ten
 
-  -- all are passed
-  pub told-same : (places : List ℕ) → n ≡ m → take n (p .strings) ≡ stringsOf p → take n (q .strings) ≡ stringsOf q
-      → firstAlone (take n (p .strings)) (take n (q .strings)) ≡ none → places ≡ placesTo (take n (p .strings)) (take n (q .strings)) n
-      → record { matching = Same n; places = places } ≡ matchedOf (stringsOf p) (stringsOf q)
-  unfolding partners
-  told-same places same firsts seconds gone found =
-      let all : places ≡ placesTo (stringsOf p) (stringsOf q) n = found ∙ ap₂ (λ xs ys. placesTo xs ys n) firsts seconds in
-      ap₂ (λ k places. record { matching = Same k; places = places }) (sym first)
-      (all ∙ ap (placesTo (stringsOf p) (stringsOf q)) (sym first))
-      ∙ told-by none same (ap₂ firstAlone (sym firsts) (sym seconds) ∙ gone)
+    told-by : (o : Option ℕ) → firstAlone (take n (p .strings)) (take n (q .strings)) ≡ o
+        → toldBy o (stringsOf p) (stringsOf q) ≡ matchedOf (stringsOf p) (stringsOf q)
+    unfolding matchedOf
+    told-by o e =
+        rw (first, second, eq-eqb n m same)
+        (ap (λ o. toldBy o (stringsOf p) (stringsOf q)) (sym e ∙ ap₂ firstAlone firsts seconds))
+
+    -- one is alone among the strings that count
+    pub told-alone : (i : ℕ) → firstAlone (take n (p .strings)) (take n (q .strings)) ≡ some i
+        → noPlaces (Alone i) ≡ matchedOf (stringsOf p) (stringsOf q)
+    told-alone i alone = told-by (some i) alone
+
+    -- all are passed
+    pub told-same : (places : List ℕ) → firstAlone (take n (p .strings)) (take n (q .strings)) ≡ none
+        → places ≡ placesTo (take n (p .strings)) (take n (q .strings)) n
+        → record { matching = Same n; places = places } ≡ matchedOf (stringsOf p) (stringsOf q)
+    unfolding partners
+    told-same places gone found =
+        let all : places ≡ placesTo (stringsOf p) (stringsOf q) n = found ∙ ap₂ (λ xs ys. placesTo xs ys n) firsts seconds in
+        ap₂ (λ k places. record { matching = Same k; places = places }) (sym first)
+        (all ∙ ap (placesTo (stringsOf p) (stringsOf q)) (sym first))
+        ∙ told-by none gone

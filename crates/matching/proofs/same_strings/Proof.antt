@@ -5,7 +5,7 @@ use mathlib.Core.Path.{ap₂}
 use Rattle.rules.specs.Plan.{stringsOf, noString}
 use Rattle.base.specs.Count.{upFrom}
 use Rattle.results.specs.Partners.{placesLike, partner, firstAlone}
-use Rattle.matching.proofs.{Passed.{placesTo, aloneFrom, partner-in-row, places-more, alone-here, alone-later, alone-end, alone-all, counted-strings, counted-length, told-counts, told-alone, told-same}, same_strings.Statement.statement}
+use Rattle.matching.proofs.{Passed.{placesTo, aloneFrom, partner-in-row, places-more, alone-here, alone-later, alone-end, alone-all, told-counts, told-alone, told-same}, same_strings.Statement.statement}
 use Rattle.matching.proofs.same_strings.Tie as tie
 
 abbrev Inv-loop : tie.InvT-loop
@@ -35,9 +35,8 @@ returns c =
     let start = both .before .before in
     let p = start .args .p in
     let q = start .args .q in
-    let first = counted-length p _ (both .before .counted .ensures) (ten start) in
-    let second = counted-length q _ (both .counted2 .ensures) (other-ten start) in
-    c .unmatched .ensures ∙ told-counts p q _ _ first second (c .before .if1 .taken)
+    c .unmatched .ensures
+    ∙ told-counts p q _ _ (both .before .counted .ensures) (both .counted2 .ensures) (ten start) (other-ten start) (c .before .if1 .taken)
 
 loop-holds : tie.Need-loop-holds Inv-loop μ-loop
 unfolding upFrom
@@ -83,14 +82,12 @@ returns-2 c =
     let q = start .args .q in
     let n = both .before .counted .result in
     let same : n ≡ both .counted2 .result = omega (arith, at .before .before .before .if1 .left) in
-    let firsts = counted-strings p n (both .before .counted .ensures) (ten start) in
-    let seconds = counted-strings q n (same ∙ both .counted2 .ensures) (other-ten start) in
-    let first = counted-length p n (both .before .counted .ensures) (ten start) in
-    let second = counted-length q _ (both .counted2 .ensures) (other-ten start) in
     let gone = sym (place-is found) ∙ c .before .if2 .taken in
     let alone : firstAlone (take n (p .strings)) (take n (q .strings)) ≡ some (at .loop .i + 1) =
     sym (at .loop .inv .left) ∙ alone-here (take n (p .strings)) (take n (q .strings)) n (at .loop .i) (omega arith) gone in
-    c .unmatched2 .ensures ∙ told-alone p q n _ first second (at .loop .i + 1) same firsts seconds alone
+    c .unmatched2 .ensures
+    ∙ told-alone p q n _ (both .before .counted .ensures) (both .counted2 .ensures) (ten start) (other-ten start) same
+    (at .loop .i + 1) alone
 
 loop-again : tie.Need-loop-again Inv-loop μ-loop
 loop-again c =
@@ -122,15 +119,12 @@ returns-3 c =
     let q = start .args .q in
     let n = both .before .counted .result in
     let same : n ≡ both .counted2 .result = omega (arith, at .before .before .before .if1 .left) in
-    let firsts = counted-strings p n (both .before .counted .ensures) (ten start) in
-    let seconds = counted-strings q n (same ∙ both .counted2 .ensures) (other-ten start) in
-    let first = counted-length p n (both .before .counted .ensures) (ten start) in
-    let second = counted-length q _ (both .counted2 .ensures) (other-ten start) in
     let all : at .loop .i ≡ n = omega (arith, at .loop .inv .upto) in
     let xs = take n (p .strings) in
     let ys = take n (q .strings) in
     let gone : firstAlone xs ys ≡ none = sym (at .loop .inv .left) ∙ alone-end xs ys n (at .loop .i) (c .loop-test .left) in
-    told-same p q n _ first second (at .loop .places) same firsts seconds gone (at .loop .inv .found ∙ ap (placesTo xs ys) all)
+    told-same p q n _ (both .before .counted .ensures) (both .counted2 .ensures) (ten start) (other-ten start) same (at .loop .places) gone
+    (at .loop .inv .found ∙ ap (placesTo xs ys) all)
 
 pub same-strings-spec : {M : Type 1} → statement M
 same-strings-spec =
