@@ -1,8 +1,8 @@
 -- `put_text` meets its contract: the page holds the text up to the place, and its own bytes behind it.
 use Rattle.base.proofs.Prelude.{_-_, _≤_, _≡_, _∙_, arith, length}
 use lib.Seq.{paste, paste-zero}
-use Rattle.entries.proofs.{Telling.{no-room, room, copied-length, copied-more, copied-all}, told.put_text.Statement.statement}
-use Rattle.entries.proofs.told.put_text.Tie as tie
+use Rattle.lines.proofs.{Putting.{no-room, room, copied-length, copied-more, copied-all}, pages.put_text.Statement.statement}
+use Rattle.lines.proofs.pages.put_text.Tie as tie
 
 abbrev Inv-loop : tie.InvT-loop
 Inv-loop text page₀ i₀ page i = (i ≤ length text) × (page ≡ paste page₀ 0 text i)
