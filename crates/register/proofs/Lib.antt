@@ -9,3 +9,6 @@ pub mod Taking
 pub mod Reading
 pub mod RowTexts
 pub mod Exporting
+pub mod Joined
+pub mod RowBack
+pub mod BothWays

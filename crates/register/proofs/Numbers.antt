@@ -9,7 +9,7 @@ abbrev pub Plain : List (List ℕ) → Type 0
 Plain fields = All (λ f. plainNumber f ≡ true) fields
 
 -- there is always a field
-fields-some : (xs : List ℕ) → 1 ≤ length (fieldsOf xs)
+pub fields-some : (xs : List ℕ) → 1 ≤ length (fieldsOf xs)
 unfolding fieldsOf inFront
 fields-some [] = omega arith
 fields-some (b ∷ xs) = by-bool (eqb b comma) (λ t. rw t (omega arith)) (λ e. rw e (front (fieldsOf xs)))

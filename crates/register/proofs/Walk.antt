@@ -3,10 +3,9 @@
 use Rattle.base.proofs.Prelude.{ℕ, zero, suc, _+_, _-_, _≤_, _<_, _≡_, refl, sym, ap, _∙_, true, false, cond, List, [], _∷_, _++_, arith, add-one, decLe, lt-ltb, le-ltb, ltb, length, take, drop, length-drop, length-take-le, drop-of-length-le, drop-drop, take-all, le-refl, take-suc, take-append-drop}
 use denote.Enum.Declared.{tagOf}
 use types.Run.{OneOf, miss}
-use Rattle.base.specs.Count.{sumOf}
 use Rattle.base.proofs.Lists.{by-bool}
 use Rattle.rules.specs.{declared.BatteryString.BatteryString, Text.{Line, linesOf}}
-use Rattle.register.specs.{declared.Row.Row, declared.Row.the-variants.{End, Malformed, Says}, Table.{rowFormed, rowString}, Reader.{lineLong, rowGiven, rowAt, startOf}, inner.Fields.bytesAhead}
+use Rattle.register.specs.{declared.Row.Row, declared.Row.the-variants.{End, Malformed, Says}, Table.{rowFormed, rowString}, Reader.{lineLong, rowGiven, rowAt, nextOf, asked, rowsGiven}, inner.Fields.bytesAhead}
 use Rattle.register.proofs.Row.{the-type}
 use Rattle.register.proofs.Splitting.{ahead-within, lines-open, lines-closed}
 
@@ -114,3 +113,46 @@ module _ (text : List ℕ) (at : ℕ) (inside : at < length text) where
     where
       no-says : (r : Row) (s : BatteryString) (next : ℕ) → r ≡ Says s next → OneOf (0 ∷ (1 ∷ [])) (tagOf the-type r) → ⊥
       no-says r s next e h = miss (0 ∷ (1 ∷ [])) 2 tt (rw e at h)
+
+-- ---- Line after line
+
+module _ (text : List ℕ) (at : ℕ) where
+  -- a place at which a line starts lies in the text
+  starts-inside : 1 ≤ length (linesOf (drop at text)) → at < length text
+  unfolding linesOf
+  starts-inside some =
+      elim (decLe (suc at) (length text)) [
+        | yes inside ↦ inside
+        | no past ↦
+            let over : length text ≤ at = omega arith in
+            absurd (omega (arith, ap (λ xs. length (linesOf xs)) (drop-of-length-le text over)))
+      ]
+
+  goes-on : (inside : at < length text) → nextOf (rowAt text at) at ≡ at + lineLong (firstLine (drop at text))
+  goes-on inside =
+      let line = firstLine (drop at text) in
+      by-bool (rowFormed line) (λ t. rw (given-is text at inside, t)) (λ e. rw (given-is text at inside, e))
+
+  ended-here : (lines : List Line) → 0 ≡ length lines → rowGiven lines at ∷ [] ≡ rowsGiven lines at ++ (End ∷ [])
+  unfolding rowsGiven rowGiven
+  ended-here [] h = refl
+  ended-here (line ∷ lines) h = absurd (omega arith)
+
+-- from a place on
+asked-lines : (k : ℕ) (text : List ℕ) (at : ℕ) → k ≡ length (linesOf (drop at text))
+    → asked (suc k) text at ≡ rowsGiven (linesOf (drop at text)) at ++ (End ∷ [])
+unfolding asked rowsGiven rowAt
+asked-lines zero text at h = ended-here text at (linesOf (drop at text)) h
+asked-lines (suc k) text at h =
+    let inside = starts-inside text at (omega arith) in
+    let line = firstLine (drop at text) in
+    let next = at + lineLong line in
+    let lines = next-lines text at inside in
+    let more : k ≡ length (linesOf (drop next text)) = omega (arith, ap length lines) in
+    ap (λ place. rowGiven (linesOf (drop at text)) at ∷ asked (suc k) text place) (goes-on text at inside)
+    ∙ ap (λ rest. rowGiven (linesOf (drop at text)) at ∷ rest) (asked-lines k text next more)
+    ∙ rw lines
+
+-- in order, and to the end
+pub lines-in-order : (text : List ℕ) → asked (suc (length (linesOf text))) text 0 ≡ rowsGiven (linesOf text) 0 ++ (End ∷ [])
+lines-in-order text = asked-lines (length (linesOf text)) text 0 refl

@@ -3,13 +3,13 @@
 --     rowGiven lines at     what is given of the first of lines that start at the place `at`: the string that it says, or that it is no
 --                           row, each with the place at which the next line starts; or that the lines have ended
 --     rowAt text at         what a reader gives that stands at the place `at` of a text
---     startOf lines k       the place at which line k starts, counted from 0
+--     asked k text at       what a reader gives that is asked k times from the place `at` on, and moves on each time
+--     rowsGiven lines at    what is given of each of lines that start at the place `at`
 --     rowSays row           what is given, in numbers: T, C, D, X, the moving cost; 13 for a line that is no row; with the next place
-use Prim.Native.Nat.{ℕ, _+_}
+use Prim.Native.Nat.{ℕ, zero, suc, _+_}
 use mathlib.Core.Bool.{cond}
 use mathlib.Core.List.{List, [], _∷_}
-use lib.ListN.{length, take, drop}
-use Rattle.base.specs.Count.{sumOf}
+use lib.ListN.{length, drop}
 use Rattle.faults.specs.declared.Fault.the-variants.{RowMalformed}
 use Rattle.faults.specs.Checks.{faultNumber}
 use Rattle.rules.specs.Text.{Line, linesOf}
@@ -29,8 +29,21 @@ rowGiven (line ∷ lines) at =
 unfoldable pub rowAt : List ℕ → ℕ → Row
 rowAt text at = rowGiven (linesOf (drop at text)) at
 
-unfoldable pub startOf : List Line → ℕ → ℕ
-startOf lines k = sumOf lineLong (take k lines)
+-- ---- Line after line
+
+-- where the reader goes on
+abbrev pub nextOf : Row → ℕ → ℕ
+nextOf End at = at
+nextOf (Malformed next) at = next
+nextOf (Says s next) at = next
+
+unfoldable pub asked : ℕ → List ℕ → ℕ → List Row
+asked zero text at = []
+asked (suc k) text at = rowAt text at ∷ asked k text (nextOf (rowAt text at) at)
+
+unfoldable pub rowsGiven : List Line → ℕ → List Row
+rowsGiven [] at = []
+rowsGiven (line ∷ lines) at = rowGiven (line ∷ lines) at ∷ rowsGiven lines (at + lineLong line)
 
 -- ---- In numbers
 
