@@ -1,6 +1,9 @@
 // A plan file in, its answer out: the refusal, or verdict, search and run.
+mod three;
+
 use faults::Checked;
 use rules::Answer;
+use three::three_given;
 ghost use mathlib.Core.Path.{_≡_};
 ghost use Rattle.rules.specs.Answer.{answerOf};
 
@@ -14,11 +17,11 @@ pub fn answer(text: &[u8]) -> Answer
     let plan = reading.plan;
     let releases = reading.releases;
     match checked {
-        Checked::Lawful => Answer::Answered {
-            verdict: verdict::verdict(plan),
-            assign: verdict::search(plan),
-            outcome: run::run(plan, releases),
-        },
+        Checked::Lawful => three_given(
+            verdict::verdict(plan),
+            verdict::search(plan),
+            run::run(plan, releases),
+        ),
         Checked::Refused { fault, at } => Answer::Refused { fault, at },
     }
 }

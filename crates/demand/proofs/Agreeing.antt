@@ -1,12 +1,12 @@
 -- The quick verdict agrees with the full one apart from its count of pairs: the first pair that is broken is one at which a count grows, so
 -- both find it. Only that each string is lawful is used: the strings may be any number, H and N any numbers.
 use Rattle.base.proofs.Prelude.{ℕ, _≡_, refl, sym, ap, _∙_, true, List, Option, none, some, length}
-use Rattle.rules.specs.{declared.Plan.Plan, declared.Verdict.Verdict, declared.Verdict.the-variants.{Refused, Overload, Fail, Pass}, Plan.{stringsOf, dMin}, Demand.{blockLimit, overloaded}, Verdict.{Pair, allPairs, broken, firstBroken, compared, judged, verdictOf, verdictOver, isPass}, Search.withSet, Refusal.{planCheck, setCheck, onVerdict, verdictAnswer, setAnswer}}
+use Rattle.rules.specs.{declared.Plan.Plan, declared.Verdict.Verdict, declared.Verdict.the-variants.{Overload, Fail, Pass}, declared.AskedVerdict.the-variants.Given, Plan.{stringsOf, dMin}, Demand.{blockLimit, overloaded}, Verdict.{Pair, allPairs, broken, firstBroken, compared, judged, verdictOf, verdictOver, isPass}, Search.withSet, Refusal.{planCheck, setCheck, onVerdict, verdictAnswer, setAnswer}}
 use Rattle.faults.specs.declared.Checked.{Checked}
 use Rattle.base.proofs.{Lists.{All, by-bool}, FirstOf.firstOf-keep}
 use Rattle.laws.proofs.{Lawful.{LawfulString, planCheck-lawful}, Answers.set-plan}
 use Rattle.demand.proofs.{Verdict.firstBroken-names, Sets.withSet-lawful}
-use Rattle.demand.specs.Quick.{grows, quickPairs, quickOf, quickAnswer, quickSetAnswer, apartFromPairs}
+use Rattle.demand.specs.Quick.{grows, quickPairs, quickOf, quickAnswer, quickSetAnswer, apartFromPairs, askedApart}
 use Rattle.demand.proofs.{Counts.early-no-jobs, Growing.first-grows, BlockingLimit.limit-fits}
 use Rattle.faults.specs.declared.Checked.the-variants as checked
 
@@ -44,7 +44,6 @@ quick-agrees p each = verdictOver-apart p (quickPairs p) (allPairs p) (same-brea
 -- whether it is a pass does not depend on the count
 isPass-apart : (v : Verdict) → isPass (apartFromPairs v) ≡ isPass v
 unfolding apartFromPairs isPass
-isPass-apart (Refused f at) = refl
 isPass-apart Overload = refl
 isPass-apart (Fail l b d k) = refl
 isPass-apart (Pass k) = refl
@@ -57,15 +56,15 @@ quick-passes p each = sym (isPass-apart (quickOf p)) ∙ ap isPass (quick-agrees
 
 answers-apart :
     (c : Checked) (v w : Verdict) → (c ≡ checked.Lawful → apartFromPairs v ≡ apartFromPairs w)
-    → apartFromPairs (onVerdict c v) ≡ apartFromPairs (onVerdict c w)
-answers-apart checked.Lawful v w same = same refl
+    → askedApart (onVerdict c v) ≡ askedApart (onVerdict c w)
+answers-apart checked.Lawful v w same = ap Given (same refl)
 answers-apart (checked.Refused f at) v w same = refl
 
-pub quick-answer-agrees : (p : Plan) → apartFromPairs (quickAnswer p) ≡ apartFromPairs (verdictAnswer p)
+pub quick-answer-agrees : (p : Plan) → askedApart (quickAnswer p) ≡ askedApart (verdictAnswer p)
 unfolding quickAnswer verdictAnswer
 quick-answer-agrees p = answers-apart (planCheck p) (quickOf p) (verdictOf p) (λ h. quick-agrees p (planCheck-lawful p h .each))
 
-pub quick-set-answer-agrees : (p : Plan) (m : ℕ) → apartFromPairs (quickSetAnswer p m) ≡ apartFromPairs (setAnswer p m)
+pub quick-set-answer-agrees : (p : Plan) (m : ℕ) → askedApart (quickSetAnswer p m) ≡ askedApart (setAnswer p m)
 unfolding quickSetAnswer setAnswer
 quick-set-answer-agrees p m =
     answers-apart (setCheck p m) (quickOf (withSet p m)) (verdictOf (withSet p m)) (λ h.

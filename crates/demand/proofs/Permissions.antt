@@ -2,7 +2,7 @@
 use Rattle.base.proofs.Prelude.{ℕ, _/_, _%_, _≡_, refl, sym, ap, _∙_, List, [], _∷_}
 use Rattle.base.specs.Count.{firstOf}
 use Rattle.faults.specs.declared.Checked.the-variants.{Lawful}
-use Rattle.rules.specs.{declared.BatteryString.BatteryString, declared.Plan.Plan, Verdict.{verdictOf, isPass}, Search.{permit, withSet, setPasses, ordered, assigned, firstPassing, searchOf}, Refusal.{planCheck, setCheck, verdictAnswer, setAnswer, searchAnswer}}
+use Rattle.rules.specs.{declared.BatteryString.BatteryString, declared.Plan.Plan, declared.AskedAssign.the-variants.Given, Verdict.{verdictOf, isPass}, Search.{permit, withSet, setPasses, ordered, assigned, firstPassing, searchOf}, Refusal.{planCheck, setCheck, verdictAnswer, setAnswer, searchAnswer}}
 use Rattle.laws.proofs.{Lawful.planCheck-lawful, LawfulChecked.lawful-checked, Answers.{verdict-lawful, set-lawful, set-plan, search-lawful}}
 use Rattle.demand.proofs.Sets.{withSet-lawful}
 
@@ -39,7 +39,7 @@ same-search p q h =
 -- plans that differ in X alone, each within its bounds, are answered alike
 pub search-blind-to-x : (p q : Plan) → planCheck p ≡ Lawful → planCheck q ≡ Lawful → withSet p 0 ≡ withSet q 0
     → searchAnswer p ≡ searchAnswer q
-search-blind-to-x p q okP okQ h = search-lawful p okP ∙ same-search p q h ∙ sym (search-lawful q okQ)
+search-blind-to-x p q okP okQ h = search-lawful p okP ∙ ap Given (same-search p q h) ∙ sym (search-lawful q okQ)
 
 -- ---- The verdict with a set
 

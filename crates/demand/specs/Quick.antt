@@ -8,6 +8,7 @@
 --     quickAnswer p, quickSetAnswer p m
 --                           what the entries answer, with the plan's permissions and with a set; refusals as the verdict's
 --     apartFromPairs v      the verdict v without its count of pairs
+--     askedApart v          what is answered where a verdict is asked for, without the count: the refusal, or the verdict
 use Prim.Native.Nat.{ℕ, _-_}
 use mathlib.Core.Bool.{Bool, cond}
 use mathlib.Core.List.{List}
@@ -15,7 +16,9 @@ use lib.Dec.{ltb, eqb}
 use Rattle.rules.specs.declared.BatteryString.{BatteryString}
 use Rattle.rules.specs.declared.Plan.{Plan}
 use Rattle.rules.specs.declared.Verdict.{Verdict}
-use Rattle.rules.specs.declared.Verdict.the-variants.{Refused, Overload, Fail, Pass}
+use Rattle.rules.specs.declared.Verdict.the-variants.{Overload, Fail, Pass}
+use Rattle.rules.specs.declared.AskedVerdict.{AskedVerdict}
+use Rattle.rules.specs.declared.AskedVerdict.the-variants.{Refused, Given}
 use Rattle.base.specs.Count.{any, keep}
 use Rattle.rules.specs.Plan.{stringsOf}
 use Rattle.rules.specs.Demand.{jobs}
@@ -39,18 +42,21 @@ quickPairs p = keep (grows p) (allPairs p)
 abbrev pub quickOf : Plan → Verdict
 quickOf p = verdictOver p (quickPairs p)
 
-unfoldable pub quickAnswer : Plan → Verdict
+unfoldable pub quickAnswer : Plan → AskedVerdict
 quickAnswer p =
     let v = quickOf p in
     onVerdict (planCheck p) v
 
-unfoldable pub quickSetAnswer : Plan → ℕ → Verdict
+unfoldable pub quickSetAnswer : Plan → ℕ → AskedVerdict
 quickSetAnswer p m =
     let v = quickOf (withSet p m) in
     onVerdict (setCheck p m) v
 
 unfoldable pub apartFromPairs : Verdict → Verdict
-apartFromPairs (Refused f at) = Refused f at
 apartFromPairs Overload = Overload
 apartFromPairs (Fail l b d k) = Fail l b d 0
 apartFromPairs (Pass k) = Pass 0
+
+abbrev pub askedApart : AskedVerdict → AskedVerdict
+askedApart (Refused f at) = Refused f at
+askedApart (Given v) = Given (apartFromPairs v)

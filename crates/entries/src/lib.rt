@@ -22,7 +22,7 @@ ghost use Prim.Native.Nat.{_≤_};
 ghost use lib.ListN.{length};
 ghost use Rattle.rules.specs.Plan.{multipleOf};
 ghost use Rattle.rules.specs.Refusal.{planCheck, verdictAnswer, setAnswer, searchAnswer, runAnswer};
-ghost use Rattle.rules.specs.Said.{checkedSays, verdictSays, assignSays, outcomeSays};
+ghost use Rattle.rules.specs.Said.{checkedSays, askedVerdictSays, askedAssignSays, askedOutcomeSays};
 ghost use Rattle.rules.specs.Answer.{answerOf};
 ghost use Rattle.rules.specs.Lines.{linesFor};
 ghost use Rattle.demand.specs.Quick.{quickAnswer};
@@ -54,8 +54,8 @@ pub extern "C" fn desk_multiple(plan: &[u32]) -> u32
 // The verdict on a plan with the permissions it carries.
 #[no_mangle]
 pub extern "C" fn desk_verdict(plan: &[u32], out: &mut [u64]) -> u32
-    ensures exact { λ r. ⌜ r ≡ kindTold (rowOf (verdictSays (verdictAnswer (planGiven (now (plan .entry)))))) (now (out .entry)) ⌝ }
-    ensures out { λ r. ⌜ now (out .exit) ≡ placesTold (rowOf (verdictSays (verdictAnswer (planGiven (now (plan .entry))))))
+    ensures exact { λ r. ⌜ r ≡ kindTold (rowOf (askedVerdictSays (verdictAnswer (planGiven (now (plan .entry)))))) (now (out .entry)) ⌝ }
+    ensures out { λ r. ⌜ now (out .exit) ≡ placesTold (rowOf (askedVerdictSays (verdictAnswer (planGiven (now (plan .entry))))))
         (now (out .entry)) ⌝ }
     ensures kept { λ r. ⌜ now (plan .exit) ≡ now (plan .entry) ⌝ }
 {
@@ -65,8 +65,8 @@ pub extern "C" fn desk_verdict(plan: &[u32], out: &mut [u64]) -> u32
 // The verdict on a plan with the permission set given.
 #[no_mangle]
 pub extern "C" fn desk_verdict_with(plan: &[u32], set: u32, out: &mut [u64]) -> u32
-    ensures exact { λ r. ⌜ r ≡ kindTold (rowOf (verdictSays (setAnswer (planGiven (now (plan .entry))) set))) (now (out .entry)) ⌝ }
-    ensures out { λ r. ⌜ now (out .exit) ≡ placesTold (rowOf (verdictSays (setAnswer (planGiven (now (plan .entry))) set)))
+    ensures exact { λ r. ⌜ r ≡ kindTold (rowOf (askedVerdictSays (setAnswer (planGiven (now (plan .entry))) set))) (now (out .entry)) ⌝ }
+    ensures out { λ r. ⌜ now (out .exit) ≡ placesTold (rowOf (askedVerdictSays (setAnswer (planGiven (now (plan .entry))) set)))
         (now (out .entry)) ⌝ }
     ensures kept { λ r. ⌜ now (plan .exit) ≡ now (plan .entry) ⌝ }
 {
@@ -79,8 +79,8 @@ pub extern "C" fn desk_verdict_with(plan: &[u32], set: u32, out: &mut [u64]) -> 
 // The quick verdict on a plan with the permissions it carries.
 #[no_mangle]
 pub extern "C" fn desk_quick(plan: &[u32], out: &mut [u64]) -> u32
-    ensures exact { λ r. ⌜ r ≡ kindTold (rowOf (verdictSays (quickAnswer (planGiven (now (plan .entry)))))) (now (out .entry)) ⌝ }
-    ensures out { λ r. ⌜ now (out .exit) ≡ placesTold (rowOf (verdictSays (quickAnswer (planGiven (now (plan .entry))))))
+    ensures exact { λ r. ⌜ r ≡ kindTold (rowOf (askedVerdictSays (quickAnswer (planGiven (now (plan .entry)))))) (now (out .entry)) ⌝ }
+    ensures out { λ r. ⌜ now (out .exit) ≡ placesTold (rowOf (askedVerdictSays (quickAnswer (planGiven (now (plan .entry))))))
         (now (out .entry)) ⌝ }
     ensures kept { λ r. ⌜ now (plan .exit) ≡ now (plan .entry) ⌝ }
 {
@@ -90,8 +90,8 @@ pub extern "C" fn desk_quick(plan: &[u32], out: &mut [u64]) -> u32
 // The passing set with the fewest takers, among equals the smallest number.
 #[no_mangle]
 pub extern "C" fn desk_search(plan: &[u32], out: &mut [u64]) -> u32
-    ensures exact { λ r. ⌜ r ≡ kindTold (rowOf (assignSays (searchAnswer (planGiven (now (plan .entry)))))) (now (out .entry)) ⌝ }
-    ensures out { λ r. ⌜ now (out .exit) ≡ placesTold (rowOf (assignSays (searchAnswer (planGiven (now (plan .entry))))))
+    ensures exact { λ r. ⌜ r ≡ kindTold (rowOf (askedAssignSays (searchAnswer (planGiven (now (plan .entry)))))) (now (out .entry)) ⌝ }
+    ensures out { λ r. ⌜ now (out .exit) ≡ placesTold (rowOf (askedAssignSays (searchAnswer (planGiven (now (plan .entry))))))
         (now (out .entry)) ⌝ }
     ensures kept { λ r. ⌜ now (plan .exit) ≡ now (plan .entry) ⌝ }
 {
@@ -102,9 +102,11 @@ pub extern "C" fn desk_search(plan: &[u32], out: &mut [u64]) -> u32
 #[no_mangle]
 pub extern "C" fn desk_run(plan: &[u32], releases: &[u32], out: &mut [u64]) -> u32
     ensures exact { λ r. ⌜ r ≡ kindTold
-        (rowOf (outcomeSays (runAnswer (planGiven (now (plan .entry))) (releasesGiven (now (releases .entry)))))) (now (out .entry)) ⌝ }
+        (rowOf (askedOutcomeSays (runAnswer (planGiven (now (plan .entry))) (releasesGiven (now (releases .entry))))))
+        (now (out .entry)) ⌝ }
     ensures out { λ r. ⌜ now (out .exit) ≡ placesTold
-        (rowOf (outcomeSays (runAnswer (planGiven (now (plan .entry))) (releasesGiven (now (releases .entry)))))) (now (out .entry)) ⌝ }
+        (rowOf (askedOutcomeSays (runAnswer (planGiven (now (plan .entry))) (releasesGiven (now (releases .entry))))))
+        (now (out .entry)) ⌝ }
     ensures plan { λ r. ⌜ now (plan .exit) ≡ now (plan .entry) ⌝ }
     ensures releases { λ r. ⌜ now (releases .exit) ≡ now (releases .entry) ⌝ }
 {

@@ -6,6 +6,9 @@ use faults::Fault;
 use faults::fault_number;
 use lines::Page;
 use lines::put_text;
+use rules::AskedAssign;
+use rules::AskedOutcome;
+use rules::AskedVerdict;
 use rules::Assign;
 use rules::Outcome;
 use rules::Verdict;
@@ -13,7 +16,7 @@ ghost use mathlib.Core.Path.{_≡_};
 ghost use Prim.Native.Nat.{_≤_};
 ghost use lib.ListN.{length};
 ghost use Rattle.faults.specs.Checks.{faultNumber};
-ghost use Rattle.rules.specs.Said.{checkedSays, verdictSays, assignSays, outcomeSays};
+ghost use Rattle.rules.specs.Said.{checkedSays, askedVerdictSays, askedAssignSays, askedOutcomeSays};
 ghost use Rattle.lines.specs.Pages.{textOf, lengthTold, pageTold};
 ghost use Rattle.entries.specs.Told.{row, refusedRow, rowOf, dateRow, dayRow, kindTold, placesTold};
 
@@ -91,39 +94,45 @@ pub(crate) fn checked_row(c: Checked) -> Row
     }
 }
 
-pub(crate) fn verdict_row(v: Verdict) -> Row
-    ensures exact { λ r. ⌜ r ≡ rowOf (verdictSays v) ⌝ }
+pub(crate) fn verdict_row(v: AskedVerdict) -> Row
+    ensures exact { λ r. ⌜ r ≡ rowOf (askedVerdictSays v) ⌝ }
 {
     match v {
-        Verdict::Refused { fault, at } => refused_row(fault, at),
-        Verdict::Overload => row_of(OVERLOAD, 0, 0, 0, 0),
-        Verdict::Fail {
-            interval,
-            blocking,
-            demand,
-            pairs,
-        } => row_of(FAIL, interval.0, blocking.0, demand.0, pairs),
-        Verdict::Pass { pairs } => row_of(PASS, pairs, 0, 0, 0),
+        AskedVerdict::Refused { fault, at } => refused_row(fault, at),
+        AskedVerdict::Given { verdict } => match verdict {
+            Verdict::Overload => row_of(OVERLOAD, 0, 0, 0, 0),
+            Verdict::Fail {
+                interval,
+                blocking,
+                demand,
+                pairs,
+            } => row_of(FAIL, interval.0, blocking.0, demand.0, pairs),
+            Verdict::Pass { pairs } => row_of(PASS, pairs, 0, 0, 0),
+        },
     }
 }
 
-pub(crate) fn assign_row(a: Assign) -> Row
-    ensures exact { λ r. ⌜ r ≡ rowOf (assignSays a) ⌝ }
+pub(crate) fn assign_row(a: AskedAssign) -> Row
+    ensures exact { λ r. ⌜ r ≡ rowOf (askedAssignSays a) ⌝ }
 {
     match a {
-        Assign::Refused { fault, at } => refused_row(fault, at),
-        Assign::Takers { set } => row_of(TAKERS, set, 0, 0, 0),
-        Assign::Nobody => row_of(NOBODY, 0, 0, 0, 0),
+        AskedAssign::Refused { fault, at } => refused_row(fault, at),
+        AskedAssign::Given { assign } => match assign {
+            Assign::Takers { set } => row_of(TAKERS, set, 0, 0, 0),
+            Assign::Nobody => row_of(NOBODY, 0, 0, 0, 0),
+        },
     }
 }
 
-pub(crate) fn outcome_row(o: Outcome) -> Row
-    ensures exact { λ r. ⌜ r ≡ rowOf (outcomeSays o) ⌝ }
+pub(crate) fn outcome_row(o: AskedOutcome) -> Row
+    ensures exact { λ r. ⌜ r ≡ rowOf (askedOutcomeSays o) ⌝ }
 {
     match o {
-        Outcome::Refused { fault, at } => refused_row(fault, at),
-        Outcome::Miss { day, place } => row_at(MISS, day.0, place),
-        Outcome::Clean { work, moving, idle } => row_of(CLEAN, work.0, moving.0, idle.0, 0),
+        AskedOutcome::Refused { fault, at } => refused_row(fault, at),
+        AskedOutcome::Given { outcome } => match outcome {
+            Outcome::Miss { day, place } => row_at(MISS, day.0, place),
+            Outcome::Clean { work, moving, idle } => row_of(CLEAN, work.0, moving.0, idle.0, 0),
+        },
     }
 }
 

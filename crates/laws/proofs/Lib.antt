@@ -9,6 +9,7 @@ pub mod Releases
 pub mod ReleaseList
 pub mod Listing
 pub mod Answers
+pub mod ReadLawful
 pub mod RefusedBy
 pub mod Says
 pub mod JobParts

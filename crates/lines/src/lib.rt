@@ -17,7 +17,7 @@ use parts::outcome_line;
 use parts::verdict_line;
 pub use rows::row_line;
 use rules::Answer;
-use rules::Verdict;
+use rules::AskedVerdict;
 pub use same::alone_line;
 pub use same::counts_line;
 pub use same::same_line;
@@ -28,7 +28,7 @@ pub use shown::string_line;
 ghost use mathlib.Core.Path.{_≡_};
 ghost use Prim.Native.Nat.{_≤_};
 ghost use lib.ListN.{length};
-ghost use Rattle.rules.specs.Lines.{linesFor, verdictLine};
+ghost use Rattle.rules.specs.Lines.{linesFor, askedLine};
 ghost use Rattle.lines.specs.Pages.{pageOf};
 
 // Text and what is left of the page: the first `len` bytes are the text; zeros stand behind it.
@@ -56,10 +56,13 @@ pub fn written(a: Answer) -> Page
     }
 }
 
-// The line of a verdict alone.
-pub fn verdict_written(v: Verdict) -> Page
-    ensures exact { λ r. ⌜ r ≡ pageOf (verdictLine v) ⌝ }
+// The line of a verdict that was asked for alone: its refusal, or the verdict.
+pub fn verdict_written(v: AskedVerdict) -> Page
+    ensures exact { λ r. ⌜ r ≡ pageOf (askedLine v) ⌝ }
     ensures within { λ r. ⌜ r .len ≤ length (r .bytes) ⌝ }
 {
-    verdict_line(blank(), v)
+    match v {
+        AskedVerdict::Refused { fault, at } => refused(fault, at),
+        AskedVerdict::Given { verdict } => verdict_line(blank(), verdict),
+    }
 }

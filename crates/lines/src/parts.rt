@@ -1,26 +1,14 @@
 // One function for each kind of line of an answer. A line has at most 92 bytes, so three lines fit a page.
 use super::Page;
 use super::templates::fill_in;
-use faults::Fault;
-use faults::fault_number;
 use rules::Assign;
 use rules::Outcome;
 use rules::Verdict;
 ghost use mathlib.Core.Path.{_≡_};
 ghost use mathlib.Core.List.{_++_};
 ghost use Prim.Native.Nat.{_+_, _≤_};
-ghost use Rattle.rules.specs.Lines.{refusedLine, verdictLine, assignLine, outcomeLine};
+ghost use Rattle.rules.specs.Lines.{verdictLine, assignLine, outcomeLine};
 ghost use Rattle.lines.specs.Pages.{pageOf, textOf, Written};
-
-pub(crate) fn refused_line(page: Page, fault: Fault, at: usize) -> Page
-    requires { ⌜ Written page ⌝ }
-    requires { ⌜ page .len + 57 ≤ 256 ⌝ }
-    ensures exact { λ r. ⌜ r ≡ pageOf (textOf page ++ refusedLine fault at) ⌝ }
-    ensures short { λ r. ⌜ r .len ≤ page .len + 57 ⌝ }
-{
-    let numbers = [fault_number(fault) as u64, at as u64];
-    fill_in(page, b"refused # line #\n", &numbers)
-}
 
 pub(crate) fn verdict_line(page: Page, v: Verdict) -> Page
     requires { ⌜ Written page ⌝ }
@@ -29,7 +17,6 @@ pub(crate) fn verdict_line(page: Page, v: Verdict) -> Page
     ensures short { λ r. ⌜ r .len ≤ page .len + 92 ⌝ }
 {
     match v {
-        Verdict::Refused { fault, at } => refused_line(page, fault, at),
         Verdict::Overload => fill_in(page, b"verdict overload\n", &[]),
         Verdict::Fail {
             interval,
@@ -60,7 +47,6 @@ pub(crate) fn assign_line(page: Page, a: Assign) -> Page
     ensures short { λ r. ⌜ r .len ≤ page .len + 57 ⌝ }
 {
     match a {
-        Assign::Refused { fault, at } => refused_line(page, fault, at),
         Assign::Takers { set } => fill_in(page, b"assign #\n", &[set as u64]),
         Assign::Nobody => fill_in(page, b"assign none\n", &[]),
     }
@@ -72,7 +58,6 @@ pub(crate) fn outcome_line(page: Page, o: Outcome) -> Page
     ensures exact { λ r. ⌜ r ≡ pageOf (textOf page ++ outcomeLine o) ⌝ }
 {
     match o {
-        Outcome::Refused { fault, at } => refused_line(page, fault, at),
         Outcome::Miss { day, place } => fill_in(
             page,
             b"run miss day # place #\n",

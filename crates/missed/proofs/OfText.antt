@@ -11,12 +11,12 @@ use Rattle.days.specs.{declared.Day.Day, declared.Length.Length}
 use Rattle.base.proofs.Lists.{by-bool}
 use Rattle.faults.specs.{declared.Fault.Fault, declared.Fault.the-variants.NoRoom, Checks.faultNumber}
 use Rattle.faults.proofs.{Checks.{by-checked, then-first}, Refusing.Refusals}
-use Rattle.rules.specs.{declared.Plan.Plan, declared.Releases.Releases, declared.Reading.Reading, declared.Outcome.the-variants.Miss, Demand.Passes, Release.noRelease, Refusal.{planCheck, releasesCheck, runCheck, verdictAnswer, searchAnswer, runAnswer}, declared.Answer.the-variants.Answered, Answer.{answered, answerOf}, Layout.version02, Text.{linesOf, versionOf, readingOf}, Said.refused-with, Plan.withRun}
-use Rattle.laws.proofs.{Lawful.planCheck-lawful, Answers.{verdict-lawful, search-lawful}, RefusedBy.{Numbered, read-numbers}}
+use Rattle.rules.specs.{declared.Plan.Plan, declared.Releases.Releases, declared.Reading.Reading, declared.Outcome.the-variants.Miss, Demand.Passes, Verdict.verdictOf, Search.searchOf, Release.{noRelease, releasesOf}, Run.runOf, Refusal.{planCheck, releasesCheck, runCheck, runAnswer}, declared.Answer.the-variants.Answered, Answer.{answered, answerOf}, Layout.version02, Text.{linesOf, versionOf, readingOf}, Said.refused-with, Plan.withRun}
+use Rattle.laws.proofs.{Lawful.planCheck-lawful, RefusedBy.{Numbered, read-numbers}, ReadLawful.read-lawful}
 use Rattle.writing.specs.Saved.{savedText, noRoom, writableCheck, saveCheck, savedAnswer, savedPage}
 use Rattle.writing.proofs.Saving.{writable-own}
 use Rattle.roundtrip.specs.OneText.{trimmedPlan, trimmedReleases}
-use Rattle.roundtrip.proofs.{ReadLawful.read-lawful, As02.{read-trimmed, ten-places}, InPage.reading-the-page}
+use Rattle.roundtrip.proofs.{As02.{read-trimmed, ten-places}, InPage.reading-the-page}
 use Rattle.exact.specs.Missing.{freely}
 use Rattle.exact.proofs.AnyRun.{verdict-run, search-run}
 use Rattle.tries.specs.{declared.Missing.Missing, Tries.missingAnswer, Shown.MissesOverMany}
@@ -48,22 +48,11 @@ module _ (p : Plan) (n : Length) (is : missingAnswer p .missing ≡ answer.Found
   found-lawful : runCheck longer rs ≡ checked.Lawful
   unfolding runAnswer
   found-lawful =
-      let said = found-answers p n is .3 in
+      let said = found-answers p n is .4 in
       by-checked (runCheck longer rs) (λ e. e) (λ f k e.
       let refused = rw e at said in
       let z : _≡_ {A = ℕ} 0 1 = cc in
       absurd (omega arith))
-
-  found-plan : planCheck longer ≡ checked.Lawful
-  unfolding runCheck
-  found-plan = then-first (planCheck longer) (releasesCheck longer rs) found-lawful
-
-  -- verdict and search are those of the plan as it was
-  same-verdict : planCheck p ≡ checked.Lawful → verdictAnswer longer ≡ verdictAnswer p
-  same-verdict h = verdict-lawful longer found-plan ∙ verdict-run p (n .0) ∙ sym (verdict-lawful p h)
-
-  same-search : planCheck p ≡ checked.Lawful → searchAnswer longer ≡ searchAnswer p
-  same-search h = search-lawful longer found-plan ∙ search-run p (n .0) ∙ sym (search-lawful p h)
 
   -- so only the room can be wanting
   found-writable : writableCheck version02 longer rs ≡ checked.Lawful
@@ -329,16 +318,16 @@ module _ (text page : List ℕ) (at : ℕ) where
           (blank .0)
           ∙ ap (λ rs. record { checked = checked.Lawful; plan = withRun p (n .0); releases = rs }) list
 
-      written-desk : (t : Day) (place : ℕ) → runAnswer (withRun p (n .0)) (missingAnswer p .releases) ≡ Miss t place
-          → answerOf (writtenIn len) ≡ Answered (verdictAnswer p) (searchAnswer p) (Miss t place)
+      -- verdict and search are those of the plan as it was
+      written-desk : (t : Day) (place : ℕ) → runOf (withRun p (n .0)) (releasesOf (missingAnswer p .releases)) ≡ Miss t place
+          → answerOf (writtenIn len) ≡ Answered (verdictOf p) (searchOf p) (Miss t place)
       unfolding answerOf answered
       written-desk t place misses =
-          let checks = plan-lawful lawful in
           ap (λ r. answered (r .checked) r) written-reads
-          ∙ ap (λ v. Answered v (searchAnswer (withRun p (n .0))) (runAnswer (withRun p (n .0)) (missingAnswer p .releases)))
-          (same-verdict p n is checks)
-          ∙ ap (λ a. Answered (verdictAnswer p) a (runAnswer (withRun p (n .0)) (missingAnswer p .releases))) (same-search p n is checks)
-          ∙ ap (Answered (verdictAnswer p) (searchAnswer p)) misses
+          ∙ ap (λ v. Answered v (searchOf (withRun p (n .0))) (runOf (withRun p (n .0)) (releasesOf (missingAnswer p .releases))))
+          (verdict-run p (n .0))
+          ∙ ap (λ a. Answered (verdictOf p) a (runOf (withRun p (n .0)) (releasesOf (missingAnswer p .releases)))) (search-run p (n .0))
+          ∙ ap (Answered (verdictOf p) (searchOf p)) misses
 
       written-misses : ShowsMiss text (writtenIn len)
       written-misses =
@@ -351,7 +340,7 @@ module _ (text page : List ℕ) (at : ℕ) where
             t = miss .0;
             place = miss .1;
             within = miss .2;
-            misses = ap (λ r. runAnswer (r .plan) (r .releases)) written-reads ∙ miss .3;
+            misses = ap (λ r. runAnswer (r .plan) (r .releases)) written-reads ∙ miss .4;
             desk = written-desk (miss .0) (miss .1) (miss .3);
           }
 

@@ -7,9 +7,12 @@ use mathlib.Core.List.{List}
 use Rattle.days.specs.declared.Day.{Day}
 use Rattle.faults.specs.declared.Checked.the-variants.{Lawful}
 use Rattle.rules.specs.declared.Outcome.the-variants.{Miss}
+use Rattle.rules.specs.declared.AskedOutcome.the-variants.{Given}
 use Rattle.rules.specs.declared.Answer.the-variants.{Answered}
 use Rattle.rules.specs.Answer.{answerOf}
-use Rattle.rules.specs.Refusal.{verdictAnswer, searchAnswer, runAnswer}
+use Rattle.rules.specs.Verdict.{verdictOf}
+use Rattle.rules.specs.Search.{searchOf}
+use Rattle.rules.specs.Refusal.{runAnswer}
 use Rattle.rules.specs.Text.{readingOf}
 use Rattle.rules.specs.Plan.{withRun}
 
@@ -21,5 +24,5 @@ pub record ShowsMiss (text new : List ℕ) : Type 0 where
   pub t : Day
   pub place : ℕ
   pub within : t .0 ≤ n
-  pub misses : runAnswer (readingOf new .plan) (readingOf new .releases) ≡ Miss t place
-  pub desk : answerOf new ≡ Answered (verdictAnswer (readingOf text .plan)) (searchAnswer (readingOf text .plan)) (Miss t place)
+  pub misses : runAnswer (readingOf new .plan) (readingOf new .releases) ≡ Given (Miss t place)
+  pub desk : answerOf new ≡ Answered (verdictOf (readingOf text .plan)) (searchOf (readingOf text .plan)) (Miss t place)

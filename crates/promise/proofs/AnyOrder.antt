@@ -8,7 +8,7 @@
 -- Then, whether two plans hold the same strings: what `same_strings` answered says it exactly.
 use Rattle.base.proofs.Prelude.{ℕ, _^_, _<_, _≡_, sym, ap, _∙_, _↔_, List, arith, ones, length, length-take}
 use Rattle.faults.specs.{declared.Checked.Checked, declared.Checked.the-variants.Lawful}
-use Rattle.rules.specs.{declared.Plan.Plan, declared.Verdict.Verdict, declared.Broken.Broken, declared.Assign.Assign, declared.Figures.Figures, Plan.stringsOf, Search.withSet, Refusal.{planCheck, setCheck}, Figures.figuresOf}
+use Rattle.rules.specs.{declared.Plan.Plan, declared.AskedVerdict.AskedVerdict, declared.AskedVerdict.the-variants.Given, declared.AskedBroken.AskedBroken, declared.AskedAssign.AskedAssign, declared.Figures.Figures, Plan.stringsOf, Search.withSet, Refusal.{planCheck, setCheck}, Figures.figuresOf}
 use Rattle.laws.proofs.{Lawful.planCheck-lawful, Answers.{set-lawful, figures-lawful}}
 use Rattle.demand.proofs.Answers.{quick-set-lawful}
 use Rattle.results.specs.{Order.{SameFault, AsManyTakers}, Places.{InAnotherOrder, AnotherOrder, SmallestTo}, Partners.LeftAlone}
@@ -30,16 +30,17 @@ use contract.Lifetimes.{Lfts}
 
 module _ (κs : Lfts 0) (p q : Plan) (order : InAnotherOrder p q) where
   module _ (ok : planCheck p ≡ Lawful) (also : planCheck q ≡ Lawful) where
-    pub verdict-any-order : (e f : _) (r s : Verdict) → verdict.Learnt κs (p, tt) r e → verdict.Learnt κs (q, tt) s f → s ≡ r
+    pub verdict-any-order : (e f : _) (r s : AskedVerdict) → verdict.Learnt κs (p, tt) r e → verdict.Learnt κs (q, tt) s f → s ≡ r
     verdict-any-order e f r s h k = k ∙ same-answer p q (reordered-exactly p q .0 order) ok also ∙ sym h
 
-    pub quick-any-order : (e f : _) (r s : Verdict) → quick.Learnt κs (p, tt) r e → quick.Learnt κs (q, tt) s f → s ≡ r
+    pub quick-any-order : (e f : _) (r s : AskedVerdict) → quick.Learnt κs (p, tt) r e → quick.Learnt κs (q, tt) s f → s ≡ r
     quick-any-order e f r s h k = k ∙ same-quick-answer p q (reordered-exactly p q .0 order) ok also ∙ sym h
 
-    pub first-break-any-order : (e f : _) (r s : Broken) → first-break.Learnt κs (p, tt) r e → first-break.Learnt κs (q, tt) s f → s ≡ r
+    pub first-break-any-order : (e f : _) (r s : AskedBroken) → first-break.Learnt κs (p, tt) r e → first-break.Learnt κs (q, tt) s f
+        → s ≡ r
     first-break-any-order e f r s h k = k ∙ same-break-answer p q (reordered-exactly p q .0 order) ok also ∙ sym h
 
-    pub search-any-order : (e f : _) (r s : Assign) → search-takers.Learnt κs (p, tt) r e → search-takers.Learnt κs (q, tt) s f
+    pub search-any-order : (e f : _) (r s : AskedAssign) → search-takers.Learnt κs (p, tt) r e → search-takers.Learnt κs (q, tt) s f
         → AsManyTakers r s
     search-any-order e f r s h k = rw (h, k) (same-search-answer p q (reordered-exactly p q .0 order) ok also)
 
@@ -69,17 +70,17 @@ module _ (κs : Lfts 0) (p q : Plan) (order : InAnotherOrder p q) where
 -- The set k of q gives each string the permission that the set m of p gives it.
 module _ (κs : Lfts 0) (p q : Plan) (m k : ℕ) (order : InAnotherOrder (withSet p m) (withSet q k)) where
   module _ (ok : setCheck p m ≡ Lawful) (also : setCheck q k ≡ Lawful) where
-    pub verdict-with-any-order : (e f : _) (r s : Verdict) → verdict-with.Learnt κs (p, (m, tt)) r e
+    pub verdict-with-any-order : (e f : _) (r s : AskedVerdict) → verdict-with.Learnt κs (p, (m, tt)) r e
         → verdict-with.Learnt κs (q, (k, tt)) s f → s ≡ r
     verdict-with-any-order e f r s h j =
         let moved = reordered-exactly (withSet p m) (withSet q k) .0 order in
-        j ∙ set-lawful q k also ∙ same-verdict (withSet p m) (withSet q k) moved ∙ sym (h ∙ set-lawful p m ok)
+        j ∙ set-lawful q k also ∙ ap Given (same-verdict (withSet p m) (withSet q k) moved) ∙ sym (h ∙ set-lawful p m ok)
 
-    pub quick-with-any-order : (e f : _) (r s : Verdict) → quick-with.Learnt κs (p, (m, tt)) r e → quick-with.Learnt κs (q, (k, tt)) s f
-        → s ≡ r
+    pub quick-with-any-order : (e f : _) (r s : AskedVerdict) → quick-with.Learnt κs (p, (m, tt)) r e
+        → quick-with.Learnt κs (q, (k, tt)) s f → s ≡ r
     quick-with-any-order e f r s h j =
         let moved = reordered-exactly (withSet p m) (withSet q k) .0 order in
-        j ∙ quick-set-lawful q k also ∙ same-quick (withSet p m) (withSet q k) moved ∙ sym (h ∙ quick-set-lawful p m ok)
+        j ∙ quick-set-lawful q k also ∙ ap Given (same-quick (withSet p m) (withSet q k) moved) ∙ sym (h ∙ quick-set-lawful p m ok)
 
 -- every set is carried along, to one with as many takers
 pub set-any-order : (p q : Plan) → InAnotherOrder p q → (m : ℕ) → m < 2 ^ p .n

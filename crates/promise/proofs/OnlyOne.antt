@@ -6,7 +6,7 @@
 use Rattle.base.proofs.Prelude.{_≡_, sym, _∙_, Bool, ℕ, List}
 use Rattle.days.specs.{declared.Later.Later, declared.Gap.Gap, declared.Length.Length}
 use Rattle.faults.specs.declared.Checked.{Checked}
-use Rattle.rules.specs.{declared.Reading.Reading, declared.Verdict.Verdict, declared.Broken.Broken, declared.Assign.Assign, declared.Outcome.Outcome, declared.Figures.Figures, declared.Answer.Answer, declared.Job.Job, declared.Slot.Slot, declared.Use.Use, declared.Plan.Plan}
+use Rattle.rules.specs.{declared.Reading.Reading, declared.AskedVerdict.AskedVerdict, declared.AskedBroken.AskedBroken, declared.AskedAssign.AskedAssign, declared.AskedOutcome.AskedOutcome, declared.Figures.Figures, declared.Answer.Answer, declared.Job.Job, declared.Slot.Slot, declared.Use.Use, declared.Plan.Plan}
 use Rattle.lines.specs.declared.Page.{Page}
 use Rattle.calendar.specs.{declared.Date.Date, declared.WhichDate.WhichDate, declared.WhichDay.WhichDay, declared.WhichWeekday.WhichWeekday, declared.WhichYearly.WhichYearly, declared.WhichEdition.WhichEdition, declared.Listed.Listed, declared.DateText.DateText, declared.YearlyText.YearlyText}
 use Rattle.missed.specs.declared.Missed.{Missed}
@@ -32,6 +32,7 @@ use Rattle.calendar.proofs.edition_read.Reads as edition-read
 use Rattle.calendar.proofs.yearly_text.Reads as yearly-text
 use Rattle.rules.proofs.Plan.moving_cost.Reads as Plan-moving-cost
 use Rattle.rules.proofs.Plan.with_run.Reads as Plan-with-run
+use Rattle.rules.proofs.Verdict.passes.Reads as Verdict-passes
 use Rattle.slots.proofs.chosen_place.Reads as chosen-place
 use Rattle.slots.proofs.stopped_job.Reads as stopped-job
 use Rattle.slots.proofs.seated_job.Reads as seated-job
@@ -164,6 +165,10 @@ one-Plan-moving-cost κs a e f r s h k = h ∙ sym k
 pub one-Plan-with-run : (κs : Lfts 0) (a : _) (e f : _) (r s : Plan) → Plan-with-run.Learnt κs a r e → Plan-with-run.Learnt κs a s f → r ≡ s
 one-Plan-with-run κs a e f r s h k = h ∙ sym k
 
+pub one-Verdict-passes : (κs : Lfts 0) (a : _) (e f : _) (r s : Bool) → Verdict-passes.Learnt κs a r e → Verdict-passes.Learnt κs a s f
+    → r ≡ s
+one-Verdict-passes κs a e f r s h k = h ∙ sym k
+
 -- slots
 pub one-chosen-place : (κs : Lfts 0) (a : _) (e f : _) (r s : ℕ) → chosen-place.Learnt κs a r e → chosen-place.Learnt κs a s f → r ≡ s
 one-chosen-place κs a e f r s h k = h ∙ sym k
@@ -253,29 +258,31 @@ pub one-miss : (κs : Lfts 2) (a : _) (e f : _) (r s : Missed) → miss.Learnt �
 one-miss κs a e f r s h k = (h .0 ∙ sym (k .0), h .1 .0 ∙ sym (k .1 .0), h .1 .1 ∙ sym (k .1 .1))
 
 -- verdict
-pub one-verdict : (κs : Lfts 0) (a : _) (e f : _) (r s : Verdict) → verdict.Learnt κs a r e → verdict.Learnt κs a s f → r ≡ s
+pub one-verdict : (κs : Lfts 0) (a : _) (e f : _) (r s : AskedVerdict) → verdict.Learnt κs a r e → verdict.Learnt κs a s f → r ≡ s
 one-verdict κs a e f r s h k = h ∙ sym k
 
-pub one-verdict-with : (κs : Lfts 0) (a : _) (e f : _) (r s : Verdict) → verdict-with.Learnt κs a r e → verdict-with.Learnt κs a s f → r ≡ s
+pub one-verdict-with : (κs : Lfts 0) (a : _) (e f : _) (r s : AskedVerdict) → verdict-with.Learnt κs a r e → verdict-with.Learnt κs a s f
+    → r ≡ s
 one-verdict-with κs a e f r s h k = h ∙ sym k
 
-pub one-quick : (κs : Lfts 0) (a : _) (e f : _) (r s : Verdict) → quick.Learnt κs a r e → quick.Learnt κs a s f → r ≡ s
+pub one-quick : (κs : Lfts 0) (a : _) (e f : _) (r s : AskedVerdict) → quick.Learnt κs a r e → quick.Learnt κs a s f → r ≡ s
 one-quick κs a e f r s h k = h ∙ sym k
 
-pub one-quick-with : (κs : Lfts 0) (a : _) (e f : _) (r s : Verdict) → quick-with.Learnt κs a r e → quick-with.Learnt κs a s f → r ≡ s
+pub one-quick-with : (κs : Lfts 0) (a : _) (e f : _) (r s : AskedVerdict) → quick-with.Learnt κs a r e → quick-with.Learnt κs a s f → r ≡ s
 one-quick-with κs a e f r s h k = h ∙ sym k
 
-pub one-first-break : (κs : Lfts 0) (a : _) (e f : _) (r s : Broken) → first-break.Learnt κs a r e → first-break.Learnt κs a s f → r ≡ s
+pub one-first-break : (κs : Lfts 0) (a : _) (e f : _) (r s : AskedBroken) → first-break.Learnt κs a r e → first-break.Learnt κs a s f
+    → r ≡ s
 one-first-break κs a e f r s h k = h ∙ sym k
 
-pub one-search : (κs : Lfts 0) (a : _) (e f : _) (r s : Assign) → search-takers.Learnt κs a r e → search-takers.Learnt κs a s f → r ≡ s
+pub one-search : (κs : Lfts 0) (a : _) (e f : _) (r s : AskedAssign) → search-takers.Learnt κs a r e → search-takers.Learnt κs a s f → r ≡ s
 one-search κs a e f r s h k = h ∙ sym k
 
 pub one-figures : (κs : Lfts 0) (a : _) (e f : _) (r s : Figures) → figures.Learnt κs a r e → figures.Learnt κs a s f → r ≡ s
 one-figures κs a e f r s h k = h ∙ sym k
 
 -- run
-pub one-run : (κs : Lfts 0) (a : _) (e f : _) (r s : Outcome) → run.Learnt κs a r e → run.Learnt κs a s f → r ≡ s
+pub one-run : (κs : Lfts 0) (a : _) (e f : _) (r s : AskedOutcome) → run.Learnt κs a r e → run.Learnt κs a s f → r ≡ s
 one-run κs a e f r s h k = h ∙ sym k
 
 -- tries

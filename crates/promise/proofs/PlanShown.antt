@@ -5,7 +5,7 @@ use Rattle.base.specs.Count.{upFrom}
 use Rattle.faults.specs.declared.Checked.the-variants.{Lawful}
 use Rattle.faults.proofs.Checks.{then-first}
 use Rattle.rules.specs.{declared.Plan.Plan, declared.Releases.Releases, Refusal.{planCheck, releasesCheck, runCheck}, Text.readingOf}
-use Rattle.roundtrip.proofs.ReadLawful.{read-lawful}
+use Rattle.laws.proofs.ReadLawful.{read-lawful}
 use Rattle.lines.specs.{declared.Page.Page, Pages.{pageOf, textOf}}
 use Rattle.lines.proofs.Growing.{textOf-pageOf}
 use Rattle.showing.specs.Shown.{planShown, stringShown, loadShown, releaseShown, shownText}

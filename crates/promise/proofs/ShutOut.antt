@@ -3,7 +3,7 @@
 -- input; `after` is what it leaves at its return, and `meets` says that the function's own contract (`Learnt`) holds for every input.
 use Rattle.base.proofs.Prelude.{ℕ, _≤_, _≡_, refl, sym, ap, _∙_, subst, List, [], _∷_, map, arith, length, getD}
 use Rattle.faults.specs.{declared.Checked.Checked, declared.Checked.the-variants.{Lawful, Refused}}
-use Rattle.rules.specs.{declared.Plan.Plan, declared.Releases.Releases, declared.Reading.Reading, declared.Verdict.Verdict, declared.Assign.Assign, declared.Outcome.Outcome, declared.Answer.Answer, Verdict.{allPairs, compared}, Search.withSet, Refusal.{onVerdict, onAssign, onOutcome, planCheck, setCheck, runCheck, verdictAnswer, setAnswer, searchAnswer, runAnswer}, Text.readingOf, Answer.{answered, answerOf}, Said.{Said, lawful, fail, pass, takers, clean, checkedSays, verdictSays, assignSays, outcomeSays}}
+use Rattle.rules.specs.{declared.Plan.Plan, declared.Releases.Releases, declared.Reading.Reading, declared.Verdict.Verdict, declared.AskedVerdict.AskedVerdict, declared.Assign.Assign, declared.AskedAssign.AskedAssign, declared.Outcome.Outcome, declared.AskedOutcome.AskedOutcome, declared.Answer.Answer, Verdict.{allPairs, compared}, Search.withSet, Refusal.{onVerdict, onAssign, onOutcome, planCheck, setCheck, runCheck, verdictAnswer, setAnswer, searchAnswer, runAnswer}, Text.readingOf, Answer.{answered, answerOf}, Said.{Said, lawful, fail, pass, takers, clean, checkedSays, askedVerdictSays, askedAssignSays, askedOutcomeSays}}
 use Rattle.rules.proofs.Worked.{table, row, release, releases, two, level, sample, worked}
 use Rattle.laws.proofs.Says.{says-lawful}
 use Rattle.demand.proofs.Permissions.{set-is-plan}
@@ -27,20 +27,20 @@ at : (i : ℕ)
     (page.Answer.written [])
 at i = ap (λ rows. getD rows i (page.Answer.written [])) worked
 
-p1-with : verdictSays (setAnswer two 1) ≡ pass 39
+p1-with : askedVerdictSays (setAnswer two 1) ≡ pass 39
 unfolding table row page.answered
 p1-with =
     let e = at 0 in
     cc
 
-p3-with : verdictSays (setAnswer two 0) ≡ fail 5 3 6 8
+p3-with : askedVerdictSays (setAnswer two 0) ≡ fail 5 3 6 8
 unfolding table row page.answered
 p3-with =
     let e = at 3 in
     cc
 
 -- the search for P1's strings
-p1-search : assignSays (searchAnswer two) ≡ takers 1
+p1-search : askedAssignSays (searchAnswer two) ≡ takers 1
 unfolding table row page.answered
 p1-search =
     let e = at 18 in
@@ -49,7 +49,7 @@ p1-search =
 abbrev list : Releases
 list = releases (release 0 1 5 ∷ release 1 2 3 ∷ [])
 
-run-of-eight : outcomeSays (runAnswer (withSet level 2) list) ≡ clean 8 0 12
+run-of-eight : askedOutcomeSays (runAnswer (withSet level 2) list) ≡ clean 8 0 12
 unfolding table row page.answered
 run-of-eight =
     let e = at 16 in
@@ -68,15 +68,15 @@ sample-read = says-lawful (readingOf sample .checked) said
 never : _≡_ {A = ℕ} 0 1 → ⊥
 never z = omega arith
 
-set-was-lawful : (c : Checked) (v : Verdict) (s : Said) → verdictSays (onVerdict c v) ≡ s → (Refuses s → ⊥) → c ≡ Lawful
+set-was-lawful : (c : Checked) (v : Verdict) (s : Said) → askedVerdictSays (onVerdict c v) ≡ s → (Refuses s → ⊥) → c ≡ Lawful
 set-was-lawful Lawful v s h not = refl
 set-was-lawful (Refused f at) v s h not = absurd (not (_, (_, sym h)))
 
-assign-was-lawful : (c : Checked) (a : Assign) (s : Said) → assignSays (onAssign c a) ≡ s → (Refuses s → ⊥) → c ≡ Lawful
+assign-was-lawful : (c : Checked) (a : Assign) (s : Said) → askedAssignSays (onAssign c a) ≡ s → (Refuses s → ⊥) → c ≡ Lawful
 assign-was-lawful Lawful a s h not = refl
 assign-was-lawful (Refused f at) a s h not = absurd (not (_, (_, sym h)))
 
-run-was-lawful : (c : Checked) (o : Outcome) (s : Said) → outcomeSays (onOutcome c o) ≡ s → (Refuses s → ⊥) → c ≡ Lawful
+run-was-lawful : (c : Checked) (o : Outcome) (s : Said) → askedOutcomeSays (onOutcome c o) ≡ s → (Refuses s → ⊥) → c ≡ Lawful
 run-was-lawful Lawful o s h not = refl
 run-was-lawful (Refused f at) o s h not = absurd (not (_, (_, sym h)))
 
@@ -101,11 +101,11 @@ unfolding setAnswer
 p3-set = set-was-lawful (setCheck two 0) _ (fail 5 3 6 8) p3-with (fail-not-refused 5 3 6 8)
 
 -- the same plans with the set in their X
-p1 : verdictSays (verdictAnswer (withSet two 1)) ≡ pass 39
-p1 = ap verdictSays (sym (set-is-plan two 1 p1-set)) ∙ p1-with
+p1 : askedVerdictSays (verdictAnswer (withSet two 1)) ≡ pass 39
+p1 = ap askedVerdictSays (sym (set-is-plan two 1 p1-set)) ∙ p1-with
 
-p3 : verdictSays (verdictAnswer (withSet two 0)) ≡ fail 5 3 6 8
-p3 = ap verdictSays (sym (set-is-plan two 0 p3-set)) ∙ p3-with
+p3 : askedVerdictSays (verdictAnswer (withSet two 0)) ≡ fail 5 3 6 8
+p3 = ap askedVerdictSays (sym (set-is-plan two 0 p3-set)) ∙ p3-with
 
 p1-lawful : planCheck (withSet two 1) ≡ Lawful
 unfolding verdictAnswer
@@ -129,76 +129,78 @@ pass-no-fail k s h (overloads j) = never (cc)
 
 -- ---- `verdict`
 
-module _ (κs : Lfts 0) (program : Plan → Verdict) (after : Plan → _) (meets : (p : Plan) → verdict.Learnt κs (p, tt) (program p) (after p))
-  where
-    -- refuses every plan
-    pub verdict-refusing-all : ((p : Plan) → Refuses (verdictSays (program p))) → ⊥
-    verdict-refusing-all wrong =
-        pass-not-refused 39 (subst Refuses (ap verdictSays (meets (withSet two 1)) ∙ p1) (wrong (withSet two 1)))
+module _ (κs : Lfts 0) (program : Plan → AskedVerdict) (after : Plan → _)
+    (meets : (p : Plan) → verdict.Learnt κs (p, tt) (program p) (after p)) where
+  -- refuses every plan
+  pub verdict-refusing-all : ((p : Plan) → Refuses (askedVerdictSays (program p))) → ⊥
+  verdict-refusing-all wrong =
+      pass-not-refused 39 (subst Refuses (ap askedVerdictSays (meets (withSet two 1)) ∙ p1) (wrong (withSet two 1)))
 
-    -- says pass of every lawful plan, whatever it does with the others
-    pub verdict-passing-all : ((p : Plan) → planCheck p ≡ Lawful → SaysPass (verdictSays (program p))) → ⊥
-    verdict-passing-all wrong =
-        let said = wrong (withSet two 0) p3-lawful in
-        let is = sym (said .1) ∙ ap verdictSays (meets (withSet two 0)) ∙ p3 in
-        never (cc)
+  -- says pass of every lawful plan, whatever it does with the others
+  pub verdict-passing-all : ((p : Plan) → planCheck p ≡ Lawful → SaysPass (askedVerdictSays (program p))) → ⊥
+  verdict-passing-all wrong =
+      let said = wrong (withSet two 0) p3-lawful in
+      let is = sym (said .1) ∙ ap askedVerdictSays (meets (withSet two 0)) ∙ p3 in
+      never (cc)
 
-    -- fails every lawful plan
-    pub verdict-failing-all : ((p : Plan) → planCheck p ≡ Lawful → SaysFail (verdictSays (program p))) → ⊥
-    verdict-failing-all wrong =
-        pass-no-fail 39 (verdictSays (program (withSet two 1))) (ap verdictSays (meets (withSet two 1)) ∙ p1)
-        (wrong (withSet two 1) p1-lawful)
+  -- fails every lawful plan
+  pub verdict-failing-all : ((p : Plan) → planCheck p ≡ Lawful → SaysFail (askedVerdictSays (program p))) → ⊥
+  verdict-failing-all wrong =
+      pass-no-fail 39 (askedVerdictSays (program (withSet two 1))) (ap askedVerdictSays (meets (withSet two 1)) ∙ p1)
+      (wrong (withSet two 1) p1-lawful)
 
-    -- gives no pair count but the defined one, of any lawful plan
-    pub verdict-count-of-pass : (p : Plan) → planCheck p ≡ Lawful → (k : ℕ) → verdictSays (program p) ≡ pass k → k ≡ length (allPairs p)
-    verdict-count-of-pass p ok k said = verdict-counts κs p (after p) (program p) (meets p) ok k said
+  -- gives no pair count but the defined one, of any lawful plan
+  pub verdict-count-of-pass : (p : Plan) → planCheck p ≡ Lawful → (k : ℕ) → askedVerdictSays (program p) ≡ pass k
+      → k ≡ length (allPairs p)
+  verdict-count-of-pass p ok k said = verdict-counts κs p (after p) (program p) (meets p) ok k said
 
-    pub verdict-count-of-fail : (p : Plan) → planCheck p ≡ Lawful → (l b d k : ℕ) → verdictSays (program p) ≡ fail l b d k
-        → k ≡ length (compared p (allPairs p))
-    verdict-count-of-fail p ok l b d k said = verdict-fails κs p (after p) (program p) (meets p) ok l b d k .0 said .3
+  pub verdict-count-of-fail : (p : Plan) → planCheck p ≡ Lawful → (l b d k : ℕ) → askedVerdictSays (program p) ≡ fail l b d k
+      → k ≡ length (compared p (allPairs p))
+  verdict-count-of-fail p ok l b d k said = verdict-fails κs p (after p) (program p) (meets p) ok l b d k .0 said .3
 
 -- ---- `verdict_with`
 
-module _ (κs : Lfts 0) (program : Plan → ℕ → Verdict) (after : Plan → ℕ → _)
+module _ (κs : Lfts 0) (program : Plan → ℕ → AskedVerdict) (after : Plan → ℕ → _)
     (meets : (p : Plan) (m : ℕ) → verdict-with.Learnt κs (p, (m, tt)) (program p m) (after p m)) where
-  pub with-refusing-all : ((p : Plan) (m : ℕ) → Refuses (verdictSays (program p m))) → ⊥
-  with-refusing-all wrong = pass-not-refused 39 (subst Refuses (ap verdictSays (meets two 1) ∙ p1-with) (wrong two 1))
+  pub with-refusing-all : ((p : Plan) (m : ℕ) → Refuses (askedVerdictSays (program p m))) → ⊥
+  with-refusing-all wrong = pass-not-refused 39 (subst Refuses (ap askedVerdictSays (meets two 1) ∙ p1-with) (wrong two 1))
 
-  pub with-passing-all : ((p : Plan) (m : ℕ) → setCheck p m ≡ Lawful → SaysPass (verdictSays (program p m))) → ⊥
+  pub with-passing-all : ((p : Plan) (m : ℕ) → setCheck p m ≡ Lawful → SaysPass (askedVerdictSays (program p m))) → ⊥
   with-passing-all wrong =
       let said = wrong two 0 p3-set in
-      let is = sym (said .1) ∙ ap verdictSays (meets two 0) ∙ p3-with in
+      let is = sym (said .1) ∙ ap askedVerdictSays (meets two 0) ∙ p3-with in
       never (cc)
 
-  pub with-failing-all : ((p : Plan) (m : ℕ) → setCheck p m ≡ Lawful → SaysFail (verdictSays (program p m))) → ⊥
+  pub with-failing-all : ((p : Plan) (m : ℕ) → setCheck p m ≡ Lawful → SaysFail (askedVerdictSays (program p m))) → ⊥
   with-failing-all wrong =
-      pass-no-fail 39 (verdictSays (program two 1)) (ap verdictSays (meets two 1) ∙ p1-with) (wrong two 1 p1-set)
+      pass-no-fail 39 (askedVerdictSays (program two 1)) (ap askedVerdictSays (meets two 1) ∙ p1-with) (wrong two 1 p1-set)
 
 -- ---- `search`
 
-module _ (κs : Lfts 0) (program : Plan → Assign) (after : Plan → _)
+module _ (κs : Lfts 0) (program : Plan → AskedAssign) (after : Plan → _)
     (meets : (p : Plan) → search-takers.Learnt κs (p, tt) (program p) (after p)) where
-  pub search-refusing-all : ((p : Plan) → Refuses (assignSays (program p))) → ⊥
-  search-refusing-all wrong = takers-not-refused 1 (subst Refuses (ap assignSays (meets two) ∙ p1-search) (wrong two))
+  pub search-refusing-all : ((p : Plan) → Refuses (askedAssignSays (program p))) → ⊥
+  search-refusing-all wrong = takers-not-refused 1 (subst Refuses (ap askedAssignSays (meets two) ∙ p1-search) (wrong two))
 
   -- answers set 0 for every lawful plan
-  pub search-nobody-takes : ((p : Plan) → planCheck p ≡ Lawful → assignSays (program p) ≡ takers 0) → ⊥
+  pub search-nobody-takes : ((p : Plan) → planCheck p ≡ Lawful → askedAssignSays (program p) ≡ takers 0) → ⊥
   search-nobody-takes wrong =
-      let is = sym (wrong two two-lawful) ∙ ap assignSays (meets two) ∙ p1-search in
+      let is = sym (wrong two two-lawful) ∙ ap askedAssignSays (meets two) ∙ p1-search in
       never (cc)
 
 -- ---- `run`
 
-module _ (κs : Lfts 0) (program : Plan → Releases → Outcome) (after : Plan → Releases → _)
+module _ (κs : Lfts 0) (program : Plan → Releases → AskedOutcome) (after : Plan → Releases → _)
     (meets : (p : Plan) (rs : Releases) → run.Learnt κs (p, (rs, tt)) (program p rs) (after p rs)) where
-  pub run-refusing-all : ((p : Plan) (rs : Releases) → Refuses (outcomeSays (program p rs))) → ⊥
+  pub run-refusing-all : ((p : Plan) (rs : Releases) → Refuses (askedOutcomeSays (program p rs))) → ⊥
   run-refusing-all wrong =
-      clean-not-refused 8 0 12 (subst Refuses (ap outcomeSays (meets (withSet level 2) list) ∙ run-of-eight) (wrong (withSet level 2) list))
+      clean-not-refused 8 0 12
+      (subst Refuses (ap askedOutcomeSays (meets (withSet level 2) list) ∙ run-of-eight) (wrong (withSet level 2) list))
 
   -- idles every day, or works one day and then idles, and reports what it likes: a miss, or a clean run with at most a day of work
-  pub run-idling : ((p : Plan) (rs : Releases) → runCheck p rs ≡ Lawful → WorksAtMost 1 (outcomeSays (program p rs))) → ⊥
+  pub run-idling : ((p : Plan) (rs : Releases) → runCheck p rs ≡ Lawful → WorksAtMost 1 (askedOutcomeSays (program p rs))) → ⊥
   run-idling wrong =
-      idles (outcomeSays (program (withSet level 2) list)) (ap outcomeSays (meets (withSet level 2) list) ∙ run-of-eight)
+      idles (askedOutcomeSays (program (withSet level 2) list)) (ap askedOutcomeSays (meets (withSet level 2) list) ∙ run-of-eight)
       (wrong (withSet level 2) list run-lawful)
     where
       idles : (s : Said) → s ≡ clean 8 0 12 → WorksAtMost 1 s → ⊥

@@ -2,7 +2,7 @@
 -- whatever releases it is lent.
 use Rattle.base.proofs.Prelude.{ℕ, _≡_, refl, sym, ap, _∙_, List, arith, ltb, length}
 use Rattle.base.proofs.Lists.{by-bool}
-use Rattle.rules.specs.{Refusal.{verdictAnswer, runAnswer}, Said.{Said, lawful, refused, overload, fail, pass, takers, none, miss, clean, verdictSays, outcomeSays}}
+use Rattle.rules.specs.{Refusal.{verdictAnswer, runAnswer}, Said.{Said, lawful, refused, overload, fail, pass, takers, none, miss, clean, askedVerdictSays, askedOutcomeSays}}
 use Rattle.entries.specs.{Given.{planGiven, releasesGiven}, Told.{rowOf, kindTold}}
 use Rattle.promise.proofs.NeverMisses.{pass-never-misses}
 use Rattle.entries.proofs.desk_verdict.Reads as desk-verdict
@@ -43,10 +43,10 @@ pub told-pass-no-miss : (κs : Lfts 2) (a : _) (e : _) → desk-verdict.Learnt �
 told-pass-no-miss κs a e passed λs b f missed same =
     let p = planGiven (a .0 .now) in
     let rs = releasesGiven (b .1 .0 .now) in
-    let verdict-says = verdictSays (verdictAnswer p) in
-    let run-says = outcomeSays (runAnswer p rs) in
+    let verdict-says = askedVerdictSays (verdictAnswer p) in
+    let run-says = askedOutcomeSays (runAnswer p rs) in
     let room = b .1 .1 .0 .now in
-    let run-told = missed .0 ∙ ap (λ ns. kindTold (rowOf (outcomeSays (runAnswer (planGiven ns) rs))) room) same in
+    let run-told = missed .0 ∙ ap (λ ns. kindTold (rowOf (askedOutcomeSays (runAnswer (planGiven ns) rs))) room) same in
     let is-pass = kind-pass verdict-says (said-kind verdict-says (a .1 .0 .now) 1 (λ h. omega arith) (passed .0)) in
     let is-miss = kind-miss run-says (said-kind run-says room 7 (λ h. omega arith) run-told) in
     pass-never-misses tt p (p, tt) (verdictAnswer p) refl (is-pass .0) (is-pass .1) tt rs (p, (rs, tt)) (runAnswer p rs) refl

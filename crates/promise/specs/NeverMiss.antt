@@ -5,10 +5,10 @@ use mathlib.Core.Path.{_≡_}
 use contract.Lifetimes.{Lfts}
 use Rattle.rules.specs.declared.Plan.{Plan}
 use Rattle.rules.specs.declared.Releases.{Releases}
-use Rattle.rules.specs.declared.Outcome.{Outcome}
-use Rattle.rules.specs.Said.{miss, outcomeSays}
+use Rattle.rules.specs.declared.AskedOutcome.{AskedOutcome}
+use Rattle.rules.specs.Said.{miss, askedOutcomeSays}
 use Rattle.run.proofs.run.Reads as run
 
 abbrev pub NeverMiss : Plan → Type 0
-NeverMiss p = (κs : Lfts 0) (rs : Releases) (e : _) (o : Outcome) → run.Learnt κs (p, (rs, tt)) o e → (t i : ℕ)
-    → outcomeSays o ≡ miss t i → ⊥
+NeverMiss p = (κs : Lfts 0) (rs : Releases) (e : _) (o : AskedOutcome) → run.Learnt κs (p, (rs, tt)) o e → (t i : ℕ)
+    → askedOutcomeSays o ≡ miss t i → ⊥

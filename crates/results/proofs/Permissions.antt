@@ -3,7 +3,7 @@
 use Rattle.base.proofs.Prelude.{_≡_, refl, sym, ap, _∙_, Bool, true, false}
 use mathlib.Core.List.{flatMap}
 use Rattle.faults.specs.{declared.Checked.Checked, declared.Checked.the-variants.Lawful}
-use Rattle.rules.specs.{Said.{Said, overload, fail, pass, verdictSays}, Plan.{stringLawful, commonMultiple, multipleOf, dMin, dMax}, Demand.{movingCost, holdOf, jobs, blockerHold, blockLimit, need, demand, load, overloaded}, Verdict.{pairsAt, allPairs, broken, compared, judged, verdictOver, isPass}, Search.{permit, withSet, setPasses}, Refusal.{countCheck, runLengthCheck, stringsCheck, multipleCheck, planCheck, setCheck, setAnswer}}
+use Rattle.rules.specs.{Said.{Said, overload, fail, pass, askedVerdictSays}, Plan.{stringLawful, commonMultiple, multipleOf, dMin, dMax}, Demand.{movingCost, holdOf, jobs, blockerHold, blockLimit, need, demand, load, overloaded}, Verdict.{pairsAt, allPairs, broken, compared, judged, verdictOver, isPass}, Search.{permit, withSet, setPasses}, Refusal.{countCheck, runLengthCheck, stringsCheck, multipleCheck, planCheck, setCheck, setAnswer}}
 use Rattle.base.specs.Count.{sumOf, largest, smallest, smallestWith, every, upFrom, leastFrom, firstOf}
 use Rattle.rules.proofs.Worked.{string, paying, planOf, plan, two, nine}
 use Rattle.base.proofs.Lists.{true-not-false}
@@ -36,8 +36,8 @@ seen c =
       checked = planCheck (c .plan);
       passed = setPasses (c .plan) (c .before);
       passes = setPasses (c .plan) (c .after);
-      said = verdictSays (setAnswer (c .plan) (c .before));
-      says = verdictSays (setAnswer (c .plan) (c .after));
+      said = askedVerdictSays (setAnswer (c .plan) (c .before));
+      says = askedVerdictSays (setAnswer (c .plan) (c .after));
     }
 
 unfoldable stated : Change → Seen

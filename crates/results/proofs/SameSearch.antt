@@ -3,7 +3,7 @@
 use Rattle.base.proofs.Prelude.{ℕ, _^_, _≤_, _<_, _≡_, refl, sym, ap, _∙_, _↔_, Option, none, some, arith, le-antisymm, ones}
 use Rattle.faults.specs.declared.Checked.the-variants.{Lawful}
 use Rattle.base.specs.Count.{firstOf}
-use Rattle.rules.specs.{declared.Plan.Plan, declared.Assign.the-variants.{Takers, Nobody}, Verdict.isPass, Search.{assigned, withSet, setPasses, ordered, searchOf}, Refusal.{planCheck, searchAnswer}}
+use Rattle.rules.specs.{declared.Plan.Plan, declared.Assign.the-variants.{Takers, Nobody}, declared.AskedAssign.the-variants.Given, Verdict.isPass, Search.{assigned, withSet, setPasses, ordered, searchOf}, Refusal.{planCheck, searchAnswer}}
 use Rattle.laws.proofs.Answers.{search-lawful}
 use Rattle.demand.proofs.Search.{search-passes, search-fewest, none-of-nobody, nobody-of-none}
 use Rattle.results.specs.Order.{Reordered, AsManyTakers, nobody-both, takers-both}
@@ -58,11 +58,11 @@ module _ (p q : Plan) (r : Reordered p q) where
       le-antisymm (no-more-takers p q r m k found other) (no-more-takers q p (reordered-back p q r) k m other found)
 
   -- both in one: "none" for both, or as many takers
-  pub same-search : AsManyTakers (searchOf p) (searchOf q)
+  pub same-search : AsManyTakers (Given (searchOf p)) (Given (searchOf q))
   same-search = which (firstOf (setPasses p) (ordered (p .n))) (firstOf (setPasses q) (ordered (q .n))) refl refl
     where
       which : (o u : Option ℕ) → firstOf (setPasses p) (ordered (p .n)) ≡ o → firstOf (setPasses q) (ordered (q .n)) ≡ u
-          → AsManyTakers (searchOf p) (searchOf q)
+          → AsManyTakers (Given (searchOf p)) (Given (searchOf q))
       which none none e f = rw (nobody-said p e, nobody-said q f) nobody-both
       which none (some k) e f = absurd (nobody-no-takers k (sym (same-none .0 (nobody-said p e)) ∙ takers-said q k f))
       which (some m) none e f = absurd (nobody-no-takers m (sym (same-none .1 (nobody-said q f)) ∙ takers-said p m e))

@@ -13,6 +13,8 @@ use Rattle.demand.specs.Quick.{countAt, grows, quickPairs, quickOf, quickAnswer
 use Rattle.demand.proofs.Answers.{quick-lawful}
 use Rattle.results.specs.Order.{Reordered}
 use Rattle.results.proofs.Permuted.{permuted-back, all-permuted, sumOf-permuted, largest-permuted, smallest-permuted, every-permuted, any-permuted}
+use Rattle.rules.specs.declared.AskedVerdict.the-variants as asked-verdict
+use Rattle.rules.specs.declared.AskedBroken.the-variants as asked-broken
 
 pub reordered-back : (p q : Plan) → Reordered p q → Reordered q p
 reordered-back p q r = record { same-n = sym (r .same-n); strings = permuted-back (r .strings) }
@@ -147,15 +149,15 @@ module _ (p q : Plan) (r : Reordered p q) where
 
   module _ (ok : planCheck p ≡ Lawful) (also : planCheck q ≡ Lawful) where
     pub same-answer : verdictAnswer q ≡ verdictAnswer p
-    same-answer = verdict-lawful q also ∙ same-verdict ∙ sym (verdict-lawful p ok)
+    same-answer = verdict-lawful q also ∙ ap asked-verdict.Given same-verdict ∙ sym (verdict-lawful p ok)
 
     pub same-break-answer : breakAnswer q ≡ breakAnswer p
     same-break-answer =
         let found : firstBroken q (allPairs q) ≡ firstBroken p (allPairs p) = ap (firstBroken q) same-pairs ∙ same-first (allPairs p) in
-        break-lawful q also ∙ ap brokenAt found ∙ sym (break-lawful p ok)
+        break-lawful q also ∙ ap (λ b. asked-broken.Given (brokenAt b)) found ∙ sym (break-lawful p ok)
 
     pub same-quick-answer : quickAnswer q ≡ quickAnswer p
-    same-quick-answer = quick-lawful q also ∙ same-quick ∙ sym (quick-lawful p ok)
+    same-quick-answer = quick-lawful q also ∙ ap asked-verdict.Given same-quick ∙ sym (quick-lawful p ok)
 
 -- both ways
 pub passes-in-any-order : (p q : Plan) → Reordered p q → Passes p ↔ Passes q

@@ -6,7 +6,7 @@
 --     (3,1,1) (3,2,3), A 0, set 0        by E − 2 it passes, and a job is late: a second day is too many
 use Rattle.base.proofs.Prelude.{_≡_, refl, ap, Bool, false, List, [], _∷_, map}
 use Rattle.faults.specs.{declared.Checked.Checked, declared.Checked.the-variants.Lawful}
-use Rattle.rules.specs.{declared.Plan.Plan, declared.Release.Release, Said.{Said, miss, clean, outcomeSays}, Plan.{stringLawful, commonMultiple, multipleOf, dMin, dMax}, Demand.{movingCost, holdOf, jobs, need, demand, load, overloaded}, Search.{permit, withSet}, Release.{tooClose, outOfOrder, releaseLawful, unlawfulFrom, firstUnlawful}, Run.{chosen, lateAt, newSlot, joinFrom, joined, holder, payer, taken, nextUp, given, useOf, spent, morning, stateAt, useOn, lateOn, history, daysOf, missDay, runOf}, Refusal.{countCheck, runLengthCheck, stringsCheck, multipleCheck, planCheck, releasesCheck, runCheck, runAnswer}}
+use Rattle.rules.specs.{declared.Plan.Plan, declared.Release.Release, Said.{Said, miss, clean, askedOutcomeSays}, Plan.{stringLawful, commonMultiple, multipleOf, dMin, dMax}, Demand.{movingCost, holdOf, jobs, need, demand, load, overloaded}, Search.{permit, withSet}, Release.{tooClose, outOfOrder, releaseLawful, unlawfulFrom, firstUnlawful}, Run.{chosen, lateAt, newSlot, joinFrom, joined, holder, payer, taken, nextUp, given, useOf, spent, morning, stateAt, useOn, lateOn, history, daysOf, missDay, runOf}, Refusal.{countCheck, runLengthCheck, stringsCheck, multipleCheck, planCheck, releasesCheck, runCheck, runAnswer}}
 use Rattle.base.specs.Count.{All, sumOf, largest, smallest, smallestWith, every, countOf, upFrom, leastFrom}
 use Rattle.rules.proofs.Worked.{string, paying, planOf, plan, release, releases, two, three, five}
 use Rattle.laws.proofs.Lawful.{LawfulPlan, planCheck-lawful}
@@ -58,7 +58,7 @@ seen r =
       whole = ruling (holdLess 0) (r .plan);
       less-one = ruling (holdLess 1) (r .plan);
       less-two = ruling (holdLess 2) (r .plan);
-      ran = outcomeSays (runAnswer (r .plan) (r .list));
+      ran = askedOutcomeSays (runAnswer (r .plan) (r .list));
     }
 
 unfoldable stated : Row → Seen

@@ -4,7 +4,7 @@
 --     Reordered p q         q has the strings of p in another order, each with its own permission; N is each plan's own
 --     CarriedSet p q m      a set of q under which each string has the permission that the set m of p gives it, and so as many takers
 --     SameFault a b         the checks a and b both find nothing, or both find the same fault, perhaps at another place
---     AsManyTakers a b      the searches a and b both say "none", or both find a set, with as many takers
+--     AsManyTakers a b      neither search a nor b is refused: both say "none", or both find a set, with as many takers
 use Prim.Native.Nat.{ℕ, _^_, _<_}
 use mathlib.Core.Path.{_≡_}
 use mathlib.Core.List.{List, _∷_}
@@ -13,8 +13,9 @@ use Rattle.faults.specs.declared.Fault.{Fault}
 use Rattle.faults.specs.declared.Checked.{Checked}
 use Rattle.faults.specs.declared.Checked.the-variants.{Lawful, Refused}
 use Rattle.rules.specs.declared.Plan.{Plan}
-use Rattle.rules.specs.declared.Assign.{Assign}
 use Rattle.rules.specs.declared.Assign.the-variants.{Takers, Nobody}
+use Rattle.rules.specs.declared.AskedAssign.{AskedAssign}
+use Rattle.rules.specs.declared.AskedAssign.the-variants.{Given}
 use Rattle.rules.specs.Plan.{stringsOf}
 use Rattle.rules.specs.Search.{withSet}
 
@@ -39,9 +40,9 @@ pub record CarriedSet (p q : Plan) (m : ℕ) : Type 0 where
   pub as-many : ones set ≡ ones m
   pub order : Reordered (withSet p m) (withSet q set)
 
-pub data AsManyTakers : Assign → Assign → Type 0 where
-  nobody-both : AsManyTakers Nobody Nobody
-  takers-both : (m k : ℕ) → ones k ≡ ones m → AsManyTakers (Takers m) (Takers k)
+pub data AsManyTakers : AskedAssign → AskedAssign → Type 0 where
+  nobody-both : AsManyTakers (Given Nobody) (Given Nobody)
+  takers-both : (m k : ℕ) → ones k ≡ ones m → AsManyTakers (Given (Takers m)) (Given (Takers k))
 
 pub data SameFault : Checked → Checked → Type 0 where
   both-lawful : SameFault Lawful Lawful

@@ -7,7 +7,7 @@ use Rattle.rules.specs.declared.Plan.{Plan}
 use Rattle.rules.specs.Demand.{Passes}
 use Rattle.rules.specs.Search.{withSet}
 use Rattle.rules.specs.Refusal.{setAnswer}
-use Rattle.rules.specs.Said.{Said, verdictSays}
+use Rattle.rules.specs.Said.{Said, askedVerdictSays}
 
 pub record Change : Type 0 where
   pub plan : Plan
@@ -19,5 +19,5 @@ pub record Change : Type 0 where
 pub record Hurts (c : Change) : Type 0 where
   pub passed : Passes (withSet (c .plan) (c .before))
   pub breaks : Passes (withSet (c .plan) (c .after)) → ⊥
-  pub was : verdictSays (setAnswer (c .plan) (c .before)) ≡ c .said
-  pub is : verdictSays (setAnswer (c .plan) (c .after)) ≡ c .says
+  pub was : askedVerdictSays (setAnswer (c .plan) (c .before)) ≡ c .said
+  pub is : askedVerdictSays (setAnswer (c .plan) (c .after)) ≡ c .says

@@ -7,7 +7,7 @@ use mathlib.Core.Path.{_≡_}
 use Rattle.rules.specs.declared.Plan.{Plan}
 use Rattle.rules.specs.declared.Releases.{Releases}
 use Rattle.rules.specs.Refusal.{runAnswer}
-use Rattle.rules.specs.Said.{Said, outcomeSays}
+use Rattle.rules.specs.Said.{Said, askedOutcomeSays}
 use Rattle.results.specs.Blockers.{Blocker, work, holdLess, PassesBy}
 
 pub data Ruling : Type 0 where
@@ -32,4 +32,4 @@ pub record Stands (r : Row) : Type 0 where
   pub whole : Truly (r .byE) (holdLess 0) (r .plan)
   pub less-one : Truly (r .byE-1) (holdLess 1) (r .plan)
   pub less-two : Truly (r .byE-2) (holdLess 2) (r .plan)
-  pub ran : outcomeSays (runAnswer (r .plan) (r .list)) ≡ r .run
+  pub ran : askedOutcomeSays (runAnswer (r .plan) (r .list)) ≡ r .run

@@ -5,11 +5,11 @@ use Rattle.base.specs.Count.{filled}
 use Rattle.faults.specs.{declared.Fault.the-variants.FrameWrong, declared.Checked.the-variants.Lawful}
 use Rattle.faults.proofs.Checks.{refused-not-lawful}
 use Rattle.rules.specs.{declared.Plan.Plan, declared.Releases.Releases, declared.Reading.Reading, Plan.{stringsOf, noString}, Release.{releasesOf, noRelease}, Layout.{Version, version01, version02}, Text.{Line, linesOf, nIn, releaseOf, planIn, listIn, linesCheck, textCheck, lawfulReading, readingIn, readingOf}}
-use Rattle.laws.proofs.{Versions.{strings-are, reading-checked, lines-checked}, Releases.runCheck-lawful}
+use Rattle.laws.proofs.{Versions.{strings-are, reading-checked, lines-checked}, Releases.runCheck-lawful, ReadLawful.text-read}
 use Rattle.laws.specs.Lawful.{LawfulRun}
 use Rattle.writing.specs.Saved.{savedText}
 use Rattle.roundtrip.specs.OneText.{trimmedPlan, trimmedReleases, readAgain}
-use Rattle.roundtrip.proofs.{ReadBack.reading-02, ReadLawful.text-read}
+use Rattle.roundtrip.proofs.ReadBack.{reading-02}
 
 filled-length {ℓ} : {A : Type ℓ} (k : ℕ) (z : A) (xs : List A) → length xs ≤ k → length (filled k z xs) ≡ k
 filled-length k z xs h = length-append xs _ ∙ omega (arith, length-replicate (k - length xs) z)

@@ -1,5 +1,5 @@
 -- A plan has one text. Modules stand in the order in which they build on each other; the theorems are in ReadBack,
--- WriteBack, InPage, ReadLawful and As02.
+-- WriteBack, InPage and As02.
 pub mod HexBytes
 pub mod Numbers
 pub mod Framed
@@ -8,5 +8,4 @@ pub mod Passed
 pub mod ReadBack
 pub mod WriteBack
 pub mod InPage
-pub mod ReadLawful
 pub mod As02

@@ -5,7 +5,7 @@ use Rattle.base.proofs.Prelude.{ℕ, zero, suc, _+_, _/_, _%_, _-_, _≡_, refl
 use mathlib.Core.List.{flatMap}
 use lib.Count.{ones, onesIn}
 use Rattle.days.specs.Days.{day, days}
-use Rattle.rules.specs.{declared.BatteryString.BatteryString, declared.Plan.Plan, declared.Release.Release, declared.Releases.Releases, Plan.{noString, stringLawful, commonMultiple, multipleOf, dMin, dMax}, Demand.{movingCost, holdOf, jobs, blockerHold, blockLimit, need, demand, load, overloaded}, Verdict.{pairsAt, allPairs, broken, compared, judged, verdictOver, isPass}, Search.{permit, withSet, setPasses, setsOf, ordered, searchOf}, Release.{noRelease, tooClose, outOfOrder, releaseLawful, unlawfulFrom, firstUnlawful}, Run.{chosen, lateAt, newSlot, joinFrom, joined, holder, payer, taken, nextUp, given, useOf, spent, morning, stateAt, useOn, lateOn, history, daysOf, missDay, runOf}, Refusal.{countCheck, runLengthCheck, costCheck, stringsCheck, multipleCheck, planCheck, setCheck, releasesCheck, runCheck, verdictAnswer, setAnswer, searchAnswer, runAnswer}, Said.{Said, lawful, refused, overload, fail, pass, takers, miss, clean, checkedSays, verdictSays, assignSays, outcomeSays}, Answer.answerOf, Lines.{bytesOf, decimal, wordedIn, refusedLine, verdictLine, assignLine, outcomeLine, linesFor}, Layout.{hasField, fieldAmong, fieldIn, heldTo}, Text.{before, linesOf, digitOf, wellFormed, hexBytes, frameOf, fieldOf, frameCheck, nIn, runIn, aIn, costOf, stringOf, releaseOf, planIn, listIn, versionCheck, headerCheck, stringLineCheck, stringLinesCheck, releaseLineCheck, releaseLinesCheck, bodyCheck, linesCheck, textCheck, lawfulReading, readingIn, versionOf, readingOf}}
+use Rattle.rules.specs.{declared.BatteryString.BatteryString, declared.Plan.Plan, declared.Release.Release, declared.Releases.Releases, Plan.{noString, stringLawful, commonMultiple, multipleOf, dMin, dMax}, Demand.{movingCost, holdOf, jobs, blockerHold, blockLimit, need, demand, load, overloaded}, Verdict.{pairsAt, allPairs, broken, compared, judged, verdictOver, isPass}, Search.{permit, withSet, setPasses, setsOf, ordered, searchOf}, Release.{noRelease, tooClose, outOfOrder, releaseLawful, unlawfulFrom, firstUnlawful}, Run.{chosen, lateAt, newSlot, joinFrom, joined, holder, payer, taken, nextUp, given, useOf, spent, morning, stateAt, useOn, lateOn, history, daysOf, missDay, runOf}, Refusal.{countCheck, runLengthCheck, costCheck, stringsCheck, multipleCheck, planCheck, setCheck, releasesCheck, runCheck, setAnswer, searchAnswer, runAnswer}, Said.{Said, lawful, refused, overload, fail, pass, takers, miss, clean, checkedSays, askedVerdictSays, askedAssignSays, askedOutcomeSays}, Answer.answerOf, Lines.{bytesOf, decimal, wordedIn, refusedLine, verdictLine, assignLine, outcomeLine, linesFor}, Layout.{hasField, fieldAmong, fieldIn, heldTo}, Text.{before, linesOf, digitOf, wellFormed, hexBytes, frameOf, fieldOf, frameCheck, nIn, runIn, aIn, costOf, stringOf, releaseOf, planIn, listIn, versionCheck, headerCheck, stringLineCheck, stringLinesCheck, releaseLineCheck, releaseLinesCheck, bodyCheck, linesCheck, textCheck, lawfulReading, readingIn, versionOf, readingOf}}
 use Rattle.base.specs.{Count.{sumOf, largest, smallest, smallestWith, every, any, keep, countOf, upFrom, leastFrom, firstOf, filled}, Digits.{digitsIn, digitsOf, numberOn}}
 use Rattle.rules.specs.Answer as answers
 
@@ -115,9 +115,9 @@ pub record Row : Type 0 where
   pub said : Answer
 
 unfoldable pub answered : Question → Answer
-answered (verdict-with p m) = says (verdictSays (setAnswer p m))
-answered (search p) = says (assignSays (searchAnswer p))
-answered (run-with p m rs) = says (outcomeSays (runAnswer (withSet p m) (releases rs)))
+answered (verdict-with p m) = says (askedVerdictSays (setAnswer p m))
+answered (search p) = says (askedAssignSays (searchAnswer p))
+answered (run-with p m rs) = says (askedOutcomeSays (runAnswer (withSet p m) (releases rs)))
 answered (load-with p m) = load-and-H (load (withSet p m)) (multipleOf (withSet p m))
 answered (read-text text) = says (checkedSays (readingOf text .checked))
 answered (file text) = written (linesFor (answerOf text))
@@ -189,7 +189,7 @@ unfolding
     chosen lateAt newSlot joinFrom joined holder payer taken nextUp given useOf spent morning stateAt useOn lateOn history daysOf missDay
     runOf
     countCheck runLengthCheck costCheck stringsCheck multipleCheck planCheck setCheck releasesCheck runCheck
-    verdictAnswer setAnswer searchAnswer runAnswer
+    setAnswer searchAnswer runAnswer
     before linesOf digitOf wellFormed hexBytes frameOf numberOn hasField fieldAmong fieldIn heldTo fieldOf
     nIn runIn aIn costOf stringOf releaseOf planIn listIn frameCheck versionCheck headerCheck
     stringLineCheck stringLinesCheck releaseLineCheck releaseLinesCheck bodyCheck linesCheck textCheck lawfulReading readingIn versionOf

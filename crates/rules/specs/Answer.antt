@@ -8,11 +8,14 @@ use Rattle.faults.specs.declared.Checked.the-variants as checked
 use Rattle.rules.specs.declared.Reading.{Reading}
 use Rattle.rules.specs.declared.Answer.{Answer}
 use Rattle.rules.specs.declared.Answer.the-variants.{Refused, Answered}
-use Rattle.rules.specs.Refusal.{verdictAnswer, searchAnswer, runAnswer}
+use Rattle.rules.specs.Verdict.{verdictOf}
+use Rattle.rules.specs.Search.{searchOf}
+use Rattle.rules.specs.Release.{releasesOf}
+use Rattle.rules.specs.Run.{runOf}
 use Rattle.rules.specs.Text.{readingOf}
 
 unfoldable pub answered : Checked → Reading → Answer
-answered checked.Lawful r = Answered (verdictAnswer (r .plan)) (searchAnswer (r .plan)) (runAnswer (r .plan) (r .releases))
+answered checked.Lawful r = Answered (verdictOf (r .plan)) (searchOf (r .plan)) (runOf (r .plan) (releasesOf (r .releases)))
 answered (checked.Refused f at) r = Refused f at
 
 unfoldable pub answerOf : List ℕ → Answer

@@ -6,6 +6,7 @@
 --     assignLine a          assign m | assign none
 --     outcomeLine o         run miss day t place i | run clean work w move m idle i
 --     refusedLine f at      refused number line at
+--     askedLine v           the one line where a verdict is asked for: the refusal, or the verdict
 --     linesFor a            all that is written for an answer
 --     rowLine s             T,C,D,X,moving cost of a string, ended by CR LF (document 02, W-210)
 use Prim.Native.Nat.{ℕ, _+_}
@@ -20,6 +21,8 @@ use Rattle.faults.specs.declared.Fault.{Fault}
 use Rattle.rules.specs.declared.BatteryString.{BatteryString}
 use Rattle.rules.specs.declared.Verdict.{Verdict}
 use Rattle.rules.specs.declared.Verdict.the-variants as verdict
+use Rattle.rules.specs.declared.AskedVerdict.{AskedVerdict}
+use Rattle.rules.specs.declared.AskedVerdict.the-variants as asked-verdict
 use Rattle.rules.specs.declared.Assign.{Assign}
 use Rattle.rules.specs.declared.Assign.the-variants as assign
 use Rattle.rules.specs.declared.Outcome.{Outcome}
@@ -53,19 +56,20 @@ unfoldable pub refusedLine : Fault → ℕ → List ℕ
 refusedLine f at = worded "refused # line #\n" (decimal (faultNumber f) ∷ decimal at ∷ [])
 
 unfoldable pub verdictLine : Verdict → List ℕ
-verdictLine (verdict.Refused f at) = refusedLine f at
 verdictLine verdict.Overload = worded "verdict overload\n" []
 verdictLine (verdict.Fail l b d k) =
     worded "verdict fail interval # blocking # demand # pairs #\n" (decimal (l .0) ∷ decimal (b .0) ∷ decimal (d .0) ∷ decimal k ∷ [])
 verdictLine (verdict.Pass k) = worded "verdict pass pairs #\n" (decimal k ∷ [])
 
+unfoldable pub askedLine : AskedVerdict → List ℕ
+askedLine (asked-verdict.Refused f at) = refusedLine f at
+askedLine (asked-verdict.Given v) = verdictLine v
+
 unfoldable pub assignLine : Assign → List ℕ
-assignLine (assign.Refused f at) = refusedLine f at
 assignLine (assign.Takers m) = worded "assign #\n" (decimal m ∷ [])
 assignLine assign.Nobody = worded "assign none\n" []
 
 unfoldable pub outcomeLine : Outcome → List ℕ
-outcomeLine (outcome.Refused f at) = refusedLine f at
 outcomeLine (outcome.Miss t i) = worded "run miss day # place #\n" (decimal (t .0) ∷ decimal i ∷ [])
 outcomeLine (outcome.Clean w m i) = worded "run clean work # move # idle #\n" (decimal (w .0) ∷ decimal (m .0) ∷ decimal (i .0) ∷ [])
 

@@ -9,6 +9,8 @@
 --     planCheck p           4, then 5 for N (with 0), then 5 place by place, then 6 (with 0)
 --     setCheck p m          the same with a permission set: 5 with 0 for 2^n or more, straight after N
 --     runCheck p rs         planCheck, then 7 (with 1,001), then 8 with the place in the list
+--     onVerdict c v         what is answered where a verdict is asked for: the refusal of the check c or, where it finds nothing, v;
+--                           onBroken, onAssign and onOutcome the same for the first broken pair, the search and the run
 --     verdictAnswer p, setAnswer p m, searchAnswer p, runAnswer p rs    the answers of the entries
 --     breakAnswer p         and of the one that asks for the first broken pair of all, overloaded or not
 use Prim.Native.Nat.{ℕ, suc, _^_}
@@ -22,13 +24,17 @@ use Rattle.faults.specs.declared.Fault.the-variants.{StringCount, OutOfBounds, 
 use Rattle.faults.specs.declared.Checked.{Checked}
 use Rattle.faults.specs.declared.Checked.the-variants as checked
 use Rattle.rules.specs.declared.Verdict.{Verdict}
-use Rattle.rules.specs.declared.Verdict.the-variants as verdict
+use Rattle.rules.specs.declared.AskedVerdict.{AskedVerdict}
+use Rattle.rules.specs.declared.AskedVerdict.the-variants as asked-verdict
 use Rattle.rules.specs.declared.Broken.{Broken}
-use Rattle.rules.specs.declared.Broken.the-variants as broken
+use Rattle.rules.specs.declared.AskedBroken.{AskedBroken}
+use Rattle.rules.specs.declared.AskedBroken.the-variants as asked-broken
 use Rattle.rules.specs.declared.Assign.{Assign}
-use Rattle.rules.specs.declared.Assign.the-variants as assign
+use Rattle.rules.specs.declared.AskedAssign.{AskedAssign}
+use Rattle.rules.specs.declared.AskedAssign.the-variants as asked-assign
 use Rattle.rules.specs.declared.Outcome.{Outcome}
-use Rattle.rules.specs.declared.Outcome.the-variants as outcome
+use Rattle.rules.specs.declared.AskedOutcome.{AskedOutcome}
+use Rattle.rules.specs.declared.AskedOutcome.the-variants as asked-outcome
 use Rattle.rules.specs.Plan.{stringsOf, costLawful, stringLawful, multipleOf}
 use Rattle.faults.specs.Checks.{inBounds, refuseIf, then, orRefused}
 use Rattle.rules.specs.Verdict.{allPairs, firstBroken, brokenAt, verdictOf}
@@ -89,39 +95,39 @@ runCheck p rs =
 
 -- ---- The answers
 
-abbrev pub onVerdict : Checked → Verdict → Verdict
-onVerdict = orRefused verdict.Refused
+abbrev pub onVerdict : Checked → Verdict → AskedVerdict
+onVerdict c v = orRefused asked-verdict.Refused c (asked-verdict.Given v)
 
-abbrev pub onBroken : Checked → Broken → Broken
-onBroken = orRefused broken.Refused
+abbrev pub onBroken : Checked → Broken → AskedBroken
+onBroken c v = orRefused asked-broken.Refused c (asked-broken.Given v)
 
-abbrev pub onAssign : Checked → Assign → Assign
-onAssign = orRefused assign.Refused
+abbrev pub onAssign : Checked → Assign → AskedAssign
+onAssign c v = orRefused asked-assign.Refused c (asked-assign.Given v)
 
-abbrev pub onOutcome : Checked → Outcome → Outcome
-onOutcome = orRefused outcome.Refused
+abbrev pub onOutcome : Checked → Outcome → AskedOutcome
+onOutcome c v = orRefused asked-outcome.Refused c (asked-outcome.Given v)
 
-unfoldable pub verdictAnswer : Plan → Verdict
+unfoldable pub verdictAnswer : Plan → AskedVerdict
 verdictAnswer p =
     let v = verdictOf p in
     onVerdict (planCheck p) v
 
-unfoldable pub breakAnswer : Plan → Broken
+unfoldable pub breakAnswer : Plan → AskedBroken
 breakAnswer p =
     let v = brokenAt (firstBroken p (allPairs p)) in
     onBroken (planCheck p) v
 
-unfoldable pub setAnswer : Plan → ℕ → Verdict
+unfoldable pub setAnswer : Plan → ℕ → AskedVerdict
 setAnswer p m =
     let v = verdictOf (withSet p m) in
     onVerdict (setCheck p m) v
 
-unfoldable pub searchAnswer : Plan → Assign
+unfoldable pub searchAnswer : Plan → AskedAssign
 searchAnswer p =
     let v = searchOf p in
     onAssign (planCheck p) v
 
-unfoldable pub runAnswer : Plan → Releases → Outcome
+unfoldable pub runAnswer : Plan → Releases → AskedOutcome
 runAnswer p rs =
     let v = runOf p (releasesOf rs) in
     onOutcome (runCheck p rs) v

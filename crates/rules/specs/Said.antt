@@ -7,7 +7,8 @@
 --     pass pairs                              the verdict's one value
 --     takers set, none                        the search
 --     miss day place, clean work moving idle  the run
---     checkedSays c, verdictSays v, assignSays a, outcomeSays o     what each answer says
+--     checkedSays c, verdictSays v, assignSays a, outcomeSays o     what a check, a verdict, a search and a run say
+--     askedVerdictSays v, askedAssignSays a, askedOutcomeSays o     what is said where one is asked for: the refusal, or what it says
 -- And what is answered beside the desk's three lines:
 --     refused-with number at                  the refusal number and the place, as above
 --     unbroken, breaks interval blocking      the first pair that breaks the rule
@@ -15,7 +16,7 @@
 --     passing, none-found, too-many, misses run
 --                                             releases that miss: none, the plan passes; none was found; there are some, but more than
 --                                             1,000; the days of a run that misses
---     brokenSays b                            what the first broken pair says
+--     brokenSays b, askedBrokenSays b         what the first broken pair says, and what is said where it is asked for
 -- Of texts that are written and of releases that miss the crates writing, tries and missed have it: savedSays, missingSays, missedSays.
 use Prim.Native.Nat.{ℕ}
 use Rattle.faults.specs.declared.Checked.{Checked}
@@ -23,12 +24,20 @@ use Rattle.faults.specs.declared.Checked.the-variants as checked
 use Rattle.faults.specs.Checks.{faultNumber}
 use Rattle.rules.specs.declared.Verdict.{Verdict}
 use Rattle.rules.specs.declared.Verdict.the-variants as verdict
+use Rattle.rules.specs.declared.AskedVerdict.{AskedVerdict}
+use Rattle.rules.specs.declared.AskedVerdict.the-variants as asked-verdict
 use Rattle.rules.specs.declared.Broken.{Broken}
 use Rattle.rules.specs.declared.Broken.the-variants as broken
+use Rattle.rules.specs.declared.AskedBroken.{AskedBroken}
+use Rattle.rules.specs.declared.AskedBroken.the-variants as asked-broken
 use Rattle.rules.specs.declared.Assign.{Assign}
 use Rattle.rules.specs.declared.Assign.the-variants as assign
+use Rattle.rules.specs.declared.AskedAssign.{AskedAssign}
+use Rattle.rules.specs.declared.AskedAssign.the-variants as asked-assign
 use Rattle.rules.specs.declared.Outcome.{Outcome}
 use Rattle.rules.specs.declared.Outcome.the-variants as outcome
+use Rattle.rules.specs.declared.AskedOutcome.{AskedOutcome}
+use Rattle.rules.specs.declared.AskedOutcome.the-variants as asked-outcome
 
 pub data Said : Type 0 where
   lawful : Said
@@ -46,20 +55,29 @@ checkedSays checked.Lawful = lawful
 checkedSays (checked.Refused f at) = refused (faultNumber f) at
 
 abbrev pub verdictSays : Verdict → Said
-verdictSays (verdict.Refused f at) = refused (faultNumber f) at
 verdictSays verdict.Overload = overload 0
 verdictSays (verdict.Fail l b d k) = fail (l .0) (b .0) (d .0) k
 verdictSays (verdict.Pass k) = pass k
 
+abbrev pub askedVerdictSays : AskedVerdict → Said
+askedVerdictSays (asked-verdict.Refused f at) = refused (faultNumber f) at
+askedVerdictSays (asked-verdict.Given v) = verdictSays v
+
 abbrev pub assignSays : Assign → Said
-assignSays (assign.Refused f at) = refused (faultNumber f) at
 assignSays (assign.Takers m) = takers m
 assignSays assign.Nobody = none
 
+abbrev pub askedAssignSays : AskedAssign → Said
+askedAssignSays (asked-assign.Refused f at) = refused (faultNumber f) at
+askedAssignSays (asked-assign.Given a) = assignSays a
+
 abbrev pub outcomeSays : Outcome → Said
-outcomeSays (outcome.Refused f at) = refused (faultNumber f) at
 outcomeSays (outcome.Miss t i) = miss (t .0) i
 outcomeSays (outcome.Clean w m i) = clean (w .0) (m .0) (i .0)
+
+abbrev pub askedOutcomeSays : AskedOutcome → Said
+askedOutcomeSays (asked-outcome.Refused f at) = refused (faultNumber f) at
+askedOutcomeSays (asked-outcome.Given o) = outcomeSays o
 
 -- ---- Beside the desk's lines
 
@@ -74,6 +92,9 @@ pub data Noted : Type 0 where
   misses : ℕ → Noted
 
 abbrev pub brokenSays : Broken → Noted
-brokenSays (broken.Refused f at) = refused-with (faultNumber f) at
 brokenSays broken.Nowhere = unbroken
 brokenSays (broken.At l b) = breaks (l .0) (b .0)
+
+abbrev pub askedBrokenSays : AskedBroken → Noted
+askedBrokenSays (asked-broken.Refused f at) = refused-with (faultNumber f) at
+askedBrokenSays (asked-broken.Given b) = brokenSays b

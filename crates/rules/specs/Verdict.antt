@@ -7,6 +7,7 @@
 --     compared p qs         qs up to and including the first broken one, all of them where none is
 --     verdictOver p qs      the verdict on a lawful plan by the pairs qs: overload first, then the first broken one
 --     verdictOf p           the verdict on a lawful plan: by all pairs
+--     isPass v              the verdict v is a pass
 use Prim.Native.Nat.{ℕ, suc, _+_, _-_}
 use mathlib.Core.Bool.{Bool, true, false, cond}
 use mathlib.Core.List.{List, [], _∷_, map, flatMap}
@@ -16,7 +17,7 @@ use lib.ListN.{length}
 use Rattle.days.specs.Days.{days}
 use Rattle.rules.specs.declared.Plan.{Plan}
 use Rattle.rules.specs.declared.Verdict.{Verdict}
-use Rattle.rules.specs.declared.Verdict.the-variants.{Refused, Overload, Fail, Pass}
+use Rattle.rules.specs.declared.Verdict.the-variants.{Overload, Fail, Pass}
 use Rattle.rules.specs.declared.Broken.{Broken}
 use Rattle.rules.specs.declared.Broken.the-variants.{Nowhere, At}
 use Rattle.base.specs.Count.{upFrom, firstOf}
@@ -63,7 +64,6 @@ abbrev pub verdictOf : Plan → Verdict
 verdictOf p = verdictOver p (allPairs p)
 
 unfoldable pub isPass : Verdict → Bool
-isPass (Refused f at) = false
 isPass Overload = false
 isPass (Fail l b d k) = false
 isPass (Pass k) = true

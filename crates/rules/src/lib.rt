@@ -9,6 +9,7 @@ ghost use Rattle.days.specs.Days.{days};
 ghost use Rattle.rules.specs.Demand.{movingCost};
 ghost use Rattle.rules.specs.Plan.{withRun};
 ghost use Rattle.rules.specs.Text.{refusedReading};
+ghost use Rattle.rules.specs.Verdict.{isPass};
 
 // A battery string: least days between two releases, most working days of a job, days from release to deadline,
 // whether its jobs may take the bank (1) or not (0), and the moving days that a job pays which takes it.
@@ -102,10 +103,6 @@ pub fn refused_reading(fault: Fault, at: usize) -> Reading
 
 // The verdict on a plan. A fail names the interval, the blocking and the demand there; pairs are those compared.
 pub enum Verdict {
-    Refused {
-        fault: Fault,
-        at: usize,
-    },
     Overload,
     Fail {
         interval: Length,
@@ -118,26 +115,38 @@ pub enum Verdict {
     },
 }
 
+impl Verdict {
+    // Whether the plan passes.
+    pub fn passes(self) -> bool
+        ensures exact { λ r. ⌜ r ≡ isPass self ⌝ }
+    {
+        match self {
+            Verdict::Overload => false,
+            Verdict::Fail {
+                interval: _,
+                blocking: _,
+                demand: _,
+                pairs: _,
+            } => false,
+            Verdict::Pass { pairs: _ } => true,
+        }
+    }
+}
+
 // The first pair, in order of l, then b, at which the demand rule breaks.
 pub enum Broken {
-    Refused { fault: Fault, at: usize },
     Nowhere,
     At { interval: Length, blocking: Length },
 }
 
 // What the search finds: a permission set, in which place 1 is worth 1, place 2 is worth 2, place 3 is worth 4.
 pub enum Assign {
-    Refused { fault: Fault, at: usize },
     Takers { set: u32 },
     Nobody,
 }
 
 // How a run ends: at a miss, or clean, with the days of each kind.
 pub enum Outcome {
-    Refused {
-        fault: Fault,
-        at: usize,
-    },
     Miss {
         day: Day,
         place: usize,
@@ -149,7 +158,31 @@ pub enum Outcome {
     },
 }
 
-// All that is answered for a plan file: its refusal, or the three answers.
+// What is answered where a verdict is asked for: the refusal of what was handed over, or the verdict.
+pub enum AskedVerdict {
+    Refused { fault: Fault, at: usize },
+    Given { verdict: Verdict },
+}
+
+// The same where the first broken pair is asked for.
+pub enum AskedBroken {
+    Refused { fault: Fault, at: usize },
+    Given { broken: Broken },
+}
+
+// The same where a search is asked for.
+pub enum AskedAssign {
+    Refused { fault: Fault, at: usize },
+    Given { assign: Assign },
+}
+
+// The same where a run is asked for.
+pub enum AskedOutcome {
+    Refused { fault: Fault, at: usize },
+    Given { outcome: Outcome },
+}
+
+// All that is answered for a plan file: its refusal, or the three answers, none of which can be a refusal.
 pub enum Answer {
     Refused {
         fault: Fault,

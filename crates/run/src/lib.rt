@@ -10,6 +10,7 @@ use days::Length;
 use faults::Checked;
 use release::day_after;
 use release::join;
+use rules::AskedOutcome;
 use rules::Outcome;
 use rules::Plan;
 use rules::Releases;
@@ -26,13 +27,15 @@ ghost use Rattle.rules.specs.Refusal.{runAnswer};
 ghost use Rattle.laws.proofs.Releases.{LawfulRun};
 
 // How the run ends under a plan and a list of releases; a plan or a list that is not lawful is refused.
-pub fn run(p: Plan, rs: Releases) -> Outcome
+pub fn run(p: Plan, rs: Releases) -> AskedOutcome
     ensures exact { λ r. ⌜ r ≡ runAnswer p rs ⌝ }
 {
     let checked = bounds::run_check(p, rs);
     match checked {
-        Checked::Lawful => run_days(p, rs),
-        Checked::Refused { fault, at } => Outcome::Refused { fault, at },
+        Checked::Lawful => AskedOutcome::Given {
+            outcome: run_days(p, rs),
+        },
+        Checked::Refused { fault, at } => AskedOutcome::Refused { fault, at },
     }
 }
 

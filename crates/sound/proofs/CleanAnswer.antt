@@ -1,18 +1,17 @@
 -- The answer of the run: for a plan that passes and releases that are lawful it is clean, and a clean answer counts the run's days.
-use Rattle.base.proofs.Prelude.{ℕ, _≡_, sym, _∙_, arith, leb, List}
+use Rattle.base.proofs.Prelude.{ℕ, _≡_, ap, _∙_, arith, leb, List}
 use Rattle.days.specs.declared.Length.{Length}
 use Rattle.base.proofs.Lists.{by-bool}
-use Rattle.faults.specs.{declared.Fault.Fault, declared.Checked.Checked, declared.Checked.the-variants.{Lawful, Refused}}
-use Rattle.rules.specs.{declared.Release.Release, declared.Plan.Plan, declared.Releases.Releases, declared.Outcome.the-variants.{Miss, Clean}, Release.releasesOf, Demand.Passes, Refusal.{onOutcome, runCheck, runAnswer}, Run.{daysOf, isWork, isMove, isIdle, missDay, runOf}}
-use Rattle.laws.proofs.{Releases.runCheck-lawful, Answers.{run-lawful, run-refused}}
+use Rattle.faults.specs.{declared.Checked.Checked, declared.Checked.the-variants.{Lawful, Refused}}
+use Rattle.rules.specs.{declared.Release.Release, declared.Plan.Plan, declared.Releases.Releases, declared.Outcome.the-variants.{Miss, Clean}, declared.AskedOutcome.the-variants.Given, Release.releasesOf, Demand.Passes, Refusal.{onOutcome, runCheck, runAnswer}, Run.{daysOf, isWork, isMove, isIdle, missDay, runOf}}
+use Rattle.laws.proofs.{Releases.runCheck-lawful, Answers.run-lawful}
 use Rattle.sound.proofs.Clean.{run-clean}
-use Rattle.rules.specs.declared.Outcome.the-variants as outcome
 
 pub never-misses : (p : Plan) (rs : Releases) → runCheck p rs ≡ Lawful → Passes p
-    → runAnswer p rs ≡ Clean (daysOf p (releasesOf rs) isWork) (daysOf p (releasesOf rs) isMove) (daysOf p (releasesOf rs) isIdle)
+    → runAnswer p rs ≡ Given (Clean (daysOf p (releasesOf rs) isWork) (daysOf p (releasesOf rs) isMove) (daysOf p (releasesOf rs) isIdle))
 never-misses p rs h passes =
     let good = runCheck-lawful p rs h in
-    run-lawful p rs h ∙ run-clean p (releasesOf rs) (good .plan) (good .none-bad) passes
+    run-lawful p rs h ∙ ap Given (run-clean p (releasesOf rs) (good .plan) (good .none-bad) passes)
 
 module _ (p : Plan) (w m i : Length) where
   -- how a run that ends clean is counted
@@ -27,14 +26,14 @@ module _ (p : Plan) (w m i : Length) where
       absurd (omega arith))
       (λ e. rw e at h)
 
-  pub answer-clean-days : (rs : Releases) → runAnswer p rs ≡ Clean w m i
+  pub answer-clean-days : (rs : Releases) → runAnswer p rs ≡ Given (Clean w m i)
       → Clean (daysOf p (releasesOf rs) isWork) (daysOf p (releasesOf rs) isMove) (daysOf p (releasesOf rs) isIdle) ≡ Clean w m i
   unfolding runAnswer
   answer-clean-days rs h = go (runCheck p rs) h
     where
-      go : (c : Checked) → onOutcome c (runOf p (releasesOf rs)) ≡ Clean w m i
+      go : (c : Checked) → onOutcome c (runOf p (releasesOf rs)) ≡ Given (Clean w m i)
           → Clean (daysOf p (releasesOf rs) isWork) (daysOf p (releasesOf rs) isMove) (daysOf p (releasesOf rs) isIdle) ≡ Clean w m i
-      go Lawful e = runOf-clean-days (releasesOf rs) e
+      go Lawful e = runOf-clean-days (releasesOf rs) (cc)
       go (Refused f at) e =
           let z : _≡_ {A = ℕ} 0 1 = cc in
           absurd (omega arith)

@@ -1,20 +1,26 @@
--- What the entry for the first broken pair says of a lawful plan.
-use Rattle.base.proofs.Prelude.{ℕ, _≤_, _≡_, refl, sym, ap, _∙_, subst, [], _∷_, Option, none, some, arith}
-use denote.Enum.Declared.{tagOf}
+-- What the first broken pair of a lawful plan says, as the code has it.
+use Rattle.base.proofs.Prelude.{ℕ, _≤_, _≡_, refl, sym, ap, _∙_, Option, none, some, arith, length-map}
 use Rattle.days.specs.{declared.Length.Length, Days.days}
-use Rattle.rules.specs.{declared.Plan.Plan, declared.Broken.Broken, declared.Broken.the-variants.At, Verdict.{Pair, brokenAt}, Refusal.breakAnswer}
-use Rattle.rules.proofs.Broken.{the-type}
-use Rattle.laws.proofs.{Lawful.{LawfulPlan, dMax-le}, LawfulChecked.lawful-checked, Answers.break-lawful}
+use Rattle.rules.specs.{declared.Plan.Plan, declared.Broken.Broken, declared.Broken.the-variants.{Nowhere, At}, Verdict.{Pair, brokenAt}}
+use Rattle.laws.proofs.Lawful.{LawfulPlan, dMax-le}
 use Rattle.demand.proofs.{Pairs.pair, Verdict.{firstBroken-names, firstBroken-in-range}}
+use Rattle.exact.specs.Missing.{movedFreely, freely}
+use Rattle.exact.proofs.Freely.{freely-lawful}
+use Rattle.verdict.specs.inner.Asked.{Ready}
 use Rattle.verdict.proofs.Blocking.{blockLimit-short}
 use Rattle.tries.specs.Tries.{ownBreak}
-use types.Run.{OneOf, miss}
+
+-- the plan with free moving is ready where the plan is
+pub freely-ready : (p : Plan) → Ready p → Ready (freely p)
+freely-ready p ready = record { lawful = freely-lawful p (ready .lawful); ten = length-map (p .strings) movedFreely ∙ ready .ten }
 
 -- the pair that is said
-nowhere-said : (q : Option Pair) (v : Broken) → v ≡ brokenAt q → OneOf (0 ∷ (1 ∷ [])) (tagOf the-type v) → q ≡ none
+nowhere-said : (q : Option Pair) → Nowhere ≡ brokenAt q → q ≡ none
 unfolding brokenAt
-nowhere-said none v e other = refl
-nowhere-said (some q) v e other = absurd (miss (0 ∷ (1 ∷ [])) 2 tt (subst (λ w. OneOf (0 ∷ (1 ∷ [])) (tagOf the-type w)) e other))
+nowhere-said none e = refl
+nowhere-said (some q) e =
+    let z : _≡_ {A = ℕ} 0 1 = cc in
+    absurd (omega arith)
 
 there-said : (q : Option Pair) (l b : Length) → At l b ≡ brokenAt q → q ≡ some (pair (l .0) (b .0))
 unfolding brokenAt
@@ -28,12 +34,9 @@ there-said (some q) l b e =
     let blocking-days : q .b ≡ b .0 = ap (λ n. n .0) blocking in
     rw (← interval-days, ← blocking-days)
 
-module _ (p : Plan) (ok : LawfulPlan p) (v : Broken) (asked : v ≡ breakAnswer p) where
-  said : v ≡ brokenAt (ownBreak p)
-  said = asked ∙ break-lawful p (lawful-checked p ok)
-
-  pub said-nowhere : OneOf (0 ∷ (1 ∷ [])) (tagOf the-type v) → ownBreak p ≡ none
-  said-nowhere = nowhere-said (ownBreak p) v said
+module _ (p : Plan) (ok : LawfulPlan p) (v : Broken) (said : v ≡ brokenAt (ownBreak p)) where
+  pub said-nowhere : v ≡ Nowhere → ownBreak p ≡ none
+  said-nowhere is = nowhere-said (ownBreak p) (sym is ∙ said)
 
   module _ (l b : Length) (is : v ≡ At l b) where
     pub said-there : ownBreak p ≡ some (pair (l .0) (b .0))

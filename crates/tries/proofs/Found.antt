@@ -5,7 +5,7 @@ use Rattle.days.specs.{Days.day, declared.Day.Day}
 use Rattle.base.proofs.{Lists.true-not-false, FirstOf.{firstOf-none, firstOf-passes}}
 use Rattle.faults.specs.declared.Checked.the-variants.{Lawful}
 use Rattle.faults.proofs.Checks.{by-checked, then-lawful}
-use Rattle.rules.specs.{declared.Plan.Plan, declared.Release.Release, declared.Outcome.Outcome, declared.Outcome.the-variants.{Refused, Miss, Clean}, Release.{noRelease, releasesOf, firstUnlawful}, Refusal.{planCheck, releasesCheck, runCheck, runAnswer}, Run.runOf, Verdict.Pair, Plan.withRun}
+use Rattle.rules.specs.{declared.Plan.Plan, declared.Release.Release, declared.Outcome.the-variants.{Miss, Clean}, declared.AskedOutcome.AskedOutcome, declared.AskedOutcome.the-variants.{Refused, Given}, Release.{noRelease, releasesOf, firstUnlawful}, Refusal.{planCheck, releasesCheck, runCheck, runAnswer}, Run.runOf, Verdict.Pair, Plan.withRun}
 use Rattle.laws.proofs.{Lawful.{LawfulPlan, dMax-le}, LawfulChecked.lawful-checked, Releases.{LawfulRun, runCheck-lawful, releasesCheck-good}, Answers.run-lawful}
 use Rattle.demand.proofs.Verdict.{firstBroken-names, firstBroken-in-range}
 use Rattle.demand.specs.FirstBreak.{FirstBreak}
@@ -22,11 +22,11 @@ packed-holds rs few =
 
 -- ---- An answer that is a miss
 
-miss-only : (o : Outcome) → isMiss o ≡ true → (t : Day) × (place : ℕ) × (o ≡ Miss t place)
+miss-only : (o : AskedOutcome) → isMiss o ≡ true → (t : Day) × (place : ℕ) × (o ≡ Given (Miss t place))
 unfolding isMiss
 miss-only (Refused f at) h = absurd (true-not-false (sym h))
-miss-only (Miss t place) h = (t, place, refl)
-miss-only (Clean w m i) h = absurd (true-not-false (sym h))
+miss-only (Given (Miss t place)) h = (t, place, refl)
+miss-only (Given (Clean w m i)) h = absurd (true-not-false (sym h))
 
 module _ (q : Plan) (rs : List Release) where
   module _ (h : isMiss (runAnswer q (packed rs)) ≡ true) where
@@ -51,8 +51,9 @@ module _ (q : Plan) (rs : List Release) where
     packed-misses =
         let holds = packed-holds rs packed-few in
         let miss = miss-only (runAnswer q (packed rs)) h in
-        let ends : runOf q rs ≡ Miss (miss .0) (miss .1) =
-        ap (runOf q) (sym holds) ∙ sym (run-lawful q (packed rs) checked) ∙ miss .2 in
+        let answered = sym (run-lawful q (packed rs) checked) ∙ miss .2 in
+        let ended : runOf q (releasesOf (packed rs)) ≡ Miss (miss .0) (miss .1) = cc in
+        let ends : runOf q rs ≡ Miss (miss .0) (miss .1) = ap (runOf q) (sym holds) ∙ ended in
         record {
           listed = rw (sym holds) (lawful .none-bad);
           t = miss .0 .0;
@@ -63,13 +64,13 @@ module _ (q : Plan) (rs : List Release) where
 
   -- and the other way round: a short list that misses is answered with its miss
   pub misses-packed : (d : ℕ) → planCheck q ≡ Lawful → length rs ≤ 1000 → (m : MissesBy q rs d)
-      → runAnswer q (packed rs) ≡ Miss (day (m .t)) (m .place)
+      → runAnswer q (packed rs) ≡ Given (Miss (day (m .t)) (m .place))
   unfolding runCheck
   misses-packed d plan few m =
       let holds = packed-holds rs few in
       let list = releasesCheck-good q (packed rs) (omega arith) (ap (firstUnlawful q) holds ∙ m .listed) in
       let check : runCheck q (packed rs) ≡ Lawful = then-lawful (planCheck q) (releasesCheck q (packed rs)) plan ∙ list in
-      run-lawful q (packed rs) check ∙ ap (runOf q) holds ∙ m .ends
+      run-lawful q (packed rs) check ∙ ap Given (ap (runOf q) holds ∙ m .ends)
 
 -- ---- The first try that misses
 

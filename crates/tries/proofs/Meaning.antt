@@ -9,13 +9,13 @@ use Rattle.days.specs.{Days.{day, days}, declared.Day.Day, declared.Length.Leng
 use Rattle.base.proofs.Lists.{by-bool, true-not-false}
 use Rattle.faults.specs.declared.Fault.{Fault}
 use Rattle.faults.proofs.Checks.{by-checked}
-use Rattle.rules.specs.{declared.Plan.Plan, declared.Outcome.the-variants.Miss, Demand.Passes, Verdict.{Pair, verdictOf, isPass}, Refusal.{planCheck, runAnswer}, Plan.withRun}
+use Rattle.rules.specs.{declared.Plan.Plan, declared.Outcome.the-variants.Miss, declared.AskedOutcome.the-variants.Given, Demand.Passes, Verdict.{Pair, verdictOf, isPass}, Release.releasesOf, Run.runOf, Refusal.{planCheck, runAnswer}, Plan.withRun}
 use Rattle.laws.proofs.{Lawful.{LawfulPlan, dMax-le, planCheck-lawful}, LawfulChecked.lawful-checked}
 use Rattle.demand.proofs.{Unbroken.passes-of-none, Verdict.{firstBroken-names, firstBroken-in-range, passes-of-pass, pass-of-passes}}
 use Rattle.exact.specs.Missing.{freely, missing, NeverMisses, FreeMoving}
 use Rattle.exact.proofs.{Freely.{freely-lawful, free-passes}, Exact.{withRun-lawful, break-misses, passes-never}}
 use Rattle.tries.specs.{declared.Missing.Missing, Tries.{Try, listOf, freeBreak, packed, found, raised, unfound, foundAs, missingOf, missingAnswer}, Shown.{Shows, MissesOverMany}}
-use Rattle.tries.proofs.Found.{misses-packed, found-bounded, found-few, found-misses, found-where-free}
+use Rattle.tries.proofs.Found.{packed-holds, misses-packed, found-bounded, found-few, found-misses, found-where-free}
 use Rattle.faults.specs.declared.Checked.the-variants as checked
 use Rattle.tries.specs.declared.Missing.the-variants as answer
 
@@ -170,7 +170,9 @@ module _ (p : Plan) where
         (tried, rw (← run, ← list) (shown-misses (planCheck-lawful p (tried .0)) y is)))
 
     -- the run entry, asked for the plan with this N and this list, answers with a miss
-    pub found-answers : (t : Day) × (place : ℕ) × (t .0 ≤ n .0) × (runAnswer (withRun p (n .0)) (missingAnswer p .releases) ≡ Miss t place)
+    pub found-answers : (t : Day) × (place : ℕ) × (t .0 ≤ n .0)
+        × (runOf (withRun p (n .0)) (releasesOf (missingAnswer p .releases)) ≡ Miss t place)
+        × (runAnswer (withRun p (n .0)) (missingAnswer p .releases) ≡ Given (Miss t place))
     found-answers =
         let shows = answer-found .1 in
         let misses = shows .misses in
@@ -180,6 +182,9 @@ module _ (p : Plan) where
           day (misses .t),
           misses .place,
           misses .soon,
+          ap (λ rs. runOf (withRun p (n .0)) (releasesOf rs)) (shows .packed-as)
+              ∙ ap (runOf (withRun p (n .0))) (packed-holds (shows .list) (shows .few))
+              ∙ misses .ends,
           ap (runAnswer (withRun p (n .0))) (shows .packed-as)
               ∙ misses-packed (withRun p (n .0)) (shows .list) (n .0) lawful (shows .few) misses,
         )

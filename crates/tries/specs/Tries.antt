@@ -32,8 +32,9 @@ use Rattle.faults.specs.declared.Checked.the-variants as checked
 use Rattle.rules.specs.declared.Plan.{Plan}
 use Rattle.rules.specs.declared.Release.{Release}
 use Rattle.rules.specs.declared.Releases.{Releases}
-use Rattle.rules.specs.declared.Outcome.{Outcome}
 use Rattle.rules.specs.declared.Outcome.the-variants as outcome
+use Rattle.rules.specs.declared.AskedOutcome.{AskedOutcome}
+use Rattle.rules.specs.declared.AskedOutcome.the-variants as asked
 use Rattle.rules.specs.Plan.{stringAt}
 use Rattle.rules.specs.Demand.{holdOf}
 use Rattle.rules.specs.Verdict.{Pair, allPairs, firstBroken, verdictOf, isPass}
@@ -103,10 +104,10 @@ tries p = freeTries p (freeBreak p) ++ (heldTries p (ownBreak p) ++ (stoppedTrie
 abbrev pub packed : List Release → Releases
 packed rs = record { count = min (length rs) 1001; list = filled 1000 noRelease (take 1000 rs) }
 
-unfoldable pub isMiss : Outcome → Bool
-isMiss (outcome.Refused f at) = false
-isMiss (outcome.Miss t i) = true
-isMiss (outcome.Clean w m i) = false
+unfoldable pub isMiss : AskedOutcome → Bool
+isMiss (asked.Refused f at) = false
+isMiss (asked.Given (outcome.Miss t i)) = true
+isMiss (asked.Given (outcome.Clean w m i)) = false
 
 unfoldable pub missesOn : Plan → Try → Bool
 missesOn p y = isMiss (runAnswer (withRun p (endOfTry y)) (packed (listOf p y)))

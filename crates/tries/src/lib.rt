@@ -1,9 +1,12 @@
 // Releases that make a plan miss a deadline: the theorem's list where the rule with free moving breaks, and lists in which a taker pays.
+mod asking;
 mod free;
 mod listing;
 mod openings;
 mod search;
 
+use asking::passes;
+use asking::where_broken;
 use bounds::plan_check;
 use days::Length;
 use faults::Checked;
@@ -14,13 +17,11 @@ use openings::no_release;
 use rules::Broken;
 use rules::Plan;
 use rules::Releases;
-use rules::Verdict;
 use search::Tried;
 use search::first_that_misses;
 ghost use mathlib.Core.Path.{_≡_};
 ghost use Prim.Native.Nat.{max};
 ghost use Rattle.days.specs.Days.{days};
-ghost use Rattle.rules.specs.Verdict.{isPass};
 ghost use Rattle.verdict.specs.inner.Asked.{Ready};
 ghost use Rattle.tries.specs.Tries.{freeBreak, unlisted, unfound, missingOf, missingAnswer};
 
@@ -54,22 +55,6 @@ fn without_list(missing: Missing) -> Shown
     }
 }
 
-fn passed(v: Verdict) -> bool
-    ensures { λ r. ⌜ r ≡ isPass v ⌝ }
-{
-    match v {
-        Verdict::Pass { pairs: _ } => true,
-        Verdict::Fail {
-            interval: _,
-            blocking: _,
-            demand: _,
-            pairs: _,
-        } => false,
-        Verdict::Overload => false,
-        Verdict::Refused { fault: _, at: _ } => false,
-    }
-}
-
 // N, or the interval's end where that lies beyond it.
 fn raised(run: Length, end: u32) -> Length
     ensures { λ r. ⌜ r ≡ days (max (run .0) end) ⌝ }
@@ -82,7 +67,7 @@ fn not_shown(p: Plan) -> Missing
     requires { ⌜ Ready p ⌝ }
     ensures { λ r. ⌜ r ≡ unfound (freeBreak p) ⌝ }
 {
-    let broken = verdict::first_break(with_free_moving(p));
+    let broken = where_broken(with_free_moving(p));
     let Broken::At {
         interval: _,
         blocking: _,
@@ -98,7 +83,7 @@ fn shown_for(p: Plan) -> Shown
     requires { ⌜ Ready p ⌝ }
     ensures { λ r. ⌜ r ≡ missingOf p ⌝ }
 {
-    if passed(verdict::quick(p)) {
+    if passes(p) {
         return without_list(Missing::Passes);
     }
     let found = first_that_misses(p);

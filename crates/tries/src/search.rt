@@ -1,4 +1,5 @@
 // The search for a try that misses, in the order of the tries.
+use super::asking::where_broken;
 use super::free::with_free_moving;
 use super::listing::listed;
 use super::openings::Opening;
@@ -6,6 +7,7 @@ use super::openings::blocking;
 use super::openings::paying;
 use super::openings::stopping;
 use days::Length;
+use rules::AskedOutcome;
 use rules::Broken;
 use rules::Outcome;
 use rules::Plan;
@@ -35,15 +37,17 @@ fn misses_on(p: Plan, o: Opening, l: u32) -> bool
 {
     let rs = listed(p, o, l);
     let end = o.lead + l;
-    let outcome = run::run(p.with_run(Length(end)), rs);
-    match outcome {
-        Outcome::Miss { day: _, place: _ } => true,
-        Outcome::Clean {
-            work: _,
-            moving: _,
-            idle: _,
-        } => false,
-        Outcome::Refused { fault: _, at: _ } => false,
+    let asked = run::run(p.with_run(Length(end)), rs);
+    match asked {
+        AskedOutcome::Refused { fault: _, at: _ } => false,
+        AskedOutcome::Given { outcome } => match outcome {
+            Outcome::Miss { day: _, place: _ } => true,
+            Outcome::Clean {
+                work: _,
+                moving: _,
+                idle: _,
+            } => false,
+        },
     }
 }
 
@@ -72,7 +76,7 @@ fn blocked(p: Plan) -> Tried
     requires { ⌜ Ready p ⌝ }
     ensures { λ r. ⌜ Finds r (firstOf (missesOn p) (freeTries p (freeBreak p))) ⌝ }
 {
-    let broken = verdict::first_break(with_free_moving(p));
+    let broken = where_broken(with_free_moving(p));
     let Broken::At {
         interval,
         blocking: days,
@@ -112,7 +116,7 @@ fn held(p: Plan) -> Tried
     requires { ⌜ Ready p ⌝ }
     ensures { λ r. ⌜ Finds r (firstOf (missesOn p) (heldTries p (ownBreak p))) ⌝ }
 {
-    let broken = verdict::first_break(p);
+    let broken = where_broken(p);
     let Broken::At { interval, blocking } = broken else {
         return Tried::NoneMisses;
     };

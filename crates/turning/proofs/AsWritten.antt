@@ -3,9 +3,8 @@ use Rattle.base.proofs.Prelude.{ℕ, _≤_, _≡_, sym, ap, _∙_, subst, Bool,
 use Rattle.base.proofs.Lists.{by-bool, and-right}
 use Rattle.faults.specs.declared.Fault.{Fault}
 use Rattle.rules.specs.{declared.Plan.Plan, declared.Releases.Releases, declared.Reading.Reading, Refusal.runCheck, Layout.{Version, hasField, headerFrame, Common}, Text.readingIn}
-use Rattle.laws.proofs.Releases.{runCheck-lawful}
+use Rattle.laws.proofs.{Releases.runCheck-lawful, ReadLawful.text-read}
 use Rattle.writing.specs.{declared.Saved.the-variants.Refused, Saved.{noRoom, firstOther, alikeCheck, savedText, writableCheck, saveCheck, savedAnswer, savedPage}}
-use Rattle.roundtrip.proofs.ReadLawful.{text-read}
 use Rattle.turning.specs.Turned.{lineOf, onLine, placeIn, turnedText, turnCheck, turnedAnswer, turnedPage}
 use Rattle.faults.specs.declared.Checked.the-variants as checked
 

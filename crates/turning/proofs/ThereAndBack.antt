@@ -8,9 +8,9 @@ use Rattle.base.proofs.{Lists.{all-at, all-by, all-map, by-bool}, Least.{leastF
 use Rattle.faults.specs.{declared.Fault.Fault, declared.Fault.the-variants.{FrameWrong, CostsDiffer}, declared.Checked.the-variants.Lawful}
 use Rattle.faults.proofs.Checks.{refused-not-lawful, refuseIf-not}
 use Rattle.rules.specs.{declared.BatteryString.BatteryString, declared.Plan.Plan, Plan.{stringsOf, stringAt, noString}, Refusal.runCheck, Layout.{Version, hasField, version01, version02, heldTo}, Text.{Line, linesOf, versionOf, aIn, planIn, linesCheck, readingIn, readingOf}, Answer.{answered, answerOf}}
-use Rattle.laws.proofs.Versions.{one-cost, lines-checked, reading-plan}
+use Rattle.laws.proofs.{Versions.{one-cost, lines-checked, reading-plan}, ReadLawful.text-read}
 use Rattle.writing.specs.{declared.Saved.the-variants.{Refused, Text}, Saved.{noRoom, costDiffers, firstOther, alikeCheck, savedText}}
-use Rattle.roundtrip.proofs.{ReadLawful.text-read, ReadBack.{reading-what-was-written, written-names, alike-02}, WriteBack.writing-what-was-read, As02.{read-trimmed, run-is, ten-places, thousand}}
+use Rattle.roundtrip.proofs.{ReadBack.{reading-what-was-written, written-names, alike-02}, WriteBack.writing-what-was-read, As02.{read-trimmed, run-is, ten-places, thousand}}
 use Rattle.roundtrip.specs.OneText.{OneCost}
 use Rattle.turning.specs.Turned.{lineOf, turnedText, turnCheck, turnedAnswer}
 

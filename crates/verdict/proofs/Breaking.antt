@@ -12,14 +12,14 @@ use types.Run.{OneOf, miss}
 
 -- what is judged and is no fail has no broken pair
 none-broken : (p : Plan) (first : Option Pair) (k : ℕ) (v : Verdict) → judged p first k ≡ v
-    → OneOf (0 ∷ (1 ∷ (3 ∷ []))) (tagOf the-type v) → first ≡ none
+    → OneOf (0 ∷ (2 ∷ [])) (tagOf the-type v) → first ≡ none
 unfolding judged
 none-broken p none k v e other = refl
 none-broken p (some q) k v e other =
-    absurd (miss (0 ∷ (1 ∷ (3 ∷ []))) 2 tt (subst (λ w. OneOf (0 ∷ (1 ∷ (3 ∷ []))) (tagOf the-type w)) (sym e) other))
+    absurd (miss (0 ∷ (2 ∷ [])) 1 tt (subst (λ w. OneOf (0 ∷ (2 ∷ [])) (tagOf the-type w)) (sym e) other))
 
 module _ (p : Plan) (ok : LawfulPlan p) (v : Verdict) (scanned : v ≡ scanFrom p 0 (quickPairs p)) where
-  pub broken-nowhere : OneOf (0 ∷ (1 ∷ (3 ∷ []))) (tagOf the-type v) → brokenAt (firstBroken p (allPairs p)) ≡ Nowhere
+  pub broken-nowhere : OneOf (0 ∷ (2 ∷ [])) (tagOf the-type v) → brokenAt (firstBroken p (allPairs p)) ≡ Nowhere
   unfolding brokenAt scanFrom
   broken-nowhere other =
       let none-quick = none-broken p (firstBroken p (quickPairs p)) (0 + length (compared p (quickPairs p))) v (sym scanned) other in

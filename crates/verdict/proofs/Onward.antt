@@ -2,7 +2,7 @@
 use Rattle.base.proofs.Prelude.{ℕ, _+_, _-_, _≤_, _<_, _≡_, refl, sym, ap, _∙_, true, false, List, [], _∷_, _++_, arith, ℕ-discrete, lt-ltb, ltb, length, getD}
 use denote.Enum.Declared.{tagOf}
 use Rattle.days.specs.Days.{days}
-use Rattle.rules.specs.{declared.BatteryString.BatteryString, declared.Plan.Plan, declared.Verdict.Verdict, declared.Verdict.the-variants.{Refused, Overload, Fail, Pass}, Plan.{stringsOf, noString, dMin, dMax}, Demand.{jobs, blockLimit, demand}, Verdict.Pair}
+use Rattle.rules.specs.{declared.BatteryString.BatteryString, declared.Plan.Plan, declared.Verdict.Verdict, declared.Verdict.the-variants.{Overload, Fail, Pass}, Plan.{stringsOf, noString, dMin, dMax}, Demand.{jobs, blockLimit, demand}, Verdict.Pair}
 use Rattle.rules.proofs.Verdict.{the-type}
 use Rattle.base.specs.Count.{keep, smallestWith}
 use Rattle.base.proofs.Lists.{all-map, all-at, any-at, largest-ge, largest-some, smallestWith-some, smallest-above, smallest-le}
@@ -15,12 +15,11 @@ use Rattle.verdict.proofs.{Asked.demand-parts, StringSums.strings-count
 use types.Run.{OneOf, miss}
 
 -- what has ended is not changed by what is left
-pub onward-ended : (p : Plan) (v : Verdict) (qs : List Pair) → OneOf (0 ∷ (1 ∷ (2 ∷ []))) (tagOf the-type v) → onward p v qs ≡ v
+pub onward-ended : (p : Plan) (v : Verdict) (qs : List Pair) → OneOf (0 ∷ (1 ∷ [])) (tagOf the-type v) → onward p v qs ≡ v
 unfolding onward
-onward-ended p (Refused f at) qs h = refl
 onward-ended p Overload qs h = refl
 onward-ended p (Fail l b d k) qs h = refl
-onward-ended p (Pass k) qs h = absurd (miss (0 ∷ (1 ∷ (2 ∷ []))) 3 tt h)
+onward-ended p (Pass k) qs h = absurd (miss (0 ∷ (1 ∷ [])) 2 tt h)
 
 -- ---- Where a count grows with no blocking
 

@@ -238,16 +238,5 @@ pub(crate) fn passes(p: Plan, h: u32) -> bool
     requires { ⌜ h ≡ multipleOf p ⌝ }
     ensures { λ r. ⌜ r ≡ isPass (verdictOf p) ⌝ }
 {
-    let v = quickly_judged(p, h);
-    match v {
-        Verdict::Pass { pairs: _ } => true,
-        Verdict::Fail {
-            interval: _,
-            blocking: _,
-            demand: _,
-            pairs: _,
-        } => false,
-        Verdict::Overload => false,
-        Verdict::Refused { fault: _, at: _ } => false,
-    }
+    quickly_judged(p, h).passes()
 }

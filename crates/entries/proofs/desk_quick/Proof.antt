@@ -1,7 +1,7 @@
 -- `desk_quick` meets its contract: the numbers are the plan, and the row is what the answer says.
 use Rattle.base.proofs.Prelude.{refl, needs}
 use Rattle.demand.specs.Quick.{quickAnswer}
-use Rattle.rules.specs.Said.{verdictSays}
+use Rattle.rules.specs.Said.{askedVerdictSays}
 use Rattle.entries.specs.Told.{rowOf}
 use Rattle.entries.proofs.{Telling.told-plan, desk_quick.Statement.statement}
 use Rattle.entries.proofs.desk_quick.Tie as tie
@@ -12,7 +12,7 @@ returns c =
     let row = told .before .before in
     let answered = row .before in
     let plan = answered .before in
-    let said = told-plan (λ v. rowOf (verdictSays v)) quickAnswer _ _ _ _ _ _ _
+    let said = told-plan (λ v. rowOf (askedVerdictSays v)) quickAnswer _ _ _ _ _ _ _
     (plan .plan-given .ensures) (answered .quick .ensures) (row .verdict-row .ensures) (told .tell .ensures) in
     (said .0, (said .1, refl))
 

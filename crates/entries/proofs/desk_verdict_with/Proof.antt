@@ -1,6 +1,6 @@
 -- `desk_verdict_with` meets its contract: the numbers are the plan, and the row is what the answer says.
 use Rattle.base.proofs.Prelude.{refl, needs}
-use Rattle.rules.specs.{Refusal.setAnswer, Said.verdictSays}
+use Rattle.rules.specs.{Refusal.setAnswer, Said.askedVerdictSays}
 use Rattle.entries.specs.Told.{rowOf}
 use Rattle.entries.proofs.{Telling.told-plan, desk_verdict_with.Statement.statement}
 use Rattle.entries.proofs.desk_verdict_with.Tie as tie
@@ -12,7 +12,7 @@ returns c =
     let answered = row .before in
     let plan = answered .before in
     let set = plan .before .before .before .args .set in
-    let said = told-plan (λ v. rowOf (verdictSays v)) (λ p. setAnswer p set) _ _ _ _ _ _ _
+    let said = told-plan (λ v. rowOf (askedVerdictSays v)) (λ p. setAnswer p set) _ _ _ _ _ _ _
     (plan .plan-given .ensures) (answered .verdict-with .ensures) (row .verdict-row .ensures) (told .tell .ensures) in
     (said .0, (said .1, refl))
 

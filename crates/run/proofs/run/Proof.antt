@@ -1,7 +1,7 @@
 -- `run::run` meets its contract: the check decides, and what it finds lawful is run.
-use Rattle.base.proofs.Prelude.{_≡_, sym, _∙_, needs}
+use Rattle.base.proofs.Prelude.{_≡_, sym, ap, _∙_, needs}
 use Rattle.faults.specs.declared.Checked.the-variants.{Lawful}
-use Rattle.rules.specs.Refusal.{runCheck, runAnswer}
+use Rattle.rules.specs.{declared.AskedOutcome.the-variants.Given, Refusal.{runCheck, runAnswer}}
 use Rattle.laws.proofs.Releases.{runCheck-lawful}
 use Rattle.run.proofs.run.Statement.{statement}
 use Rattle.run.proofs.run.Tie as tie
@@ -11,7 +11,7 @@ lawful c = sym (c .before .before .run-check .ensures) ∙ c .enum-told .given .
 
 returns : tie.Need-returns
 unfolding runAnswer
-returns c = rw (lawful (c .before)) (c .run-days .ensures)
+returns c = rw (lawful (c .before)) (ap Given (c .run-days .ensures))
 
 returns-2 : tie.Need-returns-2
 unfolding runAnswer

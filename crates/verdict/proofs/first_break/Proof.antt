@@ -1,7 +1,7 @@
 -- `verdict::first_break` meets its contract: the check decides, then the first broken pair.
-use Rattle.base.proofs.Prelude.{_≡_, sym, _∙_, needs, length-map}
+use Rattle.base.proofs.Prelude.{_≡_, sym, ap, _∙_, needs, length-map}
 use Rattle.faults.specs.declared.Checked.the-variants.{Lawful}
-use Rattle.rules.specs.Refusal.{planCheck}
+use Rattle.rules.specs.{declared.AskedBroken.the-variants.Given, Refusal.planCheck}
 use Rattle.laws.proofs.Answers.{break-lawful, break-refused}
 use Rattle.verdict.proofs.{Readiness.ready-plan, first_break.Statement.statement}
 use Rattle.verdict.proofs.first_break.Tie as tie
@@ -19,7 +19,7 @@ broken-at-requires c κs =
 returns : tie.Need-returns
 returns c =
     let told = c .before .before in
-    c .broken-at .ensures ∙ sym (break-lawful (told .before .before .before .args .p) (lawful told))
+    ap Given (c .broken-at .ensures) ∙ sym (break-lawful (told .before .before .before .args .p) (lawful told))
 
 returns-2 : tie.Need-returns-2
 returns-2 c =

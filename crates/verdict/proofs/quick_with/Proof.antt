@@ -1,7 +1,7 @@
 -- `verdict::quick_with` meets its contract: the check decides, then the quick verdict.
 use Rattle.base.proofs.Prelude.{_≡_, sym, ap, _∙_, subst, needs, length-map}
 use Rattle.faults.specs.declared.Checked.the-variants.{Lawful}
-use Rattle.rules.specs.{Plan.multipleOf, Refusal.setCheck}
+use Rattle.rules.specs.{declared.AskedVerdict.the-variants.Given, Plan.multipleOf, Refusal.setCheck}
 use Rattle.demand.specs.Quick.{quickOf}
 use Rattle.demand.proofs.Sets.{withSet-multiple}
 use Rattle.verdict.specs.inner.Asked.{Ready}
@@ -34,8 +34,7 @@ returns c =
     let made = c .before .before in
     let told = made .before in
     let start = told .before .before .before in
-    c .quickly-judged .ensures
-    ∙ ap quickOf (made .with-set .ensures)
+    ap Given (c .quickly-judged .ensures ∙ ap quickOf (made .with-set .ensures))
     ∙ sym (quick-set-lawful (start .args .p) (start .args .set) (lawful told))
 
 returns-2 : tie.Need-returns-2

@@ -1,7 +1,7 @@
 -- `verdict::search` meets its contract: the check decides, then the rules.
-use Rattle.base.proofs.Prelude.{_≡_, sym, _∙_, needs, length-map}
+use Rattle.base.proofs.Prelude.{_≡_, sym, ap, _∙_, needs, length-map}
 use Rattle.faults.specs.declared.Checked.the-variants.{Lawful}
-use Rattle.rules.specs.Refusal.{planCheck}
+use Rattle.rules.specs.{declared.AskedAssign.the-variants.Given, Refusal.planCheck}
 use Rattle.laws.proofs.Answers.{search-lawful, search-refused}
 use Rattle.verdict.proofs.{Readiness.ready-plan, search.Statement.statement}
 use Rattle.verdict.proofs.search.Tie as tie
@@ -19,7 +19,7 @@ first-set-requires c κs =
 returns : tie.Need-returns
 returns c =
     let told = c .before .before in
-    c .first-set .ensures ∙ sym (search-lawful (told .before .before .before .args .p) (lawful told))
+    ap Given (c .first-set .ensures) ∙ sym (search-lawful (told .before .before .before .args .p) (lawful told))
 
 returns-2 : tie.Need-returns-2
 returns-2 c =

@@ -1,7 +1,7 @@
 -- `verdict::verdict` meets its contract: the check decides, then the rules.
-use Rattle.base.proofs.Prelude.{_≡_, sym, _∙_, needs, length-map}
+use Rattle.base.proofs.Prelude.{_≡_, sym, ap, _∙_, needs, length-map}
 use Rattle.faults.specs.declared.Checked.the-variants.{Lawful}
-use Rattle.rules.specs.Refusal.{planCheck}
+use Rattle.rules.specs.{declared.AskedVerdict.the-variants.Given, Refusal.planCheck}
 use Rattle.laws.proofs.Answers.{verdict-lawful, verdict-refused}
 use Rattle.verdict.proofs.{Readiness.ready-plan, verdict.Statement.statement}
 use Rattle.verdict.proofs.verdict.Tie as tie
@@ -19,7 +19,7 @@ judged-requires c κs =
 returns : tie.Need-returns
 returns c =
     let told = c .before .before in
-    c .judged .ensures ∙ sym (verdict-lawful (told .before .before .before .args .p) (lawful told))
+    ap Given (c .judged .ensures) ∙ sym (verdict-lawful (told .before .before .before .args .p) (lawful told))
 
 returns-2 : tie.Need-returns-2
 returns-2 c =

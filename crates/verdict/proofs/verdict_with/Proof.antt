@@ -1,7 +1,7 @@
 -- `verdict::verdict_with` meets its contract: the check decides, then the rules.
 use Rattle.base.proofs.Prelude.{_≡_, sym, ap, _∙_, subst, needs, length-map}
 use Rattle.faults.specs.declared.Checked.the-variants.{Lawful}
-use Rattle.rules.specs.{Plan.multipleOf, Verdict.verdictOf, Refusal.setCheck}
+use Rattle.rules.specs.{declared.AskedVerdict.the-variants.Given, Plan.multipleOf, Verdict.verdictOf, Refusal.setCheck}
 use Rattle.demand.proofs.Sets.{withSet-multiple}
 use Rattle.verdict.specs.inner.Asked.{Ready}
 use Rattle.verdict.proofs.{Permit.ready-with, Readiness.ready-plan, verdict_with.Statement.statement}
@@ -32,7 +32,8 @@ returns c =
     let made = c .before .before in
     let told = made .before in
     let start = told .before .before .before in
-    c .judged .ensures ∙ ap verdictOf (made .with-set .ensures) ∙ sym (set-lawful (start .args .p) (start .args .set) (lawful told))
+    ap Given (c .judged .ensures ∙ ap verdictOf (made .with-set .ensures))
+    ∙ sym (set-lawful (start .args .p) (start .args .set) (lawful told))
 
 returns-2 : tie.Need-returns-2
 returns-2 c =

@@ -20,7 +20,7 @@ use lib.ListN.{length, getD}
 use Rattle.rules.specs.declared.BatteryString.{BatteryString}
 use Rattle.rules.specs.declared.Plan.{Plan}
 use Rattle.rules.specs.declared.Verdict.{Verdict}
-use Rattle.rules.specs.declared.Verdict.the-variants.{Refused, Overload, Fail, Pass}
+use Rattle.rules.specs.declared.Verdict.the-variants.{Overload, Fail, Pass}
 use Rattle.rules.specs.Plan.{noString}
 use Rattle.rules.specs.Demand.{holdOf, jobs}
 use Rattle.rules.specs.Verdict.{Pair}
@@ -59,13 +59,11 @@ pub record RowKnown (p : Plan) (l keepers more : ℕ) (takers marks : List ℕ) 
   pub looked : Looked p (l + 1) takers marks
 
 unfoldable pub onward : Plan → Verdict → List Pair → Verdict
-onward p (Refused f at) qs = Refused f at
 onward p Overload qs = Overload
 onward p (Fail l b d k) qs = Fail l b d k
 onward p (Pass k) qs = scanFrom p k qs
 
 unfoldable pub pairsOf : Verdict → ℕ
-pairsOf (Refused f at) = 0
 pairsOf Overload = 0
 pairsOf (Fail l b d k) = 0
 pairsOf (Pass k) = k

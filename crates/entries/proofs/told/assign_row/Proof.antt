@@ -6,7 +6,8 @@ use Rattle.entries.proofs.told.assign_row.Tie as tie
 pub assign-row-spec : {M : Type 1} → statement M
 assign-row-spec =
     tie.close (tie.spec
-    (λ c. search needs) (λ c κs. search needs) (λ c. search needs) (λ c κs. search needs) (λ c. search needs)
-    (λ c κs. search needs) (λ c. rw (c .before .before .a .given .1) (c .refused-row .ensures))
-    (λ c. rw (c .before .before .a2 .given .1) (c .row-of .ensures))
-    (λ c. rw (c .before .enum-told .given .1) (c .row-of2 .ensures)))
+    (λ c. search needs) (λ c κs. search needs) (λ c. search needs) (λ c. search needs) (λ c κs. search needs)
+    (λ c. search needs) (λ c κs. search needs)
+    (λ c. rw (c .before .before .a .given .1) (c .refused-row .ensures))
+    (λ c. rw (c .before .before .before .before .before .a2 .given .1, c .before .before .assign .given .1) (c .row-of .ensures))
+    (λ c. rw (c .before .before .before .before .a2 .given .1, c .before .enum-told .given .1) (c .row-of2 .ensures)))

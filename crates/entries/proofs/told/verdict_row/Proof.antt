@@ -6,9 +6,9 @@ use Rattle.entries.proofs.told.verdict_row.Tie as tie
 pub verdict-row-spec : {M : Type 1} → statement M
 verdict-row-spec =
     tie.close (tie.spec
-    (λ c. search needs) (λ c κs. search needs) (λ c. search needs) (λ c κs. search needs) (λ c. search needs)
-    (λ c κs. search needs) (λ c. search needs) (λ c κs. search needs)
+    (λ c. search needs) (λ c κs. search needs) (λ c. search needs) (λ c. search needs) (λ c κs. search needs)
+    (λ c. search needs) (λ c κs. search needs) (λ c. search needs) (λ c κs. search needs)
     (λ c. rw (c .before .before .v .given .1) (c .refused-row .ensures))
-    (λ c. rw (c .before .enum-told .given .1) (c .row-of .ensures))
-    (λ c. rw (c .before .before .v2 .given .1) (c .row-of2 .ensures))
-    (λ c. rw (c .before .before .v3 .given .1) (c .row-of3 .ensures)))
+    (λ c. rw (c .before .before .before .before .v2 .given .1, c .before .enum-told .given .1) (c .row-of .ensures))
+    (λ c. rw (c .before .before .before .before .before .v2 .given .1, c .before .before .verdict .given .1) (c .row-of2 .ensures))
+    (λ c. rw (c .before .before .before .before .before .v2 .given .1, c .before .before .verdict2 .given .1) (c .row-of3 .ensures)))

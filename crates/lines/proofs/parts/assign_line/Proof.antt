@@ -6,20 +6,16 @@ use Rattle.lines.proofs.parts.assign_line.Statement.{statement}
 use Rattle.lines.proofs.parts.assign_line.Tie as tie
 
 returns : tie.Need-returns
-unfolding assignLine
-returns c = (rw (c .before .before .a .given .1) (c .refused-line .ensures .0), omega arith)
+unfolding bytesOf wordedIn marked takes filledIn assignLine
+returns c = (rw (c .before .before .before .before .a .given .1) (c .fill-in .ensures .0), omega arith)
 
 returns-2 : tie.Need-returns-2
-unfolding bytesOf wordedIn marked takes filledIn assignLine
-returns-2 c = (rw (c .before .before .before .before .a2 .given .1) (c .fill-in .ensures .0), omega arith)
-
-returns-3 : tie.Need-returns-3
 unfolding bytesOf wordedIn filledIn assignLine
-returns-3 c = (rw (c .before .before .before .enum-told .given .1) (c .fill-in2 .ensures .0), omega arith)
+returns-2 c = (rw (c .before .before .before .enum-told .given .1) (c .fill-in2 .ensures .0), omega arith)
 
 pub assign-line-spec : {M : Type 1} → statement M
 assign-line-spec =
     tie.close (tie.spec
+    (λ c. search needs) (λ c. search needs) (λ c. search needs)
     (λ c. search needs) (λ c κs. search needs) (λ c. search needs) (λ c. search needs) (λ c. search needs)
-    (λ c. search needs) (λ c κs. search needs) (λ c. search needs) (λ c. search needs) (λ c. search needs)
-    (λ c κs. search needs) returns returns-2 returns-3)
+    (λ c κs. search needs) returns returns-2)

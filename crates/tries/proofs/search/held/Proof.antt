@@ -8,11 +8,11 @@ use Rattle.tries.proofs.search.held.Tie as tie
 
 returns : tie.Need-returns
 returns c =
-    let ask = c .before in
+    let ask = c .before .before in
     let start = ask .before in
     let p = start .args .p in
     let f = missesOn p in
-    ap (λ q. firstOf f (heldTries p q)) (said-nowhere p (start .pre .lawful) _ (ask .first-break .ensures) (c .match .keys2))
+    ap (λ q. firstOf f (heldTries p q)) (said-nowhere p (start .pre .lawful) _ (ask .where-broken .ensures) (c .enum-told .given .1))
     ∙ firstOf-end f
 
 held-at-requires : tie.Need-held-at-requires
@@ -23,7 +23,7 @@ held-at-requires c κs =
     let lawful = start .pre .lawful in
     let said = c .before .broken .given .1 in (
       start .pre,
-      (broken-interval p lawful _ (ask .first-break .ensures) _ _ said, broken-blocking p lawful _ (ask .first-break .ensures) _ _ said),
+      (broken-interval p lawful _ (ask .where-broken .ensures) _ _ said, broken-blocking p lawful _ (ask .where-broken .ensures) _ _ said),
     )
 
 returns-2 : tie.Need-returns-2
@@ -32,8 +32,8 @@ returns-2 c =
     let ask = told .before .before .before in
     let start = ask .before in
     let p = start .args .p in
-    let there = said-there p (start .pre .lawful) _ (ask .first-break .ensures) _ _ (told .before .broken .given .1) in
+    let there = said-there p (start .pre .lawful) _ (ask .where-broken .ensures) _ _ (told .before .broken .given .1) in
     finds-as (c .held-at .result) _ _ (ap (λ q. firstOf (missesOn p) (heldTries p q)) (sym there)) (c .held-at .ensures)
 
 pub held-spec : {M : Type 1} → statement M
-held-spec = tie.close (tie.spec (λ c κs. search needs) (λ c. search needs) returns held-at-requires returns-2)
+held-spec = tie.close (tie.spec (λ c κs. search needs) (λ c. search needs) (λ c. search needs) returns held-at-requires returns-2)

@@ -1,10 +1,10 @@
 -- A text that is read is lawful by numbers too: its plan and its releases pass the checks of the entries that take numbers.
--- So none of the three answers for it is a refusal. The checks are the same, reported at lines there and at places here.
+-- So the entries refuse none of it. The checks are the same, reported at lines there and at places here.
 use Rattle.base.proofs.Prelude.{ℕ, zero, suc, _+_, _≤_, _≡_, refl, ap, _∙_, true, not, List, [], _∷_, map, arith, ltb-false, not-false, ltb, length, take, drop, length-map, take-at}
 use Rattle.rules.specs.{declared.Plan.Plan, declared.Release.Release, Plan.stringLawful, Release.{releaseLawful, unlawfulFrom, firstUnlawful}, Refusal.{headCheck, costCheck, stringCheck, stringsCheck, multipleCheck, manyCheck, planCheck, runCheck}, Layout.{Version, headerFrame, stringFrame, releaseFrame}, Text.{Line, linesOf, nIn, runIn, aIn, stringOf, releaseOf, planIn, listIn, versionCheck, headerCheck, layoutCheck, stringLineCheck, stringLinesCheck, releaseLineCheck, releaseLinesCheck, bodyCheck, linesCheck, textCheck, lawfulReading, readingIn, versionOf, readingOf}}
 use Rattle.faults.specs.{declared.Fault.the-variants.{FrameWrong, OutOfBounds, ReleaseTooMany, ReleaseUnlawful}, declared.Checked.Checked, declared.Checked.the-variants.Lawful, Checks.{then, refuseIf}}
 use Rattle.faults.proofs.Checks.{refused-not-lawful, then-first, then-second, then-lawful, refuseIf-not, refuseIf-anywhere}
 use Rattle.laws.proofs.{Lawful.{headCheck-lawful, headCheck-good, multipleCheck-small, multipleCheck-good}, Versions.{strings-lawful, strings-are, reading-checked, lines-checked}, Releases.releasesCheck-good}
 
 module _ (v : Version) where
   -- ---- The string lines
