@@ -208,7 +208,8 @@ module _ (base : ℕ) (two : 2 ≤ base) where
   unfolding placesOf
   places-next k v d ds small = rw (digits-div v small, digits-mod v small) (append-assoc (placesOf base k v) (d ∷ []) ds)
 
-  places-on : (k v : ℕ) (ds : List ℕ) → All (λ d. d < base) ds → placesOf base (k + length ds) (numberOn base v ds) ≡ placesOf base k v ++ ds
+  places-on : (k v : ℕ) (ds : List ℕ) → All (λ d. d < base) ds
+      → placesOf base (k + length ds) (numberOn base v ds) ≡ placesOf base k v ++ ds
   unfolding numberOn
   places-on k v [] h =
       let none : k + 0 ≡ k = omega arith in

@@ -89,7 +89,8 @@ yearly-short t h =
 
 dateText-parts : (d : Date) → d .year < 10000 → d .month < 100 → d .day < 100 → dateIn (dateText d) ≡ d
 unfolding dateIn dateText digits placesOf
-dateText-parts d y m k = same-date (dateIn (dateText d)) d (digits-said 4 (d .year) y) (digits-said 2 (d .month) m) (digits-said 2 (d .day) k)
+dateText-parts d y m k = same-date (dateIn (dateText d)) d (digits-said 4 (d .year) y) (digits-said 2 (d .month) m) (digits-said 2 (d
+    .day) k)
 
 yearlyText-parts : (t : YearlyDate) → t .month < 100 → t .day < 100 → yearlyIn (yearlyText t) ≡ t
 unfolding yearlyIn yearlyText digits placesOf

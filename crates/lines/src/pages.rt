@@ -59,6 +59,7 @@ pub(crate) fn append_number(page: Page, n: u64) -> Page
 pub fn put_text(text: &[u8], page: &mut [u8]) -> usize
     ensures exact { λ r. ⌜ r ≡ lengthTold (now (text .entry)) (now (page .entry)) ⌝ }
     ensures page { λ r. ⌜ now (page .exit) ≡ pageTold (now (text .entry)) (now (page .entry)) ⌝ }
+    ensures kept { λ r. ⌜ now (text .exit) ≡ now (text .entry) ⌝ }
 {
     if page.len() < text.len() {
         return 0;

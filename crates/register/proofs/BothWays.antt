@@ -5,13 +5,13 @@ use mathlib.Core.List.{flatMap}
 use Rattle.days.specs.Days.{days}
 use Rattle.base.specs.Count.{All, filled, leastFrom}
 use Rattle.base.proofs.Lists.{all-map}
-use Rattle.faults.specs.{declared.Checked.Checked, declared.Checked.the-variants.Lawful, declared.Fault.the-variants.{TextTooLong, StringCount, MultipleOver, RowMalformed}, Checks.{then, refuseIf}}
+use Rattle.faults.specs.{declared.Checked.Checked, declared.Checked.the-variants.{Lawful, Refused}, declared.Fault.the-variants.{TextTooLong, StringCount, MultipleOver, RowMalformed}, Checks.{then, refuseIf}}
 use Rattle.faults.proofs.Checks.{then-first, then-second, then-lawful, refuseIf-not, inBounds-yes}
 use Rattle.rules.specs.{declared.BatteryString.BatteryString, declared.Plan.Plan, declared.Releases.Releases, declared.Reading.Reading, Plan.{stringsOf, noString, stringLawful, commonMultiple, multipleOf}, Refusal.{countCheck, runLengthCheck, stringCheck, stringsCheck, multipleCheck, planCheck, releasesCheck, runCheck}, Release.{firstUnlawful, unlawfulFrom}, Lines.rowLine, Text.{Line, linesOf, noReleases, refusedReading}}
 use Rattle.laws.specs.Lawful.{LawfulString, LawfulPlan}
 use Rattle.laws.proofs.{Lawful.{stringLawful-yes, multipleCheck-good}, Releases.releasesCheck-good, LineTexts.{lineBytes, textOfLines, EndedLine, NoEnd, lines-said, lines-written}}
 use Rattle.register.specs.{Table.{rowFormed, rowString, rowCheck, rowsCheck, tablePlan, rowLinesCheck, tableCheck, tableReading}, Export.tableText}
-use Rattle.register.proofs.RowBack.{Short, rowOf, row-line, row-formed, row-says, row-within, row-short, formed-ended, row-written}
+use Rattle.register.proofs.RowBack.{Short, registerRow, row-line, row-formed, row-says, row-no-end, rowLine-short, formed-ended, row-written}
 
 -- ---- Written, then read
 
@@ -26,7 +26,7 @@ short-string s ok =
     (omega arith, (omega arith, (omega arith, (omega arith, (omega arith, tt)))))
 
 abbrev rows : List BatteryString → List Line
-rows ss = map rowOf ss
+rows ss = map registerRow ss
 
 rows-text : (ss : List BatteryString) → flatMap rowLine ss ≡ textOfLines (rows ss)
 unfolding flatMap
@@ -39,7 +39,7 @@ rows-ended (s ∷ ss) = (refl, rows-ended ss)
 
 rows-within : (ss : List BatteryString) → All NoEnd (rows ss)
 rows-within [] = tt
-rows-within (s ∷ ss) = (row-within s, rows-within ss)
+rows-within (s ∷ ss) = (row-no-end s, rows-within ss)
 
 rows-said : (ss : List BatteryString) → map rowString (rows ss) ≡ ss
 rows-said [] = refl
@@ -64,7 +64,7 @@ rows-short (s ∷ ss) ok =
     omega (
       arith,
       length-append (rowLine s) (flatMap rowLine ss),
-      row-short s (short-string s (ok .0)),
+      rowLine-short s (short-string s (ok .0)),
       rows-short ss (ok .1),
     )
 
@@ -82,13 +82,13 @@ module _ (p : Plan) (ok : LawfulPlan p) (ten : length (p .strings) ≡ 10) (run 
   again = record { n = p .n; run = days run; strings = filled 10 noString (stringsOf p) }
 
   counted : length (rows (stringsOf p)) ≡ p .n
-  counted = length-map (stringsOf p) rowOf ∙ many
+  counted = length-map (stringsOf p) registerRow ∙ many
 
   plan-is : tablePlan run (rows (stringsOf p)) ≡ again
   unfolding tablePlan
   plan-is = rw (counted, rows-said (stringsOf p))
 
-  strings-again : stringsOf again ≡ stringsOf p
+  pub strings-again : stringsOf again ≡ stringsOf p
   strings-again = take-at (stringsOf p) _ (p .n) many
 
   multiple-again : multipleOf again ≡ multipleOf p
@@ -115,11 +115,20 @@ module _ (p : Plan) (ok : LawfulPlan p) (ten : length (p .strings) ≡ 10) (run 
       rest
 
   -- the strings are the same, with the N that was given, and no releases
-  pub written-read : tableReading run (tableText p) ≡ record { checked = Lawful; plan = again; releases = noReleases }
+  pub rows-written-read : tableReading run (tableText p) ≡ record { checked = Lawful; plan = again; releases = noReleases }
   unfolding tableReading
-  written-read = rw (passes, lines-are, plan-is)
+  rows-written-read = rw (passes, lines-are, plan-is)
 
 -- ---- Read, then written
+
+-- a reading is lawful where its check is
+pub table-checked : (run : ℕ) (text : List ℕ) → tableReading run text .checked ≡ Lawful → tableCheck run text ≡ Lawful
+unfolding tableReading
+table-checked run text h = each (tableCheck run text) refl
+  where
+    each : (c : Checked) → tableCheck run text ≡ c → tableCheck run text ≡ Lawful
+    each Lawful e = e
+    each (Refused f at) e = e ∙ sym (rw e) ∙ h
 
 -- a row that is not refused
 module _ (k : ℕ) (line : Line) (h : rowCheck k line ≡ Lawful) where
@@ -187,12 +196,14 @@ module _ (run : ℕ) (text : List ℕ) (h : tableCheck run text ≡ Lawful) wher
   run-good : runLengthCheck 0 run ≡ Lawful
   unfolding tableCheck
   run-good =
-      then-first (runLengthCheck 0 run) (rowLinesCheck run lines) (then-second long (then (runLengthCheck 0 run) (rowLinesCheck run lines)) h)
+      then-first (runLengthCheck 0 run) (rowLinesCheck run lines) (then-second long (then (runLengthCheck 0 run) (rowLinesCheck run
+      lines)) h)
 
   lines-good : rowLinesCheck run lines ≡ Lawful
   unfolding tableCheck
   lines-good =
-      then-second (runLengthCheck 0 run) (rowLinesCheck run lines) (then-second long (then (runLengthCheck 0 run) (rowLinesCheck run lines)) h)
+      then-second (runLengthCheck 0 run) (rowLinesCheck run lines) (then-second long (then (runLengthCheck 0 run) (rowLinesCheck run
+      lines)) h)
 
   rows-good : rowsCheck 1 lines ≡ Lawful
   unfolding rowLinesCheck
@@ -221,9 +232,9 @@ module _ (run : ℕ) (text : List ℕ) (h : tableCheck run text ≡ Lawful) wher
   strings-read = take-at (map rowString lines) _ (length lines) (length-map lines rowString)
 
   -- the same bytes
-  pub read-written : tableText (tablePlan run lines) ≡ text
+  pub rows-read-written : tableText (tablePlan run lines) ≡ text
   unfolding tableText
-  read-written =
+  rows-read-written =
       let formed = rows-formed 1 lines (omega arith) rows-good .0 in
       let ended = all-map (λ l. rowFormed l ≡ true) EndedLine (λ l t. formed-ended l t) lines formed in
       ap (flatMap rowLine) strings-read ∙ rows-written lines formed ∙ lines-written text ended

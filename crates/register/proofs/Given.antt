@@ -4,17 +4,17 @@ use lib.Seq.{take-take}
 use Rattle.base.specs.Digits.{decimalIn}
 use Rattle.base.proofs.Lists.{by-bool}
 use Rattle.rules.specs.Text.{Line, linesOf}
-use Rattle.register.specs.{declared.Row.the-variants.{End, Malformed, Says}, Table.{fieldsOf, fiveNumbers, rowFields, rowFormed, stringFrom, rowString}, Reader.{lineLong, rowGiven, rowAt}, inner.Fields.{bytesAhead, numbersOf}}
+use Rattle.register.specs.{declared.Row.the-variants.{End, Malformed, Says}, Table.{fieldsOf, fiveNumbers, rowFields, rowFormed, stringSaid, rowString}, Reader.{lineLong, rowGiven, rowAt}, inner.Fields.{bytesAhead, fiveOf}}
 use Rattle.register.proofs.Splitting.{lines-open, lines-closed}
 
 -- ---- Numbers that were looked for
 
-pub five-formed : (fields : List (List ℕ)) → numbersOf fields .formed ≡ fiveNumbers fields
-unfolding numbersOf
+pub five-formed : (fields : List (List ℕ)) → fiveOf fields .formed ≡ fiveNumbers fields
+unfolding fiveOf
 five-formed fields = by-bool (fiveNumbers fields) (λ t. rw t) (λ e. rw e)
 
-pub five-values : (fields : List (List ℕ)) → fiveNumbers fields ≡ true → numbersOf fields .values ≡ map decimalIn fields
-unfolding numbersOf
+pub five-values : (fields : List (List ℕ)) → fiveNumbers fields ≡ true → fiveOf fields .values ≡ map decimalIn fields
+unfolding fiveOf
 five-values fields t = rw t
 
 -- ---- A line
@@ -24,7 +24,8 @@ given-formed : (line : Line) (lines : List Line) (at : ℕ) → rowFormed line �
 unfolding rowGiven
 given-formed line lines at t = rw t
 
-given-not : (line : Line) (lines : List Line) (at : ℕ) → rowFormed line ≡ false → rowGiven (line ∷ lines) at ≡ Malformed (at + lineLong line)
+given-not : (line : Line) (lines : List Line) (at : ℕ) → rowFormed line ≡ false
+    → rowGiven (line ∷ lines) at ≡ Malformed (at + lineLong line)
 unfolding rowGiven
 given-not line lines at e = rw e
 
@@ -97,14 +98,14 @@ module _ (text : List ℕ) (at : ℕ) where
       formed-is : rowFormed line ≡ fiveNumbers fields
       formed-is = unfold rowFormed in rw (last-byte some, eq-eqb (getD text (at + ahead - 1) 0) 0x0d returned) (ap fiveNumbers fields-are)
 
-      pub given-numbers : numbersOf fields .formed ≡ false → Malformed (at + ahead + 1) ≡ rowAt text at
+      pub given-numbers : fiveOf fields .formed ≡ false → Malformed (at + ahead + 1) ≡ rowAt text at
       given-numbers e = given-no (formed-is ∙ sym (five-formed fields) ∙ e)
 
-      pub given-row : numbersOf fields .formed ≡ true
-          → Says (stringFrom (numbersOf fields .values)) (at + ahead + 1) ≡ rowAt text at
+      pub given-row : fiveOf fields .formed ≡ true
+          → Says (stringSaid (fiveOf fields .values)) (at + ahead + 1) ≡ rowAt text at
       unfolding rowString
       given-row t =
           let five = sym (five-formed fields) ∙ t in
-          let said : stringFrom (numbersOf fields .values) ≡ rowString line = ap stringFrom (five-values fields five
+          let said : stringSaid (fiveOf fields .values) ≡ rowString line = ap stringSaid (five-values fields five
           ∙ ap (map decimalIn) (sym fields-are)) in
           sym (starts ∙ given-formed line (linesOf (drop (ahead + 1) xs)) at (formed-is ∙ five) ∙ rw (behind, said))

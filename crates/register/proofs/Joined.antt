@@ -1,22 +1,22 @@
 -- Fields with commas between them, and the fields of such a text: each says the other.
---     joined fields tail    the fields, a comma between each two, and what stands behind them
+--     commaed fields tail    the fields, a comma between each two, and what stands behind them
 use Rattle.base.proofs.Prelude.{ℕ, _+_, _*_, _≤_, _≡_, refl, sym, ap, _∙_, true, false, not, List, [], _∷_, _++_, append-assoc, append-nil, arith, eqb-true, eqb, length, take, getD, length-append, take-append-seam}
 use Rattle.base.specs.Count.{All}
 use Rattle.base.proofs.{Lists.by-bool, Order.all-append}
 use Rattle.register.specs.Table.{comma, inFront, fieldsOf}
 use Rattle.register.proofs.Numbers.{fields-some}
 
-abbrev pub joined : List (List ℕ) → List ℕ → List ℕ
-joined [] tail = tail
-joined (f ∷ []) tail = f ++ tail
-joined (f ∷ g ∷ fields) tail = f ++ (comma ∷ joined (g ∷ fields) tail)
+abbrev pub commaed : List (List ℕ) → List ℕ → List ℕ
+commaed [] tail = tail
+commaed (f ∷ []) tail = f ++ tail
+commaed (f ∷ g ∷ fields) tail = f ++ (comma ∷ commaed (g ∷ fields) tail)
 
-pub joined-tail : (fields : List (List ℕ)) (xs ys : List ℕ) → joined fields (xs ++ ys) ≡ joined fields xs ++ ys
-joined-tail [] xs ys = refl
-joined-tail (f ∷ []) xs ys = sym (append-assoc f xs ys)
-joined-tail (f ∷ g ∷ fields) xs ys =
-    ap (λ rest. f ++ (comma ∷ rest)) (joined-tail (g ∷ fields) xs ys)
-    ∙ sym (append-assoc f (comma ∷ joined (g ∷ fields) xs) ys)
+pub commaed-tail : (fields : List (List ℕ)) (xs ys : List ℕ) → commaed fields (xs ++ ys) ≡ commaed fields xs ++ ys
+commaed-tail [] xs ys = refl
+commaed-tail (f ∷ []) xs ys = sym (append-assoc f xs ys)
+commaed-tail (f ∷ g ∷ fields) xs ys =
+    ap (λ rest. f ++ (comma ∷ rest)) (commaed-tail (g ∷ fields) xs ys)
+    ∙ sym (append-assoc f (comma ∷ commaed (g ∷ fields) xs) ys)
 
 -- ---- Joined, then taken apart
 
@@ -34,45 +34,47 @@ unfolding fieldsOf inFront
 field-first [] rest h = refl
 field-first (b ∷ f) rest h = rw (h .0, field-first f rest (h .1))
 
-pub fields-joined : (f : List ℕ) (fields : List (List ℕ)) → NoComma f → All NoComma fields → fieldsOf (joined (f ∷ fields) []) ≡ f ∷ fields
-fields-joined f [] h all = field-alone f h
-fields-joined f (g ∷ fields) h all =
-    field-first f (joined (g ∷ fields) []) h ∙ ap (λ rest. f ∷ rest) (fields-joined g fields (all .0) (all .1))
+pub fields-commaed : (f : List ℕ) (fields : List (List ℕ)) → NoComma f → All NoComma fields
+    → fieldsOf (commaed (f ∷ fields) []) ≡ f ∷ fields
+fields-commaed f [] h all = field-alone f h
+fields-commaed f (g ∷ fields) h all =
+    field-first f (commaed (g ∷ fields) []) h ∙ ap (λ rest. f ∷ rest) (fields-commaed g fields (all .0) (all .1))
 
--- ---- Taken apart, then joined
+-- ---- Taken apart, then commaed
 
-front-joined : (b : ℕ) (fields : List (List ℕ)) (tail : List ℕ) → 1 ≤ length fields → joined (inFront b fields) tail ≡ b ∷ joined fields tail
+front-commaed : (b : ℕ) (fields : List (List ℕ)) (tail : List ℕ) → 1 ≤ length fields
+    → commaed (inFront b fields) tail ≡ b ∷ commaed fields tail
 unfolding inFront
-front-joined b [] tail some = absurd (omega arith)
-front-joined b (f ∷ []) tail some = refl
-front-joined b (f ∷ g ∷ fields) tail some = refl
+front-commaed b [] tail some = absurd (omega arith)
+front-commaed b (f ∷ []) tail some = refl
+front-commaed b (f ∷ g ∷ fields) tail some = refl
 
-empty-joined : (fields : List (List ℕ)) → 1 ≤ length fields → joined ([] ∷ fields) [] ≡ comma ∷ joined fields []
-empty-joined [] some = absurd (omega arith)
-empty-joined (g ∷ fields) some = refl
+empty-commaed : (fields : List (List ℕ)) → 1 ≤ length fields → commaed ([] ∷ fields) [] ≡ comma ∷ commaed fields []
+empty-commaed [] some = absurd (omega arith)
+empty-commaed (g ∷ fields) some = refl
 
-pub joined-fields : (xs : List ℕ) → joined (fieldsOf xs) [] ≡ xs
+pub commaed-fields : (xs : List ℕ) → commaed (fieldsOf xs) [] ≡ xs
 unfolding fieldsOf
-joined-fields [] = refl
-joined-fields (b ∷ xs) =
+commaed-fields [] = refl
+commaed-fields (b ∷ xs) =
     by-bool (eqb b comma)
-    (λ t. rw t (empty-joined (fieldsOf xs) (fields-some xs) ∙ ap (λ rest. comma ∷ rest) (joined-fields xs)
+    (λ t. rw t (empty-commaed (fieldsOf xs) (fields-some xs) ∙ ap (λ rest. comma ∷ rest) (commaed-fields xs)
     ∙ ap (λ c. c ∷ xs) (sym (eqb-true b comma t))))
-    (λ e. rw e (front-joined b (fieldsOf xs) [] (fields-some xs) ∙ ap (λ rest. b ∷ rest) (joined-fields xs)))
+    (λ e. rw e (front-commaed b (fieldsOf xs) [] (fields-some xs) ∙ ap (λ rest. b ∷ rest) (commaed-fields xs)))
 
 -- ---- Each byte, and how many
 
-pub joined-all : (P : ℕ → Type 0) → P comma → (fields : List (List ℕ)) → All (λ f. All P f) fields → (tail : List ℕ) → All P tail
-    → All P (joined fields tail)
-joined-all P c [] each tail h = h
-joined-all P c (f ∷ []) each tail h = all-append P f tail (each .0) h
-joined-all P c (f ∷ g ∷ fields) each tail h =
-    all-append P f (comma ∷ joined (g ∷ fields) tail) (each .0) (c, joined-all P c (g ∷ fields) (each .1) tail h)
+pub commaed-all : (P : ℕ → Type 0) → P comma → (fields : List (List ℕ)) → All (λ f. All P f) fields → (tail : List ℕ) → All P tail
+    → All P (commaed fields tail)
+commaed-all P c [] each tail h = h
+commaed-all P c (f ∷ []) each tail h = all-append P f tail (each .0) h
+commaed-all P c (f ∷ g ∷ fields) each tail h =
+    all-append P f (comma ∷ commaed (g ∷ fields) tail) (each .0) (c, commaed-all P c (g ∷ fields) (each .1) tail h)
 
 -- fields of four bytes at most
-pub joined-long : (fields : List (List ℕ)) → All (λ f. length f ≤ 4) fields → (tail : List ℕ)
-    → length (joined fields tail) ≤ length fields * 5 + length tail
-joined-long [] h tail = omega arith
-joined-long (f ∷ []) h tail = omega (arith, h .0, length-append f tail)
-joined-long (f ∷ g ∷ fields) h tail =
-    omega (arith, h .0, length-append f (comma ∷ joined (g ∷ fields) tail), joined-long (g ∷ fields) (h .1) tail)
+pub commaed-long : (fields : List (List ℕ)) → All (λ f. length f ≤ 4) fields → (tail : List ℕ)
+    → length (commaed fields tail) ≤ length fields * 5 + length tail
+commaed-long [] h tail = omega arith
+commaed-long (f ∷ []) h tail = omega (arith, h .0, length-append f tail)
+commaed-long (f ∷ g ∷ fields) h tail =
+    omega (arith, h .0, length-append f (comma ∷ commaed (g ∷ fields) tail), commaed-long (g ∷ fields) (h .1) tail)

@@ -3,7 +3,7 @@ use Rattle.base.proofs.Prelude.{ℕ, suc, _+_, _-_, _≤_, _<_, _≡_, refl, sy
 use lib.Seq.{take-suc-set}
 use Rattle.base.specs.{Count.{All, every}, Digits.decimalIn}
 use Rattle.base.proofs.{Lists.{by-bool, true-not-false, every-of-all, all-of-every, all-at}, Order.all-append}
-use Rattle.register.specs.{Table.{comma, inFront, fieldsOf, plainNumber, fiveNumbers}, inner.Fields.{noNumbers, numbersOf}}
+use Rattle.register.specs.{Table.{comma, inFront, fieldsOf, plainNumber, fiveNumbers}, inner.Fields.{noNumbers, fiveOf}}
 
 abbrev pub Plain : List (List ℕ) → Type 0
 Plain fields = All (λ f. plainNumber f ≡ true) fields
@@ -19,21 +19,21 @@ fields-some (b ∷ xs) = by-bool (eqb b comma) (λ t. rw t (omega arith)) (λ e.
     front (f ∷ fields) = omega arith
 
 module _ (fields : List (List ℕ)) where
-  many-or-few : (length fields ≡ 5 → ⊥) → noNumbers ≡ numbersOf fields
-  unfolding numbersOf fiveNumbers
+  many-or-few : (length fields ≡ 5 → ⊥) → noNumbers ≡ fiveOf fields
+  unfolding fiveOf fiveNumbers
   many-or-few other = rw (ne-eqb (length fields) 5 other)
 
-  one-other : every plainNumber fields ≡ false → noNumbers ≡ numbersOf fields
-  unfolding numbersOf fiveNumbers
+  one-other : every plainNumber fields ≡ false → noNumbers ≡ fiveOf fields
+  unfolding fiveOf fiveNumbers
   one-other e = by-bool (eqb (length fields) 5) (λ t. rw (t, e)) (λ f. rw f)
 
   five : (values : List ℕ) → length fields ≡ 5 → Plain fields → values ≡ map decimalIn fields
-      → record { formed = true; values = values } ≡ numbersOf fields
-  unfolding numbersOf fiveNumbers
+      → record { formed = true; values = values } ≡ fiveOf fields
+  unfolding fiveOf fiveNumbers
   five values count plain said = rw (eq-eqb (length fields) 5 count, every-of-all plainNumber fields plain, said)
 
   -- after five there is another
-  pub sixth : (xs : List ℕ) → drop 5 fields ≡ fieldsOf xs → noNumbers ≡ numbersOf fields
+  pub sixth : (xs : List ℕ) → drop 5 fields ≡ fieldsOf xs → noNumbers ≡ fiveOf fields
   sixth xs rest =
       let more = fields-some xs in
       many-or-few (λ e. omega (arith, length-drop 5 fields, ap length rest))
@@ -47,14 +47,14 @@ module _ (fields : List (List ℕ)) where
         let at : i + 0 ≡ i = omega arith in
         sym (ap (λ k. getD fields k []) at) ∙ sym (getD-drop i fields 0 []) ∙ ap (λ l. getD l 0 []) here
 
-    pub later : drop (i + 1) fields ≡ rest
-    later = sym (drop-drop 1 i fields) ∙ ap (drop 1) here
+    pub fields-later : drop (i + 1) fields ≡ rest
+    fields-later = sym (drop-drop 1 i fields) ∙ ap (drop 1) here
 
     taken : take (i + 1) fields ≡ take i fields ++ (f ∷ [])
     taken =
         rw (add-one i) (take-suc fields i [] (omega (arith, counted)) ∙ ap (λ g. take i fields ++ (g ∷ [])) this)
 
-    pub not-plain : plainNumber f ≡ false → noNumbers ≡ numbersOf fields
+    pub not-plain : plainNumber f ≡ false → noNumbers ≡ fiveOf fields
     not-plain e = one-other (by-bool (every plainNumber fields) (λ t. absurd (plain-here t)) (λ g. g))
       where
         plain-here : every plainNumber fields ≡ true → ⊥
@@ -72,7 +72,7 @@ module _ (fields : List (List ℕ)) where
           (rw (add-one i) (take-suc-set values i (decimalIn f) inside) ∙ ap (λ l. l ++ (decimalIn f ∷ [])) said)
 
       pub last-five : rest ≡ [] → i + 1 ≡ 5 → length values ≡ 5 → Plain (take i fields) → plainNumber f ≡ true
-          → record { formed = true; values = set values i (decimalIn f) } ≡ numbersOf fields
+          → record { formed = true; values = set values i (decimalIn f) } ≡ fiveOf fields
       last-five none count long before t =
           let size : length fields ≡ 5 = omega (arith, counted, ap length none) in
           let all : take (i + 1) fields ≡ fields = take-all (i + 1) fields (omega arith) in
@@ -80,5 +80,5 @@ module _ (fields : List (List ℕ)) where
           (set values i (decimalIn f)) (omega (arith, length-set values i (decimalIn f))) in
           five (set values i (decimalIn f)) size (rw all at (plain-next before t)) (sym whole ∙ said-next ∙ ap (map decimalIn) all)
 
-    pub last-few : rest ≡ [] → (i + 1 ≡ 5 → ⊥) → noNumbers ≡ numbersOf fields
+    pub last-few : rest ≡ [] → (i + 1 ≡ 5 → ⊥) → noNumbers ≡ fiveOf fields
     last-few none other = many-or-few (λ e. other (omega (arith, counted, ap length none)))

@@ -3,27 +3,27 @@ use Rattle.base.proofs.Prelude.{ℕ, _≤_, _<_, _≡_, refl, sym, ap, _∙_, L
 use Rattle.base.specs.Count.{filled}
 use Rattle.faults.specs.{declared.Fault.Fault, declared.Fault.the-variants.{TextTooLong, StringCount}, declared.Checked.Checked, declared.Checked.the-variants.{Lawful, Refused}}
 use Rattle.rules.specs.{declared.Reading.Reading, Plan.noString, Refusal.{countCheck, runLengthCheck, headCheck, multipleCheck}, Text.{Line, linesOf, noReleases, refusedReading}}
-use Rattle.register.specs.{declared.strings.Strings.Strings, Table.{rowString, rowsCheck, tablePlan, rowLinesCheck, tableCheck, tableReading}, inner.Strings.{stringsIn, planOf, planRead, linesRead}}
+use Rattle.register.specs.{declared.strings.Strings.Strings, Table.{rowString, rowsCheck, tablePlan, rowLinesCheck, tableCheck, tableReading}, inner.Strings.{stringsIn, rowsPlan, rowsPlanRead, linesRead}}
 
 -- ---- The plan
 
 module _ (said : Strings) (run : ℕ) where
-  pub plan-lawful : multipleCheck (said .n) (planOf said run) ≡ Lawful
-      → record { checked = Lawful; plan = planOf said run; releases = noReleases } ≡ planRead said run
-  unfolding planRead
+  pub plan-lawful : multipleCheck (said .n) (rowsPlan said run) ≡ Lawful
+      → record { checked = Lawful; plan = rowsPlan said run; releases = noReleases } ≡ rowsPlanRead said run
+  unfolding rowsPlanRead
   plan-lawful h = rw h
 
-  pub plan-refused : (f : Fault) (at : ℕ) → multipleCheck (said .n) (planOf said run) ≡ Refused f at
-      → refusedReading f at ≡ planRead said run
-  unfolding planRead
+  pub plan-refused : (f : Fault) (at : ℕ) → multipleCheck (said .n) (rowsPlan said run) ≡ Refused f at
+      → refusedReading f at ≡ rowsPlanRead said run
+  unfolding rowsPlanRead
   plan-refused f at h = rw h
 
 -- ---- The lines
 
 module _ (run : ℕ) where
-  pub lines-none : refusedReading StringCount 0 ≡ linesRead run []
+  pub table-none : refusedReading StringCount 0 ≡ linesRead run []
   unfolding linesRead rowLinesCheck
-  lines-none = refl
+  table-none = refl
 
   module _ (lines : List Line) where
     pub strings-checked : stringsIn lines .checked ≡ rowsCheck 1 lines
@@ -39,8 +39,8 @@ module _ (run : ℕ) where
       unfolding linesRead rowLinesCheck
       lines-refused f at h = rw (ne-eqb (length lines) 0 (λ e. omega arith), h)
 
-      pub lines-lawful : rowsCheck 1 lines ≡ Lawful → planRead (stringsIn lines) run ≡ linesRead run lines
-      unfolding linesRead rowLinesCheck planRead stringsIn tablePlan
+      pub lines-lawful : rowsCheck 1 lines ≡ Lawful → rowsPlanRead (stringsIn lines) run ≡ linesRead run lines
+      unfolding linesRead rowLinesCheck rowsPlanRead stringsIn tablePlan
       lines-lawful h = rw (ne-eqb (length lines) 0 (λ e. omega arith), h)
 
 -- ---- The text

@@ -1,6 +1,6 @@
 -- A row and the string that it says: each says the other.
---     numbersOf s           T, C, D, X and the moving cost of a string
---     rowOf s               the row of a string, as a line
+--     stringNumbers s           T, C, D, X and the moving cost of a string
+--     registerRow s               the row of a string, as a line
 --     Short s               its numbers have at most four digits
 use Rattle.base.proofs.Prelude.{ℕ, zero, suc, _+_, _-_, _*_, _^_, _≤_, _<_, _≡_, refl, sym, ap, _∙_, true, false, Bool, not, _&&_, _||_, List, [], _∷_, _++_, map, append-assoc, arith, decLe, le-leb, eq-eqb, eqb-true, ne-eqb, eqb, leb, length, take, getD, length-append, length-map, take-append-seam, take-all, take-suc}
 use lib.Seq.{getD-append-seam}
@@ -9,9 +9,9 @@ use Rattle.base.proofs.{Digits.{digits-one, digits-short, digits-back, digits-b
 use Rattle.faults.proofs.Checks.{inBounds-low, inBounds-high, inBounds-yes}
 use Rattle.rules.specs.{declared.BatteryString.BatteryString, Lines.{bytesOf, decimal, wordedIn, rowLine}, Text.Line}
 use Rattle.laws.proofs.LineTexts.{lineBytes, NoEnd}
-use Rattle.register.specs.Table.{comma, fieldsOf, isFigure, plainNumber, rowFields, fiveNumbers, rowFormed, stringFrom, rowString}
+use Rattle.register.specs.Table.{comma, fieldsOf, isFigure, plainNumber, rowFields, fiveNumbers, rowFormed, stringSaid, rowString}
 use Rattle.register.specs.inner.Fields.{lead}
-use Rattle.register.proofs.{Plain.{plain-short, plain-figures, plain-lead}, Joined.{joined, joined-tail, NoComma, fields-joined, joined-fields, joined-all, joined-long}}
+use Rattle.register.proofs.{Plain.{plain-short, plain-figures, plain-lead}, Joined.{commaed, commaed-tail, NoComma, fields-commaed, commaed-fields, commaed-all, commaed-long}}
 
 -- ---- A number and its decimal characters
 
@@ -33,7 +33,8 @@ decimal-said n = ap (valueOf 10) (figures-worth (digitsOf 10 n)) ∙ digits-back
 decimal-lead : (n : ℕ) → lead (decimal n) ≡ true
 unfolding decimal
 decimal-lead zero = rw (digits-one 10 (omega arith) 0 (omega arith))
-decimal-lead (suc n) = first (digitsOf 10 (suc n)) (digits-some 10 (omega arith) (suc n)) (digits-lead 10 (omega arith) (suc n) (omega arith))
+decimal-lead (suc n) = first (digitsOf 10 (suc n)) (digits-some 10 (omega arith) (suc n)) (digits-lead 10 (omega arith) (suc n) (omega
+    arith))
   where
     first : (ds : List ℕ) → 1 ≤ length ds → 1 ≤ getD ds 0 0 → lead (map figure ds) ≡ true
     first [] some h = absurd (omega arith)
@@ -87,7 +88,8 @@ plain-written (b ∷ field) plain =
     -- a leading zero is the only digit
     zero-alone : (rest : List ℕ) → b ≡ 0x30 → lead (b ∷ rest) ≡ true → map figure (digitsOf 10 (decimalIn (b ∷ rest))) ≡ b ∷ rest
     zero-alone [] zero-here leads = rw (zero-here, digits-one 10 (omega arith) 0 (omega arith))
-    zero-alone (c ∷ rest) zero-here leads = absurd (true-not-false (sym leads ∙ rw (zero-here, ne-eqb (suc (suc (length rest))) 1 (λ e. omega arith))))
+    zero-alone (c ∷ rest) zero-here leads = absurd (true-not-false (sym leads
+        ∙ rw (zero-here, ne-eqb (suc (suc (length rest))) 1 (λ e. omega arith))))
 
 decimal-no-comma : (n : ℕ) → NoComma (decimal n)
 decimal-no-comma n = all-map _ _ no-comma (decimal n) (decimal-figures n)
@@ -99,68 +101,74 @@ decimal-no-comma n = all-map _ _ no-comma (decimal n) (decimal-figures n)
 
 -- ---- The row of a string
 
-abbrev pub numbersOf : BatteryString → List ℕ
-numbersOf s = s .t .0 ∷ s .c .0 ∷ s .d .0 ∷ s .x ∷ s .a .0 ∷ []
+abbrev pub stringNumbers : BatteryString → List ℕ
+stringNumbers s = s .t .0 ∷ s .c .0 ∷ s .d .0 ∷ s .x ∷ s .a .0 ∷ []
 
 abbrev pub Short : BatteryString → Type 0
-Short s = All (λ n. n < 10000) (numbersOf s)
+Short s = All (λ n. n < 10000) (stringNumbers s)
 
 abbrev fieldsFor : BatteryString → List (List ℕ)
-fieldsFor s = map decimal (numbersOf s)
+fieldsFor s = map decimal (stringNumbers s)
 
-abbrev pub rowOf : BatteryString → Line
-rowOf s = record { bytes = joined (fieldsFor s) (0x0d ∷ []); ended = true }
+abbrev pub registerRow : BatteryString → Line
+registerRow s = record { bytes = commaed (fieldsFor s) (0x0d ∷ []); ended = true }
 
-pub row-line : (s : BatteryString) → rowLine s ≡ lineBytes (rowOf s)
+pub row-line : (s : BatteryString) → rowLine s ≡ lineBytes (registerRow s)
 unfolding rowLine bytesOf wordedIn
-row-line s = joined-tail (fieldsFor s) (0x0d ∷ []) (0x0a ∷ [])
+row-line s = commaed-tail (fieldsFor s) (0x0d ∷ []) (0x0a ∷ [])
 
 -- what stands ahead of the CR, and the CR
-module _ (fields : List (List ℕ)) (bytes : List ℕ) (is : bytes ≡ joined fields (0x0d ∷ [])) where
-  split : bytes ≡ joined fields [] ++ (0x0d ∷ [])
-  split = is ∙ joined-tail fields [] (0x0d ∷ [])
+module _ (fields : List (List ℕ)) (bytes : List ℕ) (is : bytes ≡ commaed fields (0x0d ∷ [])) where
+  split : bytes ≡ commaed fields [] ++ (0x0d ∷ [])
+  split = is ∙ commaed-tail fields [] (0x0d ∷ [])
 
-  long : length bytes ≡ length (joined fields []) + 1
-  long = ap length split ∙ length-append (joined fields []) (0x0d ∷ [])
+  long : length bytes ≡ length (commaed fields []) + 1
+  long = ap length split ∙ length-append (commaed fields []) (0x0d ∷ [])
 
-  ahead-of : length bytes - 1 ≡ length (joined fields [])
+  ahead-of : length bytes - 1 ≡ length (commaed fields [])
   ahead-of = omega (arith, long)
 
-  body-is : take (length bytes - 1) bytes ≡ joined fields []
-  body-is = ap (λ k. take k bytes) ahead-of ∙ ap (take (length (joined fields []))) split ∙ take-append-seam (joined fields []) (0x0d ∷ [])
+  body-is : take (length bytes - 1) bytes ≡ commaed fields []
+  body-is = ap (λ k. take k bytes) ahead-of ∙ ap (take (length (commaed fields []))) split
+      ∙ take-append-seam (commaed fields []) (0x0d ∷ [])
 
   last-is : getD bytes (length bytes - 1) 0 ≡ 0x0d
   last-is =
-      ap (λ k. getD bytes k 0) ahead-of ∙ ap (λ xs. getD xs (length (joined fields [])) 0) split
-      ∙ getD-append-seam (joined fields []) 0x0d [] 0
+      ap (λ k. getD bytes k 0) ahead-of ∙ ap (λ xs. getD xs (length (commaed fields [])) 0) split
+      ∙ getD-append-seam (commaed fields []) 0x0d [] 0
 
 module _ (s : BatteryString) where
-  fields-said : rowFields (rowOf s) ≡ fieldsFor s
+  fields-said : rowFields (registerRow s) ≡ fieldsFor s
   unfolding rowFields
   fields-said =
-      ap fieldsOf (body-is (fieldsFor s) (rowOf s .bytes) refl)
-      ∙ fields-joined (decimal (s .t .0)) (map decimal (s .c .0 ∷ s .d .0 ∷ s .x ∷ s .a .0 ∷ [])) (decimal-no-comma (s .t .0))
+      ap fieldsOf (body-is (fieldsFor s) (registerRow s .bytes) refl)
+      ∙ fields-commaed (decimal (s .t .0)) (map decimal (s .c .0 ∷ s .d .0 ∷ s .x ∷ s .a .0 ∷ [])) (decimal-no-comma (s .t .0))
       (decimal-no-comma (s .c .0), (decimal-no-comma (s .d .0), (decimal-no-comma (s .x), (decimal-no-comma (s .a .0), tt))))
 
-  pub row-formed : Short s → rowFormed (rowOf s) ≡ true
+  pub row-formed : Short s → rowFormed (registerRow s) ≡ true
   unfolding rowFormed fiveNumbers
   row-formed short =
-      rw (last-is (fieldsFor s) (rowOf s .bytes) refl, fields-said)
-      (every-of-all plainNumber (fieldsFor s)
-      (decimal-plain (s .t .0) (short .0),
-      (decimal-plain (s .c .0) (short .1 .0),
-      (decimal-plain (s .d .0) (short .1 .1 .0),
-      (decimal-plain (s .x) (short .1 .1 .1 .0), (decimal-plain (s .a .0) (short .1 .1 .1 .1 .0), tt))))))
+      rw (last-is (fieldsFor s) (registerRow s .bytes) refl, fields-said)
+      (every-of-all plainNumber (fieldsFor s) (
+        decimal-plain (s .t .0) (short .0),
+        (
+          decimal-plain (s .c .0) (short .1 .0),
+          (
+            decimal-plain (s .d .0) (short .1 .1 .0),
+            (decimal-plain (s .x) (short .1 .1 .1 .0), (decimal-plain (s .a .0) (short .1 .1 .1 .1 .0), tt)),
+          ),
+        ),
+      ))
 
-  pub row-says : rowString (rowOf s) ≡ s
-  unfolding rowString stringFrom
+  pub row-says : rowString (registerRow s) ≡ s
+  unfolding rowString stringSaid
   row-says =
       rw (fields-said, decimal-said (s .t .0), decimal-said (s .c .0), decimal-said (s .d .0), decimal-said (s .x), decimal-said (s .a .0))
 
   -- no 0a stands in it
-  pub row-within : NoEnd (rowOf s)
-  row-within =
-      joined-all (λ b. eqb b 0x0a ≡ false) refl (fieldsFor s)
+  pub row-no-end : NoEnd (registerRow s)
+  row-no-end =
+      commaed-all (λ b. eqb b 0x0a ≡ false) refl (fieldsFor s)
       (inside (s .t .0), (inside (s .c .0), (inside (s .d .0), (inside (s .x), (inside (s .a .0), tt))))) (0x0d ∷ []) (refl, tt)
     where
       no-end : (b : ℕ) → isFigure b ≡ true → eqb b 0x0a ≡ false
@@ -171,25 +179,28 @@ module _ (s : BatteryString) where
       inside : (n : ℕ) → All (λ b. eqb b 0x0a ≡ false) (decimal n)
       inside n = all-map _ _ no-end (decimal n) (decimal-figures n)
 
-  pub row-short : Short s → length (rowLine s) ≤ 27
-  row-short short =
+  pub rowLine-short : Short s → length (rowLine s) ≤ 27
+  rowLine-short short =
       let few : (n : ℕ) → n < 10000 → length (decimal n) ≤ 4 = λ n h. decimal-long n h .1 in
       omega (
         arith,
         ap length (row-line s),
-        length-append (rowOf s .bytes) (0x0a ∷ []),
-        joined-long (fieldsFor s)
-            (few (s .t .0) (short .0),
-            (few (s .c .0) (short .1 .0),
-            (few (s .d .0) (short .1 .1 .0), (few (s .x) (short .1 .1 .1 .0), (few (s .a .0) (short .1 .1 .1 .1 .0), tt)))))
+        length-append (registerRow s .bytes) (0x0a ∷ []),
+        commaed-long (fieldsFor s) (
+          few (s .t .0) (short .0),
+          (
+            few (s .c .0) (short .1 .0),
+            (few (s .d .0) (short .1 .1 .0), (few (s .x) (short .1 .1 .1 .0), (few (s .a .0) (short .1 .1 .1 .1 .0), tt))),
+          ),
+        )
             (0x0d ∷ []),
       )
 
 -- ---- The string of a row
 
 -- five numbers make a string that has them
-numbers-back : (ns : List ℕ) → length ns ≡ 5 → numbersOf (stringFrom ns) ≡ ns
-unfolding stringFrom
+numbers-back : (ns : List ℕ) → length ns ≡ 5 → stringNumbers (stringSaid ns) ≡ ns
+unfolding stringSaid
 numbers-back [] h = absurd (omega arith)
 numbers-back (a ∷ []) h = absurd (omega arith)
 numbers-back (a ∷ b ∷ []) h = absurd (omega arith)
@@ -231,8 +242,8 @@ module _ (line : Line) (formed : rowFormed line ≡ true) where
       all-of-every plainNumber (rowFields line)
       (and-right (eqb (length (rowFields line)) 5) (every plainNumber (rowFields line)) five)
 
-  -- the bytes are the fields, joined, and the CR
-  whole : line .bytes ≡ joined (rowFields line) (0x0d ∷ [])
+  -- the bytes are the fields, commaed, and the CR
+  whole : line .bytes ≡ commaed (rowFields line) (0x0d ∷ [])
   unfolding rowFields
   whole =
       let bytes = line .bytes in
@@ -241,8 +252,8 @@ module _ (line : Line) (formed : rowFormed line ≡ true) where
       sym (take-all (suc (length bytes - 1)) bytes (omega arith))
       ∙ take-suc bytes (length bytes - 1) 0 (omega arith)
       ∙ ap (λ b. body ++ (b ∷ [])) (eqb-true (getD bytes (length bytes - 1) 0) 0x0d returned)
-      ∙ ap (λ xs. xs ++ (0x0d ∷ [])) (sym (joined-fields body))
-      ∙ sym (joined-tail (fieldsOf body) [] (0x0d ∷ []))
+      ∙ ap (λ xs. xs ++ (0x0d ∷ [])) (sym (commaed-fields body))
+      ∙ sym (commaed-tail (fieldsOf body) [] (0x0d ∷ []))
     where
       not-empty : (bytes : List ℕ) → eqb (getD bytes (length bytes - 1) 0) 0x0d ≡ true → 1 ≤ length bytes
       not-empty [] h = absurd (true-not-false (sym h))
@@ -254,4 +265,4 @@ module _ (line : Line) (formed : rowFormed line ≡ true) where
       let fields = rowFields line in
       let numbers = numbers-back (map decimalIn fields) (length-map fields decimalIn ∙ count) in
       let same : fieldsFor (rowString line) ≡ fields = ap (map decimal) numbers ∙ plains-written fields plains in
-      row-line (rowString line) ∙ ap (λ fs. joined fs (0x0d ∷ []) ++ (0x0a ∷ [])) same ∙ ap (λ bytes. bytes ++ (0x0a ∷ [])) (sym whole)
+      row-line (rowString line) ∙ ap (λ fs. commaed fs (0x0d ∷ []) ++ (0x0a ∷ [])) same ∙ ap (λ bytes. bytes ++ (0x0a ∷ [])) (sym whole)

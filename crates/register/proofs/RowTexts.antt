@@ -27,7 +27,8 @@ rows-none ss = refl
 pub rows-within : (ss : List BatteryString) (i n : ℕ) → i ≤ n → length (rowsText (take i ss)) ≤ length (rowsText (take n ss))
 rows-within ss i n h =
     let first : take i (take n ss) ≡ take i ss = take-take i n ss h in
-    let whole : rowsText (take n ss) ≡ rowsText (take i ss) ++ rowsText (drop i (take n ss)) = ap rowsText (sym (take-append-drop i (take n ss)))
+    let whole : rowsText (take n ss) ≡ rowsText (take i ss) ++ rowsText (drop i (take n ss)) =
+    ap rowsText (sym (take-append-drop i (take n ss)))
     ∙ flatMap-append rowLine (take i (take n ss)) (drop i (take n ss)) ∙ rw first in
     omega (arith, ap length whole, length-append (rowsText (take i ss)) (rowsText (drop i (take n ss))))
 

@@ -17,13 +17,13 @@ module _ (stop : ℕ) where
   ahead-end xs i h = rw (drop-of-length-le xs h)
 
   module _ (xs : List ℕ) (i : ℕ) (h : i < length xs) where
-    pub ahead-here : eqb (getD xs i 0) stop ≡ true → bytesAhead stop (drop i xs) ≡ 0
+    pub ahead-stop : eqb (getD xs i 0) stop ≡ true → bytesAhead stop (drop i xs) ≡ 0
     unfolding bytesAhead
-    ahead-here t = rw (drop-cons xs i 0 h, t)
+    ahead-stop t = rw (drop-cons xs i 0 h, t)
 
-    pub ahead-next : eqb (getD xs i 0) stop ≡ false → bytesAhead stop (drop i xs) ≡ suc (bytesAhead stop (drop (i + 1) xs))
+    pub ahead-further : eqb (getD xs i 0) stop ≡ false → bytesAhead stop (drop i xs) ≡ suc (bytesAhead stop (drop (i + 1) xs))
     unfolding bytesAhead
-    ahead-next e = rw (add-one i, drop-cons xs i 0 h, e)
+    ahead-further e = rw (add-one i, drop-cons xs i 0 h, e)
 
 -- ---- Fields
 

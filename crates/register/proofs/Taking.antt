@@ -41,12 +41,12 @@ module _ (lines : List Line) where
           pub out-of-bounds : stringLawful (rowString line) ≡ false → refusedStrings OutOfBounds (n + 1) ≡ stringsIn lines
           out-of-bounds e = refused-here OutOfBounds (unfold rowCheck in rw (le-ltb 10 (n + 1) few, formed, e))
 
-          pub later : drop (n + 1) lines ≡ rest
-          later = sym (drop-drop 1 n lines) ∙ ap (drop 1) here
+          pub rows-later : drop (n + 1) lines ≡ rest
+          rows-later = sym (drop-drop 1 n lines) ∙ ap (drop 1) here
 
           pub check-next : stringLawful (rowString line) ≡ true → rowsCheck 1 lines ≡ rowsCheck (n + 1 + 1) (drop (n + 1) lines)
           unfolding rowsCheck rowCheck
-          check-next t = same ∙ rw (here, later, add-one (n + 1), le-ltb 10 (n + 1) few, formed, t)
+          check-next t = same ∙ rw (here, rows-later, add-one (n + 1), le-ltb 10 (n + 1) few, formed, t)
 
           counted : n < length lines
           counted = omega (arith, length-drop n lines, ap length here)

@@ -52,7 +52,8 @@ module _ (xs : List ℕ) where
             let line : record { bytes = xs; ended = false } ≡ firstLine xs = rw (le-ltb (ahead xs) (length xs) over)
             (ap (λ bytes. record { bytes = bytes; ended = false }) (sym (take-all (ahead xs) xs over))) in
             lines-open xs some (omega (arith, ahead-within 0x0a xs))
-            ∙ rw (open-long over) (ap (λ l. l ∷ []) line ∙ ap (λ rest. firstLine xs ∷ linesOf rest) (sym (drop-of-length-le xs (le-refl (length xs)))))
+            ∙ rw (open-long over) (ap (λ l. l ∷ []) line ∙ ap (λ rest. firstLine xs ∷ linesOf rest) (sym (drop-of-length-le xs (le-refl
+            (length xs)))))
       ]
 
 -- ---- What is given of the line at a place

@@ -66,12 +66,12 @@ rowFormed line =
     && fiveNumbers (rowFields line)
 
 -- T, C, D, X, moving cost
-unfoldable pub stringFrom : List ℕ → BatteryString
-stringFrom ns =
+unfoldable pub stringSaid : List ℕ → BatteryString
+stringSaid ns =
     record { t = days (getD ns 0 0); c = days (getD ns 1 0); d = days (getD ns 2 0); x = getD ns 3 0; a = days (getD ns 4 0) }
 
 unfoldable pub rowString : Line → BatteryString
-rowString line = stringFrom (map decimalIn (rowFields line))
+rowString line = stringSaid (map decimalIn (rowFields line))
 
 -- ---- The order of faults
 

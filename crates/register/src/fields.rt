@@ -3,7 +3,7 @@ ghost use mathlib.Core.Path.{_≡_};
 ghost use Prim.Native.Nat.{_+_, _≤_};
 ghost use lib.ListN.{length, drop};
 ghost use Rattle.register.specs.Table.{fieldsOf};
-ghost use Rattle.register.specs.inner.Fields.{bytesAhead, lead, numberOr, numbersOf};
+ghost use Rattle.register.specs.inner.Fields.{bytesAhead, lead, numberOr, fiveOf};
 
 // Five numbers; zeros where a row is not formed so.
 pub(crate) struct Numbers {
@@ -77,7 +77,7 @@ fn number_in(field: &[u8]) -> u32
 
 // The numbers of a row without its line end, field by field.
 pub(crate) fn numbers_in(row: &[u8]) -> Numbers
-    ensures exact { λ r. ⌜ r ≡ numbersOf (fieldsOf (now (row .entry))) ⌝ }
+    ensures exact { λ r. ⌜ r ≡ fiveOf (fieldsOf (now (row .entry))) ⌝ }
 {
     let mut values = [0u32; 5];
     let mut from: usize = 0;

@@ -25,7 +25,7 @@ ghost use mathlib.Core.Path.{_≡_};
 ghost use Rattle.rules.specs.Text.{linesOf};
 ghost use Rattle.register.specs.Table.{tableReading};
 ghost use Rattle.register.specs.Export.{exportAnswer, exportPage};
-ghost use Rattle.register.specs.inner.Strings.{planRead, linesRead};
+ghost use Rattle.register.specs.inner.Strings.{rowsPlanRead, linesRead};
 
 // What a reader gives for a line: that the text has ended; that the line is no row; or the string that it says. With the place at which
 // the next line starts.
@@ -37,7 +37,7 @@ pub enum Row {
 
 // The plan of lawful rows: 6 with the number of the last line.
 fn plan_read(said: Strings, run: Length) -> Reading
-    ensures exact { λ r. ⌜ r ≡ planRead said (run .0) ⌝ }
+    ensures exact { λ r. ⌜ r ≡ rowsPlanRead said (run .0) ⌝ }
 {
     let n = said.n;
     let strings = said.strings;

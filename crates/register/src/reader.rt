@@ -5,7 +5,7 @@ use super::fields::stop_at;
 use days::Length;
 use rules::BatteryString;
 ghost use mathlib.Core.Path.{_≡_};
-ghost use Rattle.register.specs.Table.{stringFrom};
+ghost use Rattle.register.specs.Table.{stringSaid};
 ghost use Rattle.register.specs.Reader.{rowAt};
 
 // An export, and the place in it at which the next row starts.
@@ -16,7 +16,7 @@ pub struct Export<'a> {
 
 // T, C, D, X, moving cost.
 fn string_from(values: [u32; 5]) -> BatteryString
-    ensures exact { λ r. ⌜ r ≡ stringFrom values ⌝ }
+    ensures exact { λ r. ⌜ r ≡ stringSaid values ⌝ }
 {
     BatteryString {
         t: Length(values[0]),

@@ -1,8 +1,8 @@
 -- `lines_read` meets its contract: no line, a fault of a row, or the plan.
 use Rattle.base.proofs.Prelude.{ℕ, _≤_, _≡_, refl, sym, ap, _∙_, List, [], _∷_, needs, arith, length}
 use Rattle.rules.specs.Text.{linesOf}
-use Rattle.register.specs.inner.Strings.{stringsIn, planRead, linesRead}
-use Rattle.register.proofs.{Walk.lines-first, Reading.{lines-none, strings-checked, lines-refused, lines-lawful}, lines_read.Statement.statement}
+use Rattle.register.specs.inner.Strings.{stringsIn, rowsPlanRead, linesRead}
+use Rattle.register.proofs.{Walk.lines-first, Reading.{table-none, strings-checked, lines-refused, lines-lawful}, lines_read.Statement.statement}
 use Rattle.register.proofs.lines_read.Tie as tie
 
 -- a text that is not empty has a line
@@ -17,7 +17,8 @@ no-lines (b ∷ text) h = absurd (omega arith)
 returns : tie.Need-returns
 returns c =
     let g = c .before .before .before .args in
-    c .refused-reading .ensures ∙ lines-none (g .run .0) ∙ ap (linesRead (g .run .0)) (sym (no-lines (g .text .now) (c .before .if1 .taken)))
+    c .refused-reading .ensures ∙ table-none (g .run .0) ∙ ap (linesRead (g .run .0)) (sym (no-lines (g .text .now) (c .before .if1
+    .taken)))
 
 returns-2 : tie.Need-returns-2
 returns-2 c =
@@ -25,9 +26,10 @@ returns-2 c =
     let said = told .before .before in
     let g = told .before .before .before .before .before .args in
     let lines = linesOf (g .text .now) in
-    let lawful = sym (strings-checked (g .run .0) lines) ∙ sym (ap (λ r. r .checked) (said .strings-in .ensures)) ∙ told .enum-told .given .1 in
+    let lawful = sym (strings-checked (g .run .0) lines) ∙ sym (ap (λ r. r .checked) (said .strings-in .ensures))
+    ∙ told .enum-told .given .1 in
     c .plan-read .ensures
-    ∙ ap (λ r. planRead r (g .run .0)) (said .strings-in .ensures)
+    ∙ ap (λ r. rowsPlanRead r (g .run .0)) (said .strings-in .ensures)
     ∙ lines-lawful (g .run .0) lines (some-lines (g .text .now) (omega arith)) lawful
 
 returns-3 : tie.Need-returns-3
@@ -36,7 +38,8 @@ returns-3 c =
     let said = known .before .before in
     let g = known .before .before .before .before .before .args in
     let lines = linesOf (g .text .now) in
-    let refused = sym (strings-checked (g .run .0) lines) ∙ sym (ap (λ r. r .checked) (said .strings-in .ensures)) ∙ known .checked .given .1 in
+    let refused = sym (strings-checked (g .run .0) lines) ∙ sym (ap (λ r. r .checked) (said .strings-in .ensures))
+    ∙ known .checked .given .1 in
     c .refused-reading2 .ensures
     ∙ lines-refused (g .run .0) lines (some-lines (g .text .now) (omega arith)) _ _ refused
 

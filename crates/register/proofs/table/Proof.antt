@@ -13,5 +13,6 @@ returns-2 c =
 pub table-spec : {M : Type 1} → statement M
 table-spec =
     tie.close (tie.spec
-    (λ c κs. search needs) (λ c. search needs) (λ c κs. sym (c .before .before .before .run-check .ensures) ∙ c .before .enum-told .given .1)
+    (λ c κs. search needs) (λ c. search needs) (λ c κs. sym (c .before .before .before .run-check .ensures)
+    ∙ c .before .enum-told .given .1)
     (λ c. search needs) (λ c. search needs) (λ c. c .before .before .table-lawful .ensures) returns-2)

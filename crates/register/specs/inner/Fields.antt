@@ -2,7 +2,7 @@
 --     bytesAhead stop bytes how many bytes stand ahead of the first `stop`; all of them where there is none
 --     lead field            the first digit is no zero, or the only one
 --     numberOr field        the number of a field that is one, and 10,000 for any other
---     numbersOf fields      the five numbers of fields that are such, and zeros where they are not
+--     fiveOf fields      the five numbers of fields that are such, and zeros where they are not
 use Prim.Native.Nat.{ℕ, suc}
 use mathlib.Core.Bool.{Bool, true, false, not, cond, _||_}
 use mathlib.Core.List.{List, [], _∷_, map}
@@ -32,5 +32,5 @@ numberOr field = cond (plainNumber field) (decimalIn field) 10000
 abbrev pub noNumbers : Numbers
 noNumbers = record { formed = false; values = replicate 5 0 }
 
-unfoldable pub numbersOf : List (List ℕ) → Numbers
-numbersOf fields = cond (fiveNumbers fields) (record { formed = true; values = map decimalIn fields }) noNumbers
+unfoldable pub fiveOf : List (List ℕ) → Numbers
+fiveOf fields = cond (fiveNumbers fields) (record { formed = true; values = map decimalIn fields }) noNumbers

@@ -1,6 +1,6 @@
 -- For the proofs inside this crate: a table as the code takes it, row by row, and then as a whole.
 --     stringsIn lines       the strings of rows that are lawful, or the first fault
---     planRead said run     what reading gives for strings that were read
+--     rowsPlanRead said run     what reading gives for strings that were read
 --     linesRead run lines   what reading gives for lines and an N that is lawful
 use Prim.Native.Nat.{ℕ}
 use mathlib.Core.List.{List, map}
@@ -30,11 +30,11 @@ stringsIn lines =
 abbrev pub read : Checked → Plan → Reading
 read c p = orRefused refusedReading c (record { checked = checked.Lawful; plan = p; releases = noReleases })
 
-abbrev pub planOf : Strings → ℕ → Plan
-planOf said run = record { n = said .n; run = days run; strings = said .strings }
+abbrev pub rowsPlan : Strings → ℕ → Plan
+rowsPlan said run = record { n = said .n; run = days run; strings = said .strings }
 
-unfoldable pub planRead : Strings → ℕ → Reading
-planRead said run = read (multipleCheck (said .n) (planOf said run)) (planOf said run)
+unfoldable pub rowsPlanRead : Strings → ℕ → Reading
+rowsPlanRead said run = read (multipleCheck (said .n) (rowsPlan said run)) (rowsPlan said run)
 
 unfoldable pub linesRead : ℕ → List Line → Reading
 linesRead run lines = read (rowLinesCheck run lines) (tablePlan run lines)

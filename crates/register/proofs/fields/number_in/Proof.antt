@@ -51,15 +51,18 @@ returns-6 c =
     let i = o .loop .i in
     let said = sym (decimal-end (o .loop .n) field i (omega arith)) ∙ o .loop .inv .number in
     let figures = sym (o .loop .inv .figures) ∙ every-end field i (omega arith) in
-    said ∙ number-is field (omega arith) (omega arith) (sym (o .before .before .leads .ensures) ∙ not-false _ (o .before .if3 .left)) figures
+    said ∙ number-is field (omega arith) (omega arith) (sym (o .before .before .leads .ensures)
+    ∙ not-false _ (o .before .if3 .left)) figures
 
 pub number-in-spec : {M : Type 1} → statement M
 number-in-spec =
     tie.close (tie.spec
     Inv-loop μ-loop (λ c. number-empty (c .before .before .args .field .now) (omega arith))
     (λ c. number-long (c .before .before .before .args .field .now) (omega arith)) (λ c κs. tt)
-    (λ c. number-zero (c .before .before .before .before .before .args .field .now) (sym (c .before .leads .ensures) ∙ not-true _ (c .if3 .taken))) (λ c. record { upto = omega arith; small = omega arith; figures = refl; number = refl })
+    (λ c. number-zero (c .before .before .before .before .before .args .field .now) (sym (c .before .leads .ensures)
+    ∙ not-true _ (c .if3 .taken))) (λ c. record { upto = omega arith; small = omega arith; figures = refl; number = refl })
     (λ c. omega arith) (λ c. other (c .before .before .before) (omega arith) (figure-below _ (c .if4 .taken)))
     (λ c. other (c .before .before .before .before) (omega arith) (figure-above _ (c .if5 .taken)))
     (λ c. omega (arith, small (c .before .before .before .before) (omega arith)))
-    (λ c. omega arith) (λ c. omega (arith, small (c .before .before .before .before) (omega arith))) (λ c. omega arith) (λ c. omega arith) loop-again returns-6)
+    (λ c. omega arith) (λ c. omega (arith, small (c .before .before .before .before) (omega arith))) (λ c. omega arith) (λ c. omega arith)
+    loop-again returns-6)

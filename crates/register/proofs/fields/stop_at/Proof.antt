@@ -1,7 +1,7 @@
 -- `stop_at` meets its contract. Invariant: from where it looks as many bytes are ahead as from where it started, less those it passed.
 use Rattle.base.proofs.Prelude.{_+_, _-_, _≤_, _≡_, refl, arith, eq-eqb, ne-eqb, length, drop}
 use Rattle.register.specs.inner.Fields.{bytesAhead}
-use Rattle.register.proofs.{Splitting.{ahead-end, ahead-here, ahead-next}, fields.stop_at.Statement.statement}
+use Rattle.register.proofs.{Splitting.{ahead-end, ahead-stop, ahead-further}, fields.stop_at.Statement.statement}
 use Rattle.register.proofs.fields.stop_at.Tie as tie
 
 abbrev Inv-loop : tie.InvT-loop
@@ -17,13 +17,13 @@ abbrev μ-loop : tie.MeasureT-loop
 returns : tie.Need-returns Inv-loop μ-loop
 returns c =
     let o = c .before .before .before in
-    let here = ahead-here (o .before .args .stop) (o .before .args .text .now) (o .loop .i) (omega arith) (eq-eqb _ _ (c .if1 .taken)) in
+    let here = ahead-stop (o .before .args .stop) (o .before .args .text .now) (o .loop .i) (omega arith) (eq-eqb _ _ (c .if1 .taken)) in
     omega (arith, o .loop .inv .same)
 
 loop-again : tie.Need-loop-again Inv-loop μ-loop
 loop-again c =
     let o = c .before .before .before in
-    let next = ahead-next (o .before .args .stop) (o .before .args .text .now) (o .loop .i) (omega arith)
+    let next = ahead-further (o .before .args .stop) (o .before .args .text .now) (o .loop .i) (omega arith)
     (ne-eqb _ _ (c .if1 .left)) in
     record { upto = omega arith; same = omega (arith, o .loop .inv .same) }
 

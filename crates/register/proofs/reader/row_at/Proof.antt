@@ -1,6 +1,6 @@
 -- `row_at` meets its contract: each test decides what the definition decides.
 use Rattle.base.proofs.Prelude.{ℕ, _+_, _-_, _≤_, _<_, _≡_, sym, ap, _∙_, List, arith, needs, not-true, not-false, length, take, drop, getD, length-drop}
-use Rattle.register.specs.{declared.Row.the-variants.{Malformed, Says}, declared.fields.Numbers.Numbers, Table.{fieldsOf, stringFrom}, Reader.rowAt, inner.Fields.{bytesAhead, numbersOf}}
+use Rattle.register.specs.{declared.Row.the-variants.{Malformed, Says}, declared.fields.Numbers.Numbers, Table.{fieldsOf, stringSaid}, Reader.rowAt, inner.Fields.{bytesAhead, fiveOf}}
 use Rattle.register.proofs.{Splitting.ahead-within, Given.{given-end, given-open, given-empty, given-other, given-numbers, given-row}, reader.row_at.Statement.statement}
 use Rattle.register.proofs.reader.row_at.Tie as tie
 
@@ -73,7 +73,7 @@ module _ (e : tie.Else4) where
 
   -- the part as the code takes it, and as the definition does
   abbrev said : List ℕ → Numbers
-  said part = numbersOf (fieldsOf part)
+  said part = fiveOf (fieldsOf part)
 
   parts : take (found ended .stop-at .result - 1 - at (found ended)) (drop (at (found ended)) (text (found ended)))
       ≡ take (ahead (found ended) - 1) (drop (at (found ended)) (text (found ended)))
@@ -93,17 +93,35 @@ returns-6 c =
     let s = found (ended e) in
     let numbers = c .before .before .before .before .numbers-in .ensures ∙ ap (said e) (parts e) in
     let formed = sym (ap (λ r. r .formed) numbers) ∙ not-false _ (c .before .before .if5 .left) in
-    let string = c .string-from .ensures ∙ ap (λ r. stringFrom (r .values)) numbers in
+    let string = c .string-from .ensures ∙ ap (λ r. stringSaid (r .values)) numbers in
     ap (λ b. Says b (s .stop-at .result + 1)) string
-    ∙ ap (λ k. Says (stringFrom (said e (take (ahead s - 1) (drop (at s) (text s))) .values)) (k + 1)) (s .stop-at .ensures)
+    ∙ ap (λ k. Says (stringSaid (said e (take (ahead s - 1) (drop (at s) (text s))) .values)) (k + 1)) (s .stop-at .ensures)
     ∙ given-row (text s) (at s) (stands (ended e)) (some (ended e)) (returned e) formed
 
 pub row-at-spec : {M : Type 1} → statement M
 row-at-spec =
     tie.close (tie.spec
     (λ c. given-end _ _ (c .if1 .taken)) (λ c κs. omega arith) returns-2 (λ c. omega (arith, within (c .before), c .if2 .left)) returns-3
-    (λ c. omega (arith, (c .before .before .stop-at .ensures), c .if3 .left)) (λ c. omega (arith, within (c .before .before .before), some (c .before), c .before .before .before .stop-at .ensures))
+    (λ c. omega (arith, (c .before .before .stop-at .ensures), c .if3 .left)) (λ c. omega (
+      arith,
+      within (c .before .before .before),
+      some
+          (c .before),
+      c .before .before .before .stop-at .ensures,
+    ))
     returns-4 (λ c. omega (arith, some (c .before .before), c .before .before .before .before .stop-at .ensures))
-    (λ c. search (needs, within (c .before .before .before .before), some (c .before .before), c .before .before .before .before .stop-at .ensures))
-    (λ c. search (needs, within (c .before .before .before .before), some (c .before .before), c .before .before .before .before .stop-at .ensures))
+    (λ c. search (
+      needs,
+      within (c .before .before .before .before),
+      some (c .before .before),
+      c .before .before .before .before .stop-at
+          .ensures,
+    ))
+    (λ c. search (
+      needs,
+      within (c .before .before .before .before),
+      some (c .before .before),
+      c .before .before .before .before .stop-at
+          .ensures,
+    ))
     (λ c κs. tt) returns-5 (λ c κs. tt) returns-6)

@@ -1,11 +1,11 @@
 -- `string_from` meets its contract.
 use Rattle.base.proofs.Prelude.{refl, needs}
-use Rattle.register.specs.Table.{stringFrom}
+use Rattle.register.specs.Table.{stringSaid}
 use Rattle.register.proofs.reader.string_from.Statement.{statement}
 use Rattle.register.proofs.reader.string_from.Tie as tie
 
 returns : tie.Need-returns
-unfolding stringFrom
+unfolding stringSaid
 returns c = refl
 
 pub string-from-spec : {M : Type 1} → statement M

@@ -81,7 +81,7 @@ loop-again c =
     let o = at a in
     let strings = start o .args .p .strings in
     let after = putMid (o .loop .at) (length (o .loop .part) - o .loop .at) (o .loop .part) (told .put-text .last .1 .0) in
-    let got = told .put-text .ensures .1 ∙ told-page (text a) (lent told) (fits a) ∙ ap (λ t. t ++ drop (length t) (lent told)) (is a) in
+    let got = told .put-text .ensures .1 .0 ∙ told-page (text a) (lent told) (fits a) ∙ ap (λ t. t ++ drop (length t) (lent told)) (is a) in
     record {
       upto = omega arith;
       few = o .loop .inv .few;
@@ -90,7 +90,8 @@ loop-again c =
       long = omega (arith, long told, o .loop .inv .long, rows-longer strings noString (o .loop .i) (inside a));
       rows =
           subst (λ t. TextStands (start o .args .part .now) t after) (sym (rows-more strings noString (o .loop .i) (inside a)))
-          (stands-next (start o .args .part .now) (rowsText (take (o .loop .i) strings)) (row a) (o .loop .part) (told .put-text .last .1 .0)
+          (stands-next (start o .args .part .now) (rowsText (take (o .loop .i) strings)) (row a) (o .loop .part) (told .put-text .last .1
+          .0)
           (o .loop .at) (length (row a)) (o .loop .inv .rows) (sym (o .loop .inv .long)) refl
           (omega (arith, room a, ap length (is a))) got);
     }
@@ -117,9 +118,12 @@ put-rows-spec =
       ten = ten s;
       room = s .pre .1;
       long = sym (ap length (rows-none (s .args .p .strings)));
-      rows = subst (λ t. TextStands (s .args .part .now) t (s .args .part .now)) (sym (rows-none (s .args .p .strings))) (stands-none (s .args .part .now));
+      rows = subst (λ t. TextStands (s .args .part .now) t (s .args .part .now)) (sym (rows-none (s .args .p .strings))) (stands-none (s
+          .args .part .now));
     })
     (λ c. omega (arith, c .before .loop .inv .few)) (λ c. omega (arith, c .before .loop .inv .few)) (λ c κs. tt)
-    (λ c. c .before .row-line .ensures .1) (λ c. sym (length-take-le (c .before .before .row-line .result .len) (c .before .before .row-line .result .bytes) (c .before .before .row-line .ensures .1)))
+    (λ c. c .before .row-line .ensures .1) (λ c. sym (length-take-le (c .before .before .row-line .result .len) (c .before .before
+    .row-line .result .bytes) (c .before .before .row-line .ensures .1)))
     (λ c. omega (arith, room (c .before))) (λ c. search (needs, room (c .before))) (λ c. search needs) (λ c κs. tt)
-    (λ c. omega (arith, long (c .before .before), ap length (is (ready (c .before .before))), room (ready (c .before .before)))) (λ c. omega arith) (λ c. omega arith) loop-again (λ c. c .before .loop .inv .rows .size) returns)
+    (λ c. omega (arith, long (c .before .before), ap length (is (ready (c .before .before))), room (ready (c .before .before)))) (λ c.
+    omega arith) (λ c. omega arith) loop-again (λ c. c .before .loop .inv .rows .size) returns)

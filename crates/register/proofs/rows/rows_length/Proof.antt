@@ -27,7 +27,8 @@ module _ (c : tie.After-struct-known Inv-loop μ-loop) where
   abbrev at : tie.At-loop Inv-loop μ-loop
   at = c .before .before .before .before
 
-  more : at .loop .length + c .before .row-line .result .len ≡ length (rowsText (take (at .loop .i + 1) (at .before .before .args .p .strings)))
+  more : at .loop .length + c .before .row-line .result .len ≡ length (rowsText (take (at .loop .i + 1) (at .before .before .args .p
+      .strings)))
   more =
       let strings = at .before .before .args .p .strings in
       omega (
@@ -73,5 +74,6 @@ rows-length-spec =
       rows = sym (ap length (rows-none (c .before .args .p .strings)));
     })
     (λ c. omega (arith, c .before .loop .inv .few)) (λ c. omega (arith, c .before .loop .inv .few)) (λ c κs. tt)
-    (λ c. omega (arith, at c .loop .inv .small, at c .loop .inv .few, short c)) (λ c. omega (arith, at c .loop .inv .few)) (λ c. omega arith)
+    (λ c. omega (arith, at c .loop .inv .small, at c .loop .inv .few, short c)) (λ c. omega (arith, at c .loop .inv .few)) (λ c. omega
+    arith)
     loop-again returns)

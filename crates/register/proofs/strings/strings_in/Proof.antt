@@ -3,7 +3,7 @@ use Rattle.base.proofs.Prelude.{ℕ, _+_, _-_, _≤_, _<_, _≡_, refl, sym, ap
 use Rattle.base.specs.Count.{filled}
 use Rattle.rules.specs.{declared.BatteryString.BatteryString, Plan.{noString, stringLawful}, Text.{Line, linesOf}}
 use Rattle.register.specs.{Table.{rowFormed, rowString, rowsCheck}, Reader.lineLong}
-use Rattle.register.proofs.{Walk.{firstLine, first-some, next-within, next-lines, says-formed, not-formed}, Taking.{strings-taken, eleventh, no-row, out-of-bounds, later, check-next, said-next}, strings.strings_in.Statement.statement}
+use Rattle.register.proofs.{Walk.{firstLine, first-some, next-within, next-lines, says-formed, not-formed}, Taking.{strings-taken, eleventh, no-row, out-of-bounds, rows-later, check-next, said-next}, strings.strings_in.Statement.statement}
 use Rattle.register.proofs.strings.strings_in.Tie as tie
 
 abbrev Inv-loop : tie.InvT-loop
@@ -108,7 +108,7 @@ loop-again c =
     let place = says k .2 in
     let stood = here o (inside a) in
     let lawful = sym (bounds-asked k) ∙ not-false _ (c .if2 .left) in
-    let left = later (lines o) (o .loop .n) (line o) _ stood (o .loop .inv .same) (few a) (says k .0) in
+    let left = rows-later (lines o) (o .loop .n) (line o) _ stood (o .loop .inv .same) (few a) (says k .0) in
     record {
       upto = few a;
       many = omega (arith, length-drop (o .loop .n) (lines o), ap length stood);
@@ -145,5 +145,9 @@ strings-in-spec =
       said = refl;
     })
     (λ c. omega (arith, c .before .loop .inv .upto)) (λ c κs. tt) returns (λ c κs. tt) (λ c. search needs) (λ c κs. tt)
-    returns-2 (λ c κs. tt) (λ c κs. tt) returns-3 (λ c. omega (arith, few (asked (c .before)))) (λ c. omega (arith, few (asked (c .before))))
+    returns-2 (λ c κs. tt) (λ c κs. tt) returns-3 (λ c. omega (arith, few (asked (c .before)))) (λ c. omega (
+      arith,
+      few (asked (c
+          .before)),
+    ))
     loop-less loop-again returns-4)
