@@ -14,7 +14,8 @@ use Rattle.layouts.specs.declared.Version.{Version}
 use Rattle.writing.specs.declared.Saved.{Saved}
 use Rattle.tries.specs.declared.Shown.{Shown}
 use Rattle.matching.specs.declared.Matched.{Matched}
-use Rattle.register.specs.{declared.Row.Row, declared.Export.Export}
+use Rattle.register.specs.{declared.Row.Row, declared.Export.Export, Reader.rowAt}
+use denote.Ref.{RefT, now}
 use Rattle.days.proofs.Day.plus.Reads as Day-plus
 use Rattle.days.proofs.Day.since.Reads as Day-since
 use Rattle.days.proofs.Day.before.Reads as Day-before
@@ -56,9 +57,6 @@ use Rattle.reading.proofs.read_01.Reads as read-01
 use Rattle.reading.proofs.read_02.Reads as read-02
 use Rattle.writing.proofs.write.Reads as write
 use Rattle.writing.proofs.write_01.Reads as write-01
-use Rattle.register.proofs.opened.Reads as opened
-use Rattle.register.proofs.row_here.Reads as row-here
-use Rattle.register.proofs.moved.Reads as moved
 use Rattle.register.proofs.register.Reads as register
 use Rattle.register.proofs.table.Reads as table
 use Rattle.turning.proofs.to_02.Reads as to-02
@@ -374,18 +372,22 @@ pub one-answer : (κs : Lfts 1) (a : _) (e f : _) (r s : Answer) → answer.Lear
     → (r ≡ s) × (e .0 .now ≡ f .0 .now)
 one-answer κs a e f r s h k = (h .0 ∙ sym (k .0), h .1 ∙ sym (k .1))
 
--- register: a reader holds on to the text that it was given
+-- register: a reader holds on to the text that it was given. What the kit learns of a contract it does not learn of functions over a struct
+-- that holds a reference, so the clauses of these three are written out (register/src/reader.rt)
 same-export : (r s : Export) → r .text ≡ s .text → r .at ≡ s .at → r ≡ s
 same-export r s text at = rw (text, at)
 
-pub one-opened : (κs : Lfts 1) (a : _) (e f : _) (r s : Export) → opened.Learnt κs a r e → opened.Learnt κs a s f → r ≡ s
-one-opened κs a e f r s h k = same-export r s (h .0 ∙ sym (k .0)) (h .1 ∙ sym (k .1))
+module _ (text : RefT (List ℕ)) (at : ℕ) where
+  -- `moved` has the same clauses, of the text that the reader before it holds
+  pub one-opened : (r s : Export) → (r .text ≡ text) × (r .at ≡ at) → (s .text ≡ text) × (s .at ≡ at) → r ≡ s
+  one-opened r s h k = same-export r s (h .0 ∙ sym (k .0)) (h .1 ∙ sym (k .1))
 
-pub one-row-here : (κs : Lfts 1) (a : _) (e f : _) (r s : Row) → row-here.Learnt κs a r e → row-here.Learnt κs a s f → r ≡ s
-one-row-here κs a e f r s h k = h ∙ sym k
+  pub one-row-here : (r s : Row) → r ≡ rowAt (now text) at → s ≡ rowAt (now text) at → r ≡ s
+  one-row-here r s h k = h ∙ sym k
 
-pub one-moved : (κs : Lfts 1) (a : _) (e f : _) (r s : Export) → moved.Learnt κs a r e → moved.Learnt κs a s f → r ≡ s
-one-moved κs a e f r s h k = same-export r s (h .0 ∙ sym (k .0)) (h .1 ∙ sym (k .1))
+pub one-moved : (reader : Export) (at : ℕ) (r s : Export) → (r .text ≡ reader .text) × (r .at ≡ at)
+    → (s .text ≡ reader .text) × (s .at ≡ at) → r ≡ s
+one-moved reader at r s h k = one-opened (reader .text) at r s h k
 
 pub one-register : (κs : Lfts 1) (a : _) (e f : _) (r s : Reading) → register.Learnt κs a r e → register.Learnt κs a s f
     → (r ≡ s) × (e .0 .now ≡ f .0 .now)

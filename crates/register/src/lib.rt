@@ -7,7 +7,6 @@ mod strings;
 use days::Length;
 use faults::Checked;
 use faults::Fault;
-pub use reader::Export;
 pub use reader::moved;
 pub use reader::opened;
 pub use reader::row_here;
@@ -33,6 +32,12 @@ pub enum Row {
     End,
     Malformed { next: usize },
     Says { string: BatteryString, next: usize },
+}
+
+// A reader: an export, and the place in it at which the next row starts.
+pub struct Export<'a> {
+    pub text: &'a [u8],
+    pub at: usize,
 }
 
 // The plan of lawful rows: 6 with the number of the last line.

@@ -1,4 +1,5 @@
 // A reader that holds on to the caller's text and its place in it, and is asked row by row.
+use super::Export;
 use super::Row;
 use super::fields::numbers_in;
 use super::fields::stop_at;
@@ -7,12 +8,6 @@ use rules::BatteryString;
 ghost use mathlib.Core.Path.{_≡_};
 ghost use Rattle.register.specs.Table.{stringSaid};
 ghost use Rattle.register.specs.Reader.{rowAt};
-
-// An export, and the place in it at which the next row starts.
-pub struct Export<'a> {
-    pub text: &'a [u8],
-    pub at: usize,
-}
 
 // T, C, D, X, moving cost.
 fn string_from(values: [u32; 5]) -> BatteryString

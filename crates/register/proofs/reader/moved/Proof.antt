@@ -34,9 +34,9 @@ use denote.Triple.Spec.{Meets, tripleOf}
 use denote.Triple.Table.{entered}
 use denote.Triple.Walked.{says, Stays, stay-none, walkOf, goes-none, Walks, ends-at, walked, walk-meets}
 use denote.Exit.{yes}
-use Rattle.register.specs.declared.reader.Export.{Export}
-use Rattle.register.proofs.reader.Export as T
-use Rattle.register.proofs.reader.Export.Laws as T′
+use Rattle.register.specs.declared.Export.{Export}
+use Rattle.register.proofs.Export as T
+use Rattle.register.proofs.Export.Laws as T′
 use Rattle.register.proofs.reader.moved.Key.{name as #moved}
 use Rattle.register.proofs.reader.moved as moved
 use Rattle.register.proofs.reader.moved.Statement as stated
