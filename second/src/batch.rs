@@ -1,7 +1,7 @@
 //! One batch of the desk: making and answering its files, and asking for them.
 
 use crate::desk::{ask_through_input, ask_with_names, compare, Case};
-use crate::mix::{make, KINDS};
+use crate::mix::make;
 use crate::options::Comparison;
 use crate::rules::answer::Answer;
 use crate::stop::Stop;
@@ -47,7 +47,7 @@ fn prepare(job: &Comparison, folder: &Path, file: u64, tally: &mut Tally) -> Res
     tally.count_answer(&answer);
     let case = Case {
         file,
-        kind: KINDS[made.kind].name,
+        kind: made.kind,
         path: folder.join(format!("{file:06}.plan")),
         answer: answer.to_string(),
     };

@@ -2,7 +2,6 @@
 
 use crate::chance::Chance;
 use crate::complaints;
-use crate::mix::KINDS;
 use crate::options::{Comparison, Subject};
 use crate::questions;
 use crate::saving::written;
@@ -22,6 +21,7 @@ const LONGEST_LIST: usize = 65_536;
 /// A command about one file, and all that has to be written for it.
 struct Question {
     file: u64,
+    path: PathBuf,
     kind: &'static str,
     command: String,
     answer: Vec<u8>,
@@ -36,7 +36,7 @@ pub fn compare_batch(
     files: Range<u64>,
 ) -> Result<Tally, Stop> {
     if files.start == 0 {
-        complaints::compare(clerk, folder)?;
+        complaints::compare(clerk, subject, folder)?;
     }
     let mut tally = Tally::default();
     let begin = Instant::now();
@@ -51,18 +51,18 @@ pub fn compare_batch(
     tally.other = begin.elapsed();
     if job.keep.is_none() {
         for file in files {
-            fs::remove_file(path(folder, file))?;
+            fs::remove_file(folder.join(name(subject, file)))?;
         }
     }
     Ok(tally)
 }
 
-fn name(file: u64) -> String {
-    format!("{file:06}.plan")
-}
-
-fn path(folder: &Path, file: u64) -> PathBuf {
-    folder.join(name(file))
+fn name(subject: Subject, file: u64) -> String {
+    let ending = match subject {
+        Subject::Register => "csv",
+        _ => "plan",
+    };
+    format!("{file:06}.{ending}")
 }
 
 /// Makes and writes one file, and asks about it.
@@ -74,18 +74,19 @@ fn prepare(
     tally: &mut Tally,
 ) -> Result<Vec<Question>, Stop> {
     let made = questions::file(subject, job.seed, file);
-    let kind = KINDS[made.kind].name;
-    let path = path(folder, file);
+    let (kind, name) = (made.kind, name(subject, file));
+    let path = folder.join(&name);
     fs::write(&path, &made.text)?;
-    tally.count_file(made.kind);
+    tally.count_file(kind);
     // a sequence of its own, so that the questions do not follow from how the file was made
     let mut chance = Chance::new(!job.seed, file);
-    let asked = questions::about(subject, &mut chance, &made.text, &name(file))
+    let asked = questions::about(subject, &mut chance, &made.text, &name)
         .map_err(|what| Stop::found(job, file, kind, &path, what, ""))?;
     let question = |one: questions::Asked| {
         tally.count_saved(&one.answer);
         Question {
             file,
+            path: path.clone(),
             kind,
             command: one.command,
             answer: written(one.answer),
@@ -108,7 +109,7 @@ fn ask_in_lists(
         let commands: String = part.iter().map(command_line).collect();
         fs::write(folder.join(&list), commands)?;
         let output = ask(clerk, folder, &["each", &list])?;
-        compare(job, folder, part, true, &output)?;
+        compare(job, part, true, &output)?;
         rest = after;
     }
     if job.keep.is_none() {
@@ -142,7 +143,7 @@ fn ask_some_alone(
     for question in questions.iter().filter(|one| job.asks_alone(one.file)) {
         let words: Vec<&str> = question.command.split(' ').collect();
         let output = ask(clerk, folder, &words)?;
-        compare(job, folder, std::slice::from_ref(question), false, &output)?;
+        compare(job, std::slice::from_ref(question), false, &output)?;
     }
     Ok(())
 }
@@ -163,7 +164,6 @@ pub fn ask(clerk: &Path, folder: &Path, words: &[&str]) -> io::Result<Output> {
 /// Compares the clerk's whole output with the answers; in a list each is under its command.
 fn compare(
     job: &Comparison,
-    folder: &Path,
     questions: &[Question],
     listed: bool,
     output: &Output,
@@ -177,29 +177,17 @@ fn compare(
         expected.extend(&question.answer);
         match rest.strip_prefix(expected.as_slice()) {
             Some(after) => rest = after,
-            None => return Err(differs(job, folder, question, rest, output)),
+            None => return Err(differs(job, question, rest, output)),
         }
     }
     if rest.is_empty() && output.stderr.is_empty() {
         return Ok(());
     }
-    Err(differs(
-        job,
-        folder,
-        &questions[questions.len() - 1],
-        rest,
-        output,
-    ))
+    Err(differs(job, &questions[questions.len() - 1], rest, output))
 }
 
 /// The question, what has to be written for it, and what was written from there on.
-fn differs(
-    job: &Comparison,
-    folder: &Path,
-    question: &Question,
-    given: &[u8],
-    output: &Output,
-) -> Stop {
+fn differs(job: &Comparison, question: &Question, given: &[u8], output: &Output) -> Stop {
     const SHOWN: usize = 2_000;
     let shown =
         |bytes: &[u8]| String::from_utf8_lossy(&bytes[..bytes.len().min(SHOWN)]).into_owned();
@@ -211,12 +199,11 @@ fn differs(
         output.status,
         shown(&output.stderr)
     );
-    let path = path(folder, question.file);
     Stop::found(
         job,
         question.file,
         question.kind,
-        &path,
+        &question.path,
         "difference",
         &lines,
     )

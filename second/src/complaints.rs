@@ -1,6 +1,7 @@
 //! What the clerk says where it cannot answer: one line on standard error, and nothing on standard output.
 
 use crate::clerk::ask;
+use crate::options::Subject;
 use crate::stop::Stop;
 use std::path::Path;
 
@@ -56,8 +57,33 @@ const COMPLAINTS: [(&[&str], &str); 27] = [
     (&["each", "x"], "cannot read x: no such file"),
 ];
 
-pub fn compare(clerk: &Path, folder: &Path) -> Result<(), Stop> {
-    for (words, said) in COMPLAINTS {
+/// The same of the register's words.
+const AT_THE_REGISTER: [(&[&str], &str); 4] = [
+    (
+        &["register", "x.csv", "20"],
+        "cannot read x.csv: no such file",
+    ),
+    (&["table", "x.plan"], "cannot read x.plan: no such file"),
+    (
+        &["table", "x.plan", "65536", "0"],
+        "cannot read x.plan: no such file",
+    ),
+    (
+        &["table", "x.plan", "65537", "0"],
+        "65537 is no size of a page: 0 to 65536",
+    ),
+];
+
+pub fn compare(clerk: &Path, subject: Subject, folder: &Path) -> Result<(), Stop> {
+    compare_each(clerk, folder, &COMPLAINTS)?;
+    match subject {
+        Subject::Register | Subject::Table => compare_each(clerk, folder, &AT_THE_REGISTER),
+        _ => Ok(()),
+    }
+}
+
+fn compare_each(clerk: &Path, folder: &Path, complaints: &[(&[&str], &str)]) -> Result<(), Stop> {
+    for (words, said) in complaints {
         let output = ask(clerk, folder, words)?;
         let expected = format!("clerk: {said}\n");
         if !output.stdout.is_empty() || output.stderr != expected.as_bytes() {

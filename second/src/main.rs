@@ -16,6 +16,7 @@ mod options;
 mod orders;
 mod plans;
 mod questions;
+mod register;
 mod rules;
 mod saving;
 mod selftest;
@@ -29,16 +30,18 @@ mod wrong;
 use calendar::ask::{first_difference, print_all, Asked};
 use compare::compare_all;
 use options::{task, Comparison, Task, USAGE};
+use register::answer::{registered, tabled};
 use rules::answer::Answer;
 use rules::frames::{read, Refusal};
 use rules::plan::Plan;
 use rules::rule::{all_breaks, PAGE};
+use saving::Saved;
 use std::io::{ErrorKind, Write};
 use std::path::Path;
 use std::process::ExitCode;
 use stop::Stop;
 
-/// Status where a plan file is refused.
+/// Status where a file is refused.
 const REFUSED: u8 = 1;
 /// Status where nothing could be compared.
 const UNABLE: u8 = 2;
@@ -47,6 +50,8 @@ fn main() -> ExitCode {
     match task(std::env::args().skip(1)) {
         Some(Task::Compare(job)) => run_comparison(&job),
         Some(Task::Answer(path)) => show_answer(&path, Answer::of_text),
+        Some(Task::Register(path, run)) => show_text(&path, |text| registered(text, run)),
+        Some(Task::Table(path)) => show_text(&path, tabled),
         Some(Task::Days(path)) => show_plan(&path, board::days),
         Some(Task::Breaks(path)) => show_plan(&path, breaks),
         Some(Task::Wrong(mistake, path)) => show_answer(&path, |text| wrong::answer(mistake, text)),
@@ -92,11 +97,16 @@ fn show_answer(path: &Path, answer: impl Fn(&[u8]) -> Answer) -> ExitCode {
     })
 }
 
+fn show_text(path: &Path, said: impl Fn(&[u8]) -> Saved) -> ExitCode {
+    let lines = |text: Vec<u8>| String::from_utf8(text).expect("all that is written is ASCII");
+    show(path, |text| said(text).map(lines))
+}
+
 fn show_plan(path: &Path, lines: impl Fn(&Plan) -> String) -> ExitCode {
     show(path, |text| read(text).map(|plan| lines(&plan)))
 }
 
-/// What is said of a plan file, or its refusal.
+/// What is said of a file, or its refusal.
 fn show(path: &Path, said: impl Fn(&[u8]) -> Result<String, Refusal>) -> ExitCode {
     match std::fs::read(path) {
         Ok(text) => match said(&text) {

@@ -11,8 +11,8 @@ use crate::{faults, writing};
 pub struct Kind {
     pub name: &'static str,
     /// Files of this kind in each 1,000.
-    share: u64,
-    make: fn(&mut Chance, u64) -> Vec<u8>,
+    pub share: u64,
+    pub make: fn(&mut Chance, u64) -> Vec<u8>,
 }
 
 /// Files in one round of all kinds.
@@ -23,15 +23,16 @@ const STRIDE: u64 = 617;
 
 macro_rules! kind {
     ($name:expr, $share:expr, $make:path) => {
-        Kind {
+        $crate::mix::Kind {
             name: $name,
             share: $share,
             make: $make,
         }
     };
 }
+pub(crate) use kind;
 
-pub const KINDS: [Kind; 33] = [
+const KINDS: [Kind; 33] = [
     kind!("lawful", 148, lawful),
     kind!("permissions matter", 50, permissions_matter),
     kind!("choice of permissions", 20, choices),
@@ -68,17 +69,25 @@ pub const KINDS: [Kind; 33] = [
 ];
 
 pub struct Made {
-    /// Place of the kind in the table.
-    pub kind: usize,
+    /// The kind's name.
+    pub kind: &'static str,
     pub text: Vec<u8>,
 }
 
 /// The file of this number under this seed.
 pub fn make(seed: u64, file: u64) -> Made {
-    let (kind, turn) = kind_and_turn(file);
+    make_of(&KINDS, seed, file)
+}
+
+/// The file of this number under this seed, of the kinds of a table whose shares make up a round.
+pub fn make_of(kinds: &[Kind], seed: u64, file: u64) -> Made {
+    let (kind, turn) = kind_and_turn(kinds, file);
     let mut chance = Chance::new(seed, file);
-    let text = (KINDS[kind].make)(&mut chance, turn);
-    Made { kind, text }
+    let text = (kind.make)(&mut chance, turn);
+    Made {
+        kind: kind.name,
+        text,
+    }
 }
 
 /// Kinds at the border between pass and fail, as often as they stand here.
@@ -102,10 +111,10 @@ pub fn make_at_the_border(seed: u64, file: u64) -> Made {
     }
     let mut chance = Chance::new(seed, file);
     let name = chance.pick(&AT_THE_BORDER);
-    let named = KINDS.iter().position(|kind| kind.name == name);
+    let named = KINDS.iter().find(|kind| kind.name == name);
     let kind = named.expect("every kind at the border is in the table");
-    let text = (KINDS[kind].make)(&mut chance, file);
-    Made { kind, text }
+    let text = (kind.make)(&mut chance, file);
+    Made { kind: name, text }
 }
 
 /// The file of this number under this seed: every other one of any kind; the rest lawful, with moving
@@ -147,21 +156,20 @@ pub fn make_to_turn(seed: u64, file: u64) -> Made {
         let at = chance.index(text.len());
         text[at] = chance.pick(b"0123456789abcdef\nG");
     }
-    let lawful = KINDS.iter().position(|kind| kind.name == "lawful");
     Made {
-        kind: lawful.expect("the table has lawful files"),
+        kind: "to turn",
         text,
     }
 }
 
-fn kind_and_turn(file: u64) -> (usize, u64) {
+fn kind_and_turn(kinds: &[Kind], file: u64) -> (&Kind, u64) {
     let mut place = file * STRIDE % ROUND;
     let mut at = 0;
-    while place >= KINDS[at].share {
-        place -= KINDS[at].share;
+    while place >= kinds[at].share {
+        place -= kinds[at].share;
         at += 1;
     }
-    (at, file / ROUND * KINDS[at].share + place)
+    (&kinds[at], file / ROUND * kinds[at].share + place)
 }
 
 /// Gives a plan a run and releases, and writes it.

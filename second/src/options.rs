@@ -3,14 +3,17 @@
 use crate::calendar::ask::Asked;
 use crate::misses;
 use crate::orders;
+use crate::register::run_length::RunLength;
 use crate::wrong::Mistake;
 use std::path::PathBuf;
 use std::str::FromStr;
 
 pub const USAGE: &str =
     "usage: second --desk PATH [--files N] [--seed S] [--batch B] [--keep DIR] [--tally]
-       second --clerk PATH [--about save|quick|show|turn] [--files N] [--seed S] [--batch B] [--keep DIR] [--tally]
+       second --clerk PATH [--about save|quick|show|turn|register|table] [--files N] [--seed S] [--batch B] [--keep DIR] [--tally]
        second --answer FILE
+       second --register FILE N
+       second --table FILE
        second --days FILE
        second --breaks FILE
        second --wrong equation-7|one-by-one|stop-at-dmax|load-equal-to-h|start-early|stopped-pays|one-week|who-is-interrupted FILE
@@ -23,6 +26,8 @@ pub const USAGE: &str =
 pub enum Task {
     Compare(Comparison),
     Answer(PathBuf),
+    Register(PathBuf, RunLength),
+    Table(PathBuf),
     Days(PathBuf),
     Breaks(PathBuf),
     Wrong(Mistake, PathBuf),
@@ -50,6 +55,10 @@ pub enum Subject {
     Show,
     /// Files of one version turned into the other.
     Turn,
+    /// The register's exports read into plans.
+    Register,
+    /// Plans' strings written as the register has them.
+    Table,
 }
 
 impl FromStr for Subject {
@@ -61,6 +70,8 @@ impl FromStr for Subject {
             "quick" => Ok(Subject::Quick),
             "show" => Ok(Subject::Show),
             "turn" => Ok(Subject::Turn),
+            "register" => Ok(Subject::Register),
+            "table" => Ok(Subject::Table),
             _ => Err(()),
         }
     }
@@ -93,6 +104,8 @@ pub fn task(mut words: impl Iterator<Item = String>) -> Option<Task> {
     while let Some(word) = words.next() {
         match word.as_str() {
             "--answer" => return words.next().map(|path| Task::Answer(path.into())),
+            "--register" => return Some(Task::Register(value(&mut words)?, value(&mut words)?)),
+            "--table" => return words.next().map(|path| Task::Table(path.into())),
             "--days" => return words.next().map(|path| Task::Days(path.into())),
             "--breaks" => return words.next().map(|path| Task::Breaks(path.into())),
             "--wrong" => return Some(Task::Wrong(value(&mut words)?, value(&mut words)?)),

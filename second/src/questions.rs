@@ -4,6 +4,9 @@ use crate::chance::Chance;
 use crate::edges::pages;
 use crate::mix::{make, make_at_the_border, make_to_turn, Made};
 use crate::options::Subject;
+use crate::register::answer::{registered, tabled};
+use crate::register::run_length::{any_words, RunLength};
+use crate::register::{exports, plans, reader};
 use crate::rules::frames::read;
 use crate::rules::plan::Plan;
 use crate::rules::quick::quick;
@@ -25,6 +28,8 @@ pub fn file(subject: Subject, seed: u64, file: u64) -> Made {
         Subject::Save | Subject::Show => make(seed, file),
         Subject::Quick => make_at_the_border(seed, file),
         Subject::Turn => make_to_turn(seed, file),
+        Subject::Register => exports::make(seed, file),
+        Subject::Table => plans::make(seed, file),
     }
 }
 
@@ -40,6 +45,8 @@ pub fn about(
         Subject::Quick => about_quick_verdicts(text, name),
         Subject::Show => Ok(about_showing(text, name)),
         Subject::Turn => about_turning(text, name),
+        Subject::Register => about_registering(chance, text, name),
+        Subject::Table => about_tables(chance, text, name),
     }
 }
 
@@ -57,15 +64,59 @@ fn about_saving(chance: &mut Chance, text: &[u8], name: &str) -> Result<Vec<Aske
     {
         return Err("a plan is read as another");
     }
+    Ok(alone_and_in_pages(chance, "save", name, &whole))
+}
+
+/// All that is written for a file, and the same into pages about its edges.
+fn alone_and_in_pages(chance: &mut Chance, word: &str, name: &str, whole: &Saved) -> Vec<Asked> {
     let mut asked = vec![Asked {
-        command: format!("save {name}"),
+        command: format!("{word} {name}"),
         answer: whole.clone(),
     }];
-    asked.extend(pages(chance, &whole).into_iter().map(|page| Asked {
-        command: format!("save {name} {} {}", page.size, page.place),
-        answer: into_page(&whole, page),
+    asked.extend(pages(chance, whole).into_iter().map(|page| Asked {
+        command: format!("{word} {name} {} {}", page.size, page.place),
+        answer: into_page(whole, page),
     }));
+    asked
+}
+
+/// An export with several N. One that is read is the table of its plan, byte for byte, and the plan's
+/// file says that plan: this N, these strings, no releases.
+fn about_registering(
+    chance: &mut Chance,
+    text: &[u8],
+    name: &str,
+) -> Result<Vec<Asked>, &'static str> {
+    let mut asked = Vec::new();
+    for word in any_words(chance) {
+        let run: RunLength = word.parse().expect("each word is a run of digits");
+        let answer = registered(text, run);
+        if let Ok(file) = &answer {
+            if tabled(file).as_deref() != Ok(text) {
+                return Err("an export read and written back is another");
+            }
+            if read(file) != reader::read(text, run) {
+                return Err("the file of an export says another plan");
+            }
+        }
+        asked.push(Asked {
+            command: format!("register {name} {word}"),
+            answer,
+        });
+    }
     Ok(asked)
+}
+
+/// Alone and in pages. Read back with the plan's N, a table says the plan without its releases.
+fn about_tables(chance: &mut Chance, text: &[u8], name: &str) -> Result<Vec<Asked>, &'static str> {
+    let whole = tabled(text);
+    if let (Ok(table), Ok(mut plan)) = (&whole, read(text)) {
+        plan.releases.clear();
+        if reader::read(table, RunLength(plan.days)) != Ok(plan) {
+            return Err("a table is read as another plan");
+        }
+    }
+    Ok(alone_and_in_pages(chance, "table", name, &whole))
 }
 
 /// Both ways. A file that is turned says the same plan, and turned back it has the bytes that it had.

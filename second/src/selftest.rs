@@ -4,6 +4,7 @@ use crate::calendar::answer::Calendar;
 use crate::chance::Chance;
 use crate::misses::plans::any_small_plan;
 use crate::orders::answer::{matched, Matched};
+use crate::register;
 use crate::rules::answer::Answer;
 use crate::rules::every_list::can_miss_by;
 use crate::rules::frames::{read, Refusal};
@@ -31,6 +32,7 @@ pub fn wrong_cases() -> Vec<&'static str> {
         turnings(),
         orders(),
         showings(),
+        register::checks::cases(),
         dates(),
         beside_dates(),
         mistakes(),
@@ -43,7 +45,7 @@ pub fn wrong_cases() -> Vec<&'static str> {
         .collect()
 }
 
-type Cases = Vec<(&'static str, bool)>;
+pub type Cases = Vec<(&'static str, bool)>;
 
 /// Strings as (T, C, D), without permissions.
 fn plan(strings: &[(u64, u64, u64)], moving: u64) -> Plan {
@@ -170,11 +172,11 @@ fn runs() -> Cases {
 }
 
 /// A version 02 file: the string at place 2 is on the roof, four days away, the others one.
-const ROOF: &[u8] = b"01020300000014\n02010014000200050001\n020100140003000a0004\n\
+pub const ROOF: &[u8] = b"01020300000014\n02010014000200050001\n020100140003000a0004\n\
     020000280008001e0001\n0303000000000008\n0302000000020003\n03010000000a0002\n";
 
 /// The plan file that the document shows.
-const SAMPLE: &[u8] = b"010102000100000014\n0201000a00030005\n0200000a0005000a\n\
+pub const SAMPLE: &[u8] = b"010102000100000014\n0201000a00030005\n0200000a0005000a\n\
     0302000000000005\n0301000000010003\n";
 
 /// The same in version 02.
@@ -502,6 +504,6 @@ fn gaps(calendar: &Calendar, on: &str, edition: &str) -> Vec<usize> {
     gaps
 }
 
-fn refused<T>(number: usize, line: usize) -> Result<T, Refusal> {
+pub fn refused<T>(number: usize, line: usize) -> Result<T, Refusal> {
     Err(Refusal { number, line })
 }

@@ -1,19 +1,19 @@
 //! Counts of what was compared, for those who want to see how wide the net is.
 
-use crate::mix::KINDS;
 use crate::rules::answer::Answer;
 use crate::rules::rule::Verdict;
 use crate::rules::run::Outcome;
 use crate::saving::Saved;
+use std::collections::BTreeMap;
 use std::fmt;
 use std::time::Duration;
 
 #[derive(Default)]
 pub struct Tally {
-    /// By place in the table; empty where no file has been counted.
-    kinds: Vec<u64>,
+    /// By the kind's name.
+    kinds: BTreeMap<&'static str, u64>,
     /// By refusal number; the first is not used.
-    refused: [u64; 13],
+    refused: [u64; 14],
     /// Texts, pages and lines that the clerk has to write.
     saved: u64,
     overload: u64,
@@ -31,9 +31,8 @@ pub struct Tally {
 }
 
 impl Tally {
-    pub fn count_file(&mut self, kind: usize) {
-        self.kinds.resize(KINDS.len(), 0);
-        self.kinds[kind] += 1;
+    pub fn count_file(&mut self, kind: &'static str) {
+        *self.kinds.entry(kind).or_default() += 1;
     }
 
     pub fn count_saved(&mut self, saved: &Saved) {
@@ -73,9 +72,12 @@ impl Tally {
     }
 
     pub fn add(&mut self, other: &Tally) {
-        self.kinds.resize(KINDS.len(), 0);
-        add_each(&mut self.kinds, &other.kinds);
-        add_each(&mut self.refused, &other.refused);
+        for (kind, count) in &other.kinds {
+            *self.kinds.entry(kind).or_default() += count;
+        }
+        for (sum, more) in self.refused.iter_mut().zip(other.refused) {
+            *sum += more;
+        }
         self.overload += other.overload;
         self.fail += other.fail;
         self.pass += other.pass;
@@ -110,16 +112,10 @@ impl Tally {
     }
 }
 
-fn add_each(sums: &mut [u64], more: &[u64]) {
-    for (sum, more) in sums.iter_mut().zip(more) {
-        *sum += more;
-    }
-}
-
 impl fmt::Display for Tally {
     fn fmt(&self, out: &mut fmt::Formatter) -> fmt::Result {
-        for (kind, count) in KINDS.iter().zip(&self.kinds) {
-            writeln!(out, "{count:7} {}", kind.name)?;
+        for (kind, count) in &self.kinds {
+            writeln!(out, "{count:7} {kind}")?;
         }
         for (number, count) in self.refused.iter().enumerate().skip(1) {
             writeln!(out, "{count:7} refused {number}")?;

@@ -1,9 +1,11 @@
 -- Reading a date's text and writing it undo each other, both ways: a date has one text, and a text is that of one date.
-use Rattle.base.proofs.Prelude.{ℕ, suc, _+_, _-_, _*_, _/_, _%_, _≤_, _<_, _≡_, refl, sym, ap, _∙_, true, false, not, List, [], _∷_, _++_, arith, eqb-true, length}
-use Rattle.base.proofs.Lists.{by-bool, true-not-false, and-left, and-right}
+use Rattle.base.proofs.Prelude.{ℕ, _+_, _/_, _%_, _^_, _≤_, _<_, _≡_, refl, sym, ap, _∙_, true, false, not, List, [], _∷_, map, arith, eqb-true, length, length-map}
+use Rattle.base.specs.{Count.All, Digits.{placesOf, valueOf, figure, worth}}
+use Rattle.base.proofs.Digits.{figures-worth, worth-figures, places-said, places-written}
+use Rattle.base.proofs.Lists.{all-map, by-bool, true-not-false, and-left, and-right}
 use Rattle.faults.proofs.Checks.{inBounds-low, inBounds-high, inBounds-yes}
 use Rattle.faults.specs.declared.Fault.the-variants.{NoSuchDate}
-use Rattle.calendar.specs.{declared.Date.Date, declared.YearlyDate.YearlyDate, Dates.dateExists, Yearly.{setOn, inNoYear}, Texts.{hyphen, digits, number, numberAfter, fitsAt, fits, dateForm, yearlyForm, dateText, yearlyText, dateIn, yearlyIn, dateReading, yearlyReading}}
+use Rattle.calendar.specs.{declared.Date.Date, declared.YearlyDate.YearlyDate, Dates.dateExists, Yearly.{setOn, inNoYear}, Texts.{hyphen, digits, number, fitsAt, fits, dateForm, yearlyForm, dateText, yearlyText, dateIn, yearlyIn, dateReading, yearlyReading}}
 use Rattle.calendar.proofs.{Months.monthLength-bounds, Existing.existing, Order.same-date, SomeYear.inNoYear-2000, Texts.{dateReading-is, dateReading-form, dateReading-none, yearlyReading-is, yearlyReading-form, yearlyReading-none}}
 use Rattle.calendar.specs.declared.WhichDate.the-variants as which-date
 use Rattle.calendar.specs.declared.WhichYearly.the-variants as which-yearly
@@ -22,65 +24,61 @@ line : fitsAt hyphen hyphen ≡ true
 unfolding fitsAt
 line = refl
 
-figure : (n : ℕ) → fitsAt 0x30 (0x30 + n % 10) ≡ true
+figure-fits : (n : ℕ) → fitsAt 0x30 (0x30 + n % 10) ≡ true
 unfolding fitsAt
-figure n = inBounds-yes 0x30 (0x30 + n % 10) 0x39 (omega arith) (omega arith)
+figure-fits n = inBounds-yes 0x30 (0x30 + n % 10) 0x39 (omega arith) (omega arith)
 
-digits-two : (n : ℕ) → n < 100 → number (digits 2 n) ≡ n
-unfolding digits numberAfter
-digits-two n h = omega arith
-
-digits-four : (n : ℕ) → n < 10000 → number (digits 4 n) ≡ n
-unfolding digits numberAfter
-digits-four n h = omega arith
-
--- a digit more
-digits-more : (k n b : ℕ) → fitsAt 0x30 b ≡ true → digits (suc k) (10 * n + (b - 0x30)) ≡ digits k n ++ (b ∷ [])
+digits-said : (k n : ℕ) → n < 10 ^ k → number (digits k n) ≡ n
 unfolding digits
-digits-more k n b h =
-    let low = digit-low b h in
-    let high = digit-high b h in
-    let before : (10 * n + (b - 0x30)) / 10 ≡ n = omega arith in
-    let last : 0x30 + (10 * n + (b - 0x30)) % 10 ≡ b = omega arith in
-    rw (before, last)
+digits-said k n h = ap (valueOf 10) (figures-worth (placesOf 10 k n)) ∙ places-said 10 (omega arith) k n h
+
+-- characters from 0 to 9
+abbrev Figures : List ℕ → Type 0
+Figures text = All (λ b. fitsAt 0x30 b ≡ true) text
+
+worth-below : (text : List ℕ) → Figures text → All (λ d. d < 10) (map worth text)
+worth-below [] h = tt
+worth-below (b ∷ text) h =
+    let high = digit-high b (h .0) in
+    (omega arith, worth-below text (h .1))
+
+digits-back : (k : ℕ) (text : List ℕ) → length text ≡ k → Figures text → digits k (number text) ≡ text
+unfolding digits
+digits-back k text size h =
+    ap (map figure) (places-written 10 (omega arith) k (map worth text) (worth-below text h) (length-map text worth ∙ size))
+    ∙ worth-figures text (all-map _ _ (λ b fits. digit-low b fits) text h)
 
 two-back : (a b : ℕ) → fitsAt 0x30 a ≡ true → fitsAt 0x30 b ≡ true → digits 2 (number (a ∷ b ∷ [])) ≡ a ∷ b ∷ []
-unfolding digits numberAfter
-two-back a b h g = digits-more 1 (10 * 0 + (a - 0x30)) b g ∙ ap (λ l. l ++ (b ∷ [])) (digits-more 0 0 a h)
+two-back a b h g = digits-back 2 (a ∷ b ∷ []) refl (h, (g, tt))
 
 four-back : (a b c d : ℕ) → fitsAt 0x30 a ≡ true → fitsAt 0x30 b ≡ true → fitsAt 0x30 c ≡ true → fitsAt 0x30 d ≡ true
     → digits 4 (number (a ∷ b ∷ c ∷ d ∷ [])) ≡ a ∷ b ∷ c ∷ d ∷ []
-unfolding digits numberAfter
-four-back a b c d h g f e =
-    let n = number (a ∷ b ∷ []) in
-    digits-more 3 (10 * n + (c - 0x30)) d e
-    ∙ ap (λ l. l ++ (d ∷ [])) (digits-more 2 n c f)
-    ∙ ap (λ l. (l ++ (c ∷ [])) ++ (d ∷ [])) (two-back a b h g)
+four-back a b c d h g f e = digits-back 4 (a ∷ b ∷ c ∷ d ∷ []) refl (h, (g, (f, (e, tt))))
 
 -- ---- Written, then read
 
 dateText-fits : (d : Date) → fits dateForm (dateText d) ≡ true
-unfolding dateText digits fits
+unfolding dateText digits placesOf fits
 dateText-fits d =
     rw (
-      figure (d .year / 10 / 10 / 10),
-      figure (d .year / 10 / 10),
-      figure (d .year / 10),
-      figure (d .year),
-      figure (d .month / 10),
-      figure (d .month),
-      figure (d .day / 10),
-      figure (d .day),
+      figure-fits (d .year / 10 / 10 / 10),
+      figure-fits (d .year / 10 / 10),
+      figure-fits (d .year / 10),
+      figure-fits (d .year),
+      figure-fits (d .month / 10),
+      figure-fits (d .month),
+      figure-fits (d .day / 10),
+      figure-fits (d .day),
       line,
     )
 
 pub dateText-ten : (d : Date) → length (dateText d) ≡ 10
-unfolding dateText digits
+unfolding dateText digits placesOf
 dateText-ten d = refl
 
 yearlyText-fits : (t : YearlyDate) → fits yearlyForm (yearlyText t) ≡ true
-unfolding yearlyText digits fits
-yearlyText-fits t = rw (figure (t .month / 10), figure (t .month), figure (t .day / 10), figure (t .day), line)
+unfolding yearlyText digits placesOf fits
+yearlyText-fits t = rw (figure-fits (t .month / 10), figure-fits (t .month), figure-fits (t .day / 10), figure-fits (t .day), line)
 
 -- a month and day that exist in some year have two digits each
 yearly-short : (t : YearlyDate) → inNoYear t ≡ false → (t .month < 100) × (t .day < 100)
@@ -90,14 +88,15 @@ yearly-short t h =
     (omega arith, omega (arith, x .last, monthLength-bounds 2000 (t .month) (x .january) (x .december)))
 
 dateText-parts : (d : Date) → d .year < 10000 → d .month < 100 → d .day < 100 → dateIn (dateText d) ≡ d
-unfolding dateIn dateText digits
-dateText-parts d y m k = same-date (dateIn (dateText d)) d (digits-four (d .year) y) (digits-two (d .month) m) (digits-two (d .day) k)
+unfolding dateIn dateText digits placesOf
+dateText-parts d y m k = same-date (dateIn (dateText d)) d (digits-said 4 (d .year) y) (digits-said 2 (d .month) m) (digits-said 2 (d
+    .day) k)
 
 yearlyText-parts : (t : YearlyDate) → t .month < 100 → t .day < 100 → yearlyIn (yearlyText t) ≡ t
-unfolding yearlyIn yearlyText digits
+unfolding yearlyIn yearlyText digits placesOf
 yearlyText-parts t m k =
-    let month = digits-two (t .month) m in
-    let day = digits-two (t .day) k in
+    let month = digits-said 2 (t .month) m in
+    let day = digits-said 2 (t .day) k in
     let parts : record { month = number (digits 2 (t .month)); day = number (digits 2 (t .day)) } ≡ t = rw (month, day) in
     parts
 

@@ -1,8 +1,9 @@
 -- Laws of texts: whether a text has a form, place by place, and the numbers that its digits write.
 use Rattle.base.proofs.Prelude.{ℕ, suc, _+_, _-_, _*_, _≤_, _<_, _≡_, refl, true, false, List, [], _∷_, arith, add-one, length, getD, take, drop, replicate, drop-of-length-le, drop-cons}
+use Rattle.base.specs.Digits.{numberOn}
 use Rattle.base.proofs.Lists.{by-bool, and-right}
 use Rattle.faults.specs.declared.Fault.the-variants.{NoSuchDate, NoSuchEdition}
-use Rattle.calendar.specs.{declared.Date.Date, declared.YearlyDate.YearlyDate, Dates.{date, dateExists}, Yearly.{noEdition, inNoYear}, Texts.{fitsAt, fits, number, numberAfter, dateForm, yearlyForm, dateIn, yearlyIn, dateReading, yearlyReading, editionForm, editionReading, dateText, yearlyText, dateWriting, yearlyWriting}}
+use Rattle.calendar.specs.{declared.Date.Date, declared.YearlyDate.YearlyDate, Dates.{date, dateExists}, Yearly.{noEdition, inNoYear}, Texts.{fitsAt, fits, number, dateForm, yearlyForm, dateIn, yearlyIn, dateReading, yearlyReading, editionForm, editionReading, dateText, yearlyText, dateWriting, yearlyWriting}}
 use Rattle.faults.specs.declared.Checked.the-variants as checked
 use Rattle.calendar.specs.declared.WhichDate.the-variants as which-date
 use Rattle.calendar.specs.declared.WhichYearly.the-variants as which-yearly
@@ -43,19 +44,19 @@ fits-done form text i h g =
 
 pub number-two : (text : List ℕ) (at : ℕ) → at + 2 ≤ length text
     → number (take 2 (drop at text)) ≡ 10 * (getD text at 0 - 0x30) + (getD text (at + 1) 0 - 0x30)
-unfolding numberAfter
+unfolding numberOn
 number-two text at room =
     rw (add-one at, drop-cons text at 0 (omega arith), drop-cons text (suc at) 0 (omega arith)) (omega arith)
 
 pub number-one : (text : List ℕ) → 1 ≡ length text → number text ≡ getD text 0 0 - 0x30
-unfolding numberAfter
+unfolding numberOn
 number-one [] h = absurd (omega arith)
 number-one (b ∷ []) h = omega arith
 number-one (a ∷ b ∷ rest) h = absurd (omega arith)
 
 number-four : (text : List ℕ) → 4 ≤ length text
     → number (take 4 text) ≡ 100 * number (take 2 (drop 0 text)) + number (take 2 (drop 2 text))
-unfolding numberAfter
+unfolding numberOn
 number-four [] h = absurd (omega arith)
 number-four (a ∷ []) h = absurd (omega arith)
 number-four (a ∷ b ∷ []) h = absurd (omega arith)

@@ -2,8 +2,8 @@
 -- `worked` has antt compute every answer from the definitions; lists of 29 February are computed over all 400 years.
 use Rattle.base.proofs.Prelude.{ℕ, _≡_, refl, List, [], _∷_, map}
 use Prim.Native.{Char.code, String.String}
-use Rattle.base.specs.Count.{sumOf, upFrom, keep, every}
-use Rattle.calendar.specs.{declared.Date.Date, declared.YearlyDate.YearlyDate, Years.{leapYear, yearLength, monthsWith, monthLengths, monthLength}, Dates.{date, dateExists, dateAfter}, Numbers.{daysBeforeYear, daysBeforeMonth, dayNumber, dateOf}, Weekdays.weekdayOf, Yearly.{onLeapDay, inNoYear, movedIn, inYear, datesIn, daysIn}, Refusals.{dateAnswer, dayAnswer, weekdayAnswer, yearlyCheck, listedIf, storedIf, yearlyAnswer, yearlyListed}, Texts.{digits, numberAfter, fitsAt, fits, dateText, dateIn, yearlyIn, dateReading, yearlyReading, noNumber, dayReading, editionReading}, Said.{Said, refused, on, day, weekday, days, yearly, edition, dateSays, daySays, weekdaySays, yearlySays, editionSays, listedSays}}
+use Rattle.base.specs.{Count.{sumOf, upFrom, keep, every}, Digits.{placesOf, numberOn}}
+use Rattle.calendar.specs.{declared.Date.Date, declared.YearlyDate.YearlyDate, Years.{leapYear, yearLength, monthsWith, monthLengths, monthLength}, Dates.{date, dateExists, dateAfter}, Numbers.{daysBeforeYear, daysBeforeMonth, dayNumber, dateOf}, Weekdays.weekdayOf, Yearly.{onLeapDay, inNoYear, movedIn, inYear, datesIn, daysIn}, Refusals.{dateAnswer, dayAnswer, weekdayAnswer, yearlyCheck, listedIf, storedIf, yearlyAnswer, yearlyListed}, Texts.{digits, fitsAt, fits, dateText, dateIn, yearlyIn, dateReading, yearlyReading, noNumber, dayReading, editionReading}, Said.{Said, refused, on, day, weekday, days, yearly, edition, dateSays, daySays, weekdaySays, yearlySays, editionSays, listedSays}}
 use Prim.Native.String as text
 
 pub data Question : Type 0 where
@@ -135,5 +135,5 @@ unfolding
     daysBeforeYear daysBeforeMonth dayNumber dateOf weekdayOf
     onLeapDay inNoYear movedIn inYear datesIn daysIn
     dateAnswer dayAnswer weekdayAnswer yearlyCheck listedIf storedIf yearlyAnswer yearlyListed
-    digits numberAfter fitsAt fits dateText dateIn yearlyIn dateReading yearlyReading noNumber dayReading editionReading
+    digits placesOf numberOn fitsAt fits dateText dateIn yearlyIn dateReading yearlyReading noNumber dayReading editionReading
 worked = refl

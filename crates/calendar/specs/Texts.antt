@@ -13,13 +13,14 @@
 --     dayReading text       the day that a text writes in decimal, without leading zeros, or 10
 --     dateWriting d         the text of a date that exists, or 10 and zeros
 --     yearlyWriting t       the text of a month and day that exist in some year, or 10 and zeros
-use Prim.Native.Nat.{ℕ, zero, suc, _+_, _-_, _*_, _/_, _%_}
+use Prim.Native.Nat.{ℕ}
 use mathlib.Core.Bool.{Bool, true, false, not, cond, _&&_, _||_}
-use mathlib.Core.List.{List, [], _∷_, _++_}
+use mathlib.Core.List.{List, [], _∷_, _++_, map}
 use lib.Dec.{eqb, ltb, leb}
 use lib.ListN.{length, getD, take, drop, replicate}
 use Rattle.days.specs.Days.{day}
 use Rattle.base.specs.Count.{every}
+use Rattle.base.specs.Digits.{placesOf, figure, decimalIn}
 use Rattle.faults.specs.declared.Fault.the-variants.{NoSuchDate, NoSuchEdition}
 use Rattle.faults.specs.declared.Checked.the-variants as checked
 use Rattle.faults.specs.Checks.{inBounds}
@@ -45,8 +46,7 @@ hyphen = 0x2d
 -- ---- Writing
 
 unfoldable pub digits : ℕ → ℕ → List ℕ
-digits zero n = []
-digits (suc k) n = digits k (n / 10) ++ ((0x30 + n % 10) ∷ [])
+digits k n = map figure (placesOf 10 k n)
 
 unfoldable pub dateText : Date → List ℕ
 dateText d = digits 4 (d .year) ++ hyphen ∷ digits 2 (d .month) ++ hyphen ∷ digits 2 (d .day)
@@ -66,13 +66,8 @@ yearlyWriting t =
 
 -- ---- Reading
 
--- n is what the digits before wrote
-unfoldable pub numberAfter : ℕ → List ℕ → ℕ
-numberAfter n [] = n
-numberAfter n (b ∷ bs) = numberAfter (10 * n + (b - 0x30)) bs
-
 abbrev pub number : List ℕ → ℕ
-number text = numberAfter 0 text
+number text = decimalIn text
 
 -- the byte b where the form has c
 unfoldable pub fitsAt : ℕ → ℕ → Bool

@@ -66,10 +66,31 @@ pub(crate) fn same(a: &[u8], b: &[u8]) -> bool {
     true
 }
 
-// A word that is a number in decimal digits, below 2^64.
+// A word that is a number in decimal digits: below 2^64, or larger.
 pub(crate) enum Number {
     Is { value: u64 },
+    Larger,
     Malformed,
+}
+
+fn is_digit(b: u8) -> bool {
+    if b < b'0' {
+        return false;
+    }
+    b <= b'9'
+}
+
+// A number that is too large as far as it was read.
+fn larger(rest: &[u8]) -> Number {
+    let mut i: usize = 0;
+    while i < rest.len() {
+        let b = rest[i];
+        if !is_digit(b) {
+            return Number::Malformed;
+        }
+        i += 1;
+    }
+    Number::Larger
 }
 
 pub(crate) fn decimal(word: &[u8]) -> Number {
@@ -88,7 +109,7 @@ pub(crate) fn decimal(word: &[u8]) -> Number {
         }
         let d = digit - 48;
         if (u64::MAX - d) / 10 < value {
-            return Number::Malformed;
+            return larger(&word[i..]);
         }
         value = value * 10 + d;
         i += 1;

@@ -3,6 +3,7 @@
 mod commands;
 mod dates;
 mod each;
+mod export;
 mod files;
 mod miss;
 mod orders;

@@ -4,6 +4,7 @@ use super::commands::word;
 use super::dates::date;
 use super::dates::day;
 use super::dates::yearly_days;
+use super::export::register_file;
 use super::miss::miss;
 use super::orders::same_strings;
 use super::quick::quick_verdict;
@@ -15,7 +16,11 @@ use super::turn::turn;
 pub(crate) fn answer(command: &[u8]) -> u8 {
     let first = word(command, 0);
     if same(first, b"save") {
-        save(command)
+        save(command, false, b"save [FILE], or save FILE SIZE PLACE")
+    } else if same(first, b"table") {
+        save(command, true, b"table [FILE], or table FILE SIZE PLACE")
+    } else if same(first, b"register") {
+        register_file(command)
     } else if same(first, b"quick") {
         quick_verdict(command)
     } else if same(first, b"miss") {
@@ -68,6 +73,10 @@ fn help() -> u8 {
     );
     let end = say::more(
         end,
+        b"register FILE N         write the plan file of FILE, an export of the asset register, with N days to run\n",
+    );
+    let end = say::more(
+        end,
         b"same FILE FILE          whether two plans hold the same strings in another order: same and the place\n",
     );
     let end = say::more(
@@ -85,6 +94,14 @@ fn help() -> u8 {
     let end = say::more(
         end,
         b"show [FILE]             the plan in FILE in decimal words\n",
+    );
+    let end = say::more(
+        end,
+        b"table [FILE]            the strings of the plan in FILE as rows of the asset register's table\n",
+    );
+    let end = say::more(
+        end,
+        b"table FILE SIZE PLACE   write them into a page of SIZE bytes, from PLACE on\n",
     );
     let end = say::more(
         end,

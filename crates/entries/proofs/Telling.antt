@@ -1,8 +1,9 @@
 -- Rows and texts in lent memory: where there is room and where there is none, and that an entry which told a row or a text told what it is.
-use Rattle.base.proofs.Prelude.{ℕ, _+_, _≤_, _<_, _≡_, refl, sym, ap, _∙_, List, _++_, arith, add-one, lt-ltb, le-ltb, length, drop, getD, set}
-use lib.Seq.{sets-eq, take-length, paste, paste-suc, length-paste}
+use Rattle.base.proofs.Prelude.{ℕ, _≤_, _<_, _≡_, refl, ap, _∙_, List, lt-ltb, le-ltb, length, set}
+use lib.Seq.{sets-eq}
 use Rattle.rules.specs.declared.Plan.{Plan}
-use Rattle.entries.specs.{declared.told.Row.Row, Given.planGiven, Told.{numbersOf, kindTold, placesTold, lengthTold, pageTold}}
+use Rattle.lines.specs.Pages.{lengthTold, pageTold}
+use Rattle.entries.specs.{declared.told.Row.Row, Given.planGiven, Told.{numbersOf, kindTold, placesTold}}
 
 -- ---- A row
 
@@ -28,33 +29,6 @@ pub told-plan : {A : Type 0} (says : A → Row) (answer : Plan → A) (ns : List
     → (kind ≡ kindTold (says (answer (planGiven ns))) places) × (after ≡ placesTold (says (answer (planGiven ns))) places)
 told-plan says answer ns p v r places after kind given answered said told =
     told-as r _ places after kind (said ∙ ap says (answered ∙ ap answer given)) told
-
--- ---- A text, byte by byte
-
-module _ (text page : List ℕ) where
-  pub no-room : length page < length text → (0 ≡ lengthTold text page) × (page ≡ pageTold text page)
-  unfolding lengthTold pageTold
-  no-room h = rw (lt-ltb _ _ h) (refl, refl)
-
-  pub room : length text ≤ length page
-      → (length text ≡ lengthTold text page) × (text ++ drop (length text) page ≡ pageTold text page)
-  unfolding lengthTold pageTold
-  room h = rw (le-ltb _ _ h) (refl, refl)
-
-module _ (text page : List ℕ) (fits : length text ≤ length page) (now : List ℕ) (i : ℕ) (h : now ≡ paste page 0 text i) where
-  pub copied-length : i ≤ length text → length now ≡ length page
-  copied-length k = ap length h ∙ length-paste page 0 text i (omega arith) k
-
-  pub copied-more : i < length text → set now i (getD text i 0) ≡ paste page 0 text (i + 1)
-  copied-more k =
-      let here : 0 + i ≡ i = omega arith in
-      ap (λ l. set l i (getD text i 0)) h ∙ ap (λ j. set (paste page 0 text i) j (getD text i 0)) (sym here)
-      ∙ paste-suc page 0 text i 0 (omega arith) k ∙ ap (paste page 0 text) (sym (add-one i))
-
-  pub copied-all : i ≡ length text → now ≡ text ++ drop (length text) page
-  copied-all all =
-      let none : 0 + length text ≡ length text = omega arith in
-      h ∙ ap (paste page 0 text) all ∙ rw (none, take-length text)
 
 pub text-as : (t u page after : List ℕ) (count : ℕ) → t ≡ u → (count ≡ lengthTold t page) × (after ≡ pageTold t page)
     → (count ≡ lengthTold u page) × (after ≡ pageTold u page)

@@ -18,8 +18,7 @@
 --     dateRow w, dayRow w   the same of the calendar's answers
 --     kindTold r places     what is returned
 --     placesTold r places   the places afterwards: the four numbers, and then its own later places
---     lengthTold text page  what is returned of a text: its length; 0 where the page has fewer bytes
---     pageTold text page    the page afterwards: the text, and then its own later bytes; as it was where the text does not fit
+-- What is returned of a text, and the page afterwards: lines/specs/Pages.antt.
 use Prim.Native.Nat.{ℕ}
 use mathlib.Core.Bool.{cond}
 use mathlib.Core.List.{List, [], _∷_, _++_}
@@ -68,9 +67,3 @@ kindTold r places = cond (ltb (length places) 4) 9 (r .kind)
 
 unfoldable pub placesTold : Row → List ℕ → List ℕ
 placesTold r places = cond (ltb (length places) 4) places (numbersOf r ++ drop 4 places)
-
-unfoldable pub lengthTold : List ℕ → List ℕ → ℕ
-lengthTold text page = cond (ltb (length page) (length text)) 0 (length text)
-
-unfoldable pub pageTold : List ℕ → List ℕ → List ℕ
-pageTold text page = cond (ltb (length page) (length text)) page (text ++ drop (length text) page)

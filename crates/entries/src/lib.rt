@@ -28,7 +28,8 @@ ghost use Rattle.rules.specs.Lines.{linesFor};
 ghost use Rattle.demand.specs.Quick.{quickAnswer};
 ghost use Rattle.calendar.specs.Refusals.{dateAnswer, dayAnswer};
 ghost use Rattle.entries.specs.Given.{planGiven, releasesGiven, dateGiven};
-ghost use Rattle.entries.specs.Told.{rowOf, dateRow, dayRow, kindTold, placesTold, lengthTold, pageTold};
+ghost use Rattle.lines.specs.Pages.{lengthTold, pageTold};
+ghost use Rattle.entries.specs.Told.{rowOf, dateRow, dayRow, kindTold, placesTold};
 
 // Whether a plan is lawful; if not, the first fault.
 #[no_mangle]

@@ -5,6 +5,7 @@ use faults::Checked;
 use faults::Fault;
 use faults::fault_number;
 use lines::Page;
+use lines::put_text;
 use rules::AskedAssign;
 use rules::AskedOutcome;
 use rules::AskedVerdict;
@@ -16,8 +17,8 @@ ghost use Prim.Native.Nat.{_≤_};
 ghost use lib.ListN.{length};
 ghost use Rattle.faults.specs.Checks.{faultNumber};
 ghost use Rattle.rules.specs.Said.{checkedSays, askedVerdictSays, askedAssignSays, askedOutcomeSays};
-ghost use Rattle.lines.specs.Pages.{textOf};
-ghost use Rattle.entries.specs.Told.{row, refusedRow, rowOf, dateRow, dayRow, kindTold, placesTold, lengthTold, pageTold};
+ghost use Rattle.lines.specs.Pages.{textOf, lengthTold, pageTold};
+ghost use Rattle.entries.specs.Told.{row, refusedRow, rowOf, dateRow, dayRow, kindTold, placesTold};
 
 // A kind, and the numbers that it comes with; 0 stands where there is nothing to say.
 pub(crate) struct Row {
@@ -166,22 +167,6 @@ pub(crate) fn tell(row: Row, places: &mut [u64]) -> u32
     places[2] = row.third;
     places[3] = row.fourth;
     row.kind
-}
-
-// A text at the head of a lent page; nothing where it does not fit.
-fn put_text(text: &[u8], page: &mut [u8]) -> usize
-    ensures exact { λ r. ⌜ r ≡ lengthTold (now (text .entry)) (now (page .entry)) ⌝ }
-    ensures page { λ r. ⌜ now (page .exit) ≡ pageTold (now (text .entry)) (now (page .entry)) ⌝ }
-{
-    if page.len() < text.len() {
-        return 0;
-    }
-    let mut i: usize = 0;
-    while i < text.len() {
-        page[i] = text[i];
-        i += 1;
-    }
-    i
 }
 
 // The text of a written page, which is shorter than a page.

@@ -10,7 +10,7 @@ use lib.Dec.{leb}
 use Rattle.faults.specs.declared.Fault.{Fault}
 use Rattle.faults.specs.declared.Fault.the-variants.{TextTooLong, LineMalformed, FrameWrong, StringCount}
 use Rattle.faults.specs.declared.Fault.the-variants.{OutOfBounds, MultipleOver, ReleaseTooMany, ReleaseUnlawful}
-use Rattle.faults.specs.declared.Fault.the-variants.{NoRoom, NoSuchDate, NoSuchEdition, CostsDiffer}
+use Rattle.faults.specs.declared.Fault.the-variants.{NoRoom, NoSuchDate, NoSuchEdition, CostsDiffer, RowMalformed}
 use Rattle.faults.specs.declared.Checked.{Checked}
 use Rattle.faults.specs.declared.Checked.the-variants.{Lawful, Refused}
 
@@ -27,6 +27,7 @@ faultNumber NoRoom = 9
 faultNumber NoSuchDate = 10
 faultNumber NoSuchEdition = 11
 faultNumber CostsDiffer = 12
+faultNumber RowMalformed = 13
 
 abbrev pub then : Checked → Checked → Checked
 then Lawful next = next

@@ -16,6 +16,7 @@ pub enum Fault {
     NoSuchDate,
     NoSuchEdition,
     CostsDiffer,
+    RowMalformed,
 }
 
 // Whether all rules were met; if not, the first fault, and where: a line, a place, or 0 for the whole.
@@ -41,5 +42,6 @@ pub fn fault_number(f: Fault) -> u32
         Fault::NoSuchDate => 10,
         Fault::NoSuchEdition => 11,
         Fault::CostsDiffer => 12,
+        Fault::RowMalformed => 13,
     }
 }

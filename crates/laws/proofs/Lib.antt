@@ -17,3 +17,4 @@ pub mod Slots
 pub mod Choice
 pub mod Steps
 pub mod History
+pub mod LineTexts

@@ -2,3 +2,4 @@ pub mod Digits
 pub mod Growing
 pub mod Filled
 pub mod PlacesText
+pub mod Putting

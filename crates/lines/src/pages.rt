@@ -5,7 +5,7 @@ ghost use mathlib.Core.List.{[], _++_};
 ghost use Prim.Native.Nat.{_+_, _≤_};
 ghost use lib.ListN.{length};
 ghost use Rattle.rules.specs.Lines.{decimal};
-ghost use Rattle.lines.specs.Pages.{pageOf, textOf, Written};
+ghost use Rattle.lines.specs.Pages.{pageOf, textOf, Written, lengthTold, pageTold};
 
 // A page with no text.
 pub fn blank() -> Page
@@ -53,4 +53,21 @@ pub(crate) fn append_number(page: Page, n: u64) -> Page
     at -= 1;
     digits[at] = 48 + rest as u8;
     append(page, &digits[at..])
+}
+
+// A text at the head of a lent page; nothing where it does not fit.
+pub fn put_text(text: &[u8], page: &mut [u8]) -> usize
+    ensures exact { λ r. ⌜ r ≡ lengthTold (now (text .entry)) (now (page .entry)) ⌝ }
+    ensures page { λ r. ⌜ now (page .exit) ≡ pageTold (now (text .entry)) (now (page .entry)) ⌝ }
+    ensures kept { λ r. ⌜ now (text .exit) ≡ now (text .entry) ⌝ }
+{
+    if page.len() < text.len() {
+        return 0;
+    }
+    let mut i: usize = 0;
+    while i < text.len() {
+        page[i] = text[i];
+        i += 1;
+    }
+    i
 }

@@ -1,6 +1,7 @@
 -- The user's demands, of what the code answered. UserWords: demand 2. QuickAgrees: both engines say the same. NeverMisses: demand 3.
 -- Missing: where moving is free, a fail has a list that misses. Missed: the releases that miss, as a text. OneText: reading and writing
--- undo each other. Turning: version 01 to 02 and back. OtherVersion, Refused: which number is given exactly when. AnyOrder: the order of
+-- undo each other. Register: so do those of the asset register's table. Turning: version 01 to 02 and back. OtherVersion, Refused: which
+-- number is given exactly when. AnyOrder: the order of
 -- the list, and whether two plans hold the same strings. PlanShown: a plan in decimal words.
 -- ToldPrograms: demand 3 of what a C program is told. ShutOut, OnlyOne: what the contracts rule out.
 pub mod UserWords
@@ -8,6 +9,7 @@ pub mod QuickAgrees
 pub mod Missing
 pub mod NeverMisses
 pub mod OneText
+pub mod Register
 pub mod Turning
 pub mod OtherVersion
 pub mod Refused

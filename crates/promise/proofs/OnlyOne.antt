@@ -14,6 +14,8 @@ use Rattle.layouts.specs.declared.Version.{Version}
 use Rattle.writing.specs.declared.Saved.{Saved}
 use Rattle.tries.specs.declared.Shown.{Shown}
 use Rattle.matching.specs.declared.Matched.{Matched}
+use Rattle.register.specs.{declared.Row.Row, declared.Export.Export, Reader.rowAt}
+use denote.Ref.{RefT, now}
 use Rattle.days.proofs.Day.plus.Reads as Day-plus
 use Rattle.days.proofs.Day.since.Reads as Day-since
 use Rattle.days.proofs.Day.before.Reads as Day-before
@@ -49,11 +51,14 @@ use Rattle.bounds.proofs.plan_check.Reads as plan-check
 use Rattle.bounds.proofs.set_check.Reads as set-check
 use Rattle.bounds.proofs.run_check.Reads as run-check
 use Rattle.layouts.proofs.held_to.Reads as held-to
+use Rattle.rules.proofs.refused_reading.Reads as refused-reading
 use Rattle.reading.proofs.read.Reads as read
 use Rattle.reading.proofs.read_01.Reads as read-01
 use Rattle.reading.proofs.read_02.Reads as read-02
 use Rattle.writing.proofs.write.Reads as write
 use Rattle.writing.proofs.write_01.Reads as write-01
+use Rattle.register.proofs.register.Reads as register
+use Rattle.register.proofs.table.Reads as table
 use Rattle.turning.proofs.to_02.Reads as to-02
 use Rattle.turning.proofs.to_01.Reads as to-01
 use Rattle.missed.proofs.miss.Reads as miss
@@ -71,6 +76,8 @@ use Rattle.lines.proofs.verdict_written.Reads as verdict-written
 use Rattle.lines.proofs.date_line.Reads as date-line
 use Rattle.lines.proofs.day_line.Reads as day-line
 use Rattle.lines.proofs.blank.Reads as blank
+use Rattle.lines.proofs.put_text.Reads as put-text
+use Rattle.lines.proofs.row_line.Reads as row-line
 use Rattle.lines.proofs.plan_line.Reads as plan-line
 use Rattle.lines.proofs.string_line.Reads as string-line
 use Rattle.lines.proofs.load_line.Reads as load-line
@@ -218,6 +225,10 @@ pub one-run-check : (κs : Lfts 0) (a : _) (e f : _) (r s : Checked) → run-che
 one-run-check κs a e f r s h k = h ∙ sym k
 
 -- reading
+pub one-refused-reading : (κs : Lfts 0) (a : _) (e f : _) (r s : Reading) → refused-reading.Learnt κs a r e
+    → refused-reading.Learnt κs a s f → r ≡ s
+one-refused-reading κs a e f r s h k = h ∙ sym k
+
 pub one-read : (κs : Lfts 1) (a : _) (e f : _) (r s : Reading) → read.Learnt κs a r e → read.Learnt κs a s f
     → (r ≡ s) × (e .0 .now ≡ f .0 .now)
 one-read κs a e f r s h k = (h .0 ∙ sym (k .0), h .1 ∙ sym (k .1))
@@ -308,6 +319,13 @@ one-day-line κs a e f r s h k = h .0 ∙ sym (k .0)
 pub one-blank : (κs : Lfts 0) (a : _) (e f : _) (r s : Page) → blank.Learnt κs a r e → blank.Learnt κs a s f → r ≡ s
 one-blank κs a e f r s h k = h ∙ sym k
 
+pub one-put-text : (κs : Lfts 2) (a : _) (e f : _) (r s : ℕ) → put-text.Learnt κs a r e → put-text.Learnt κs a s f
+    → (r ≡ s) × (e .1 .0 .now ≡ f .1 .0 .now) × (e .0 .now ≡ f .0 .now)
+one-put-text κs a e f r s h k = (h .0 ∙ sym (k .0), h .1 .0 ∙ sym (k .1 .0), h .1 .1 ∙ sym (k .1 .1))
+
+pub one-row-line : (κs : Lfts 0) (a : _) (e f : _) (r s : Page) → row-line.Learnt κs a r e → row-line.Learnt κs a s f → r ≡ s
+one-row-line κs a e f r s h k = h .0 ∙ sym (k .0)
+
 pub one-plan-line : (κs : Lfts 0) (a : _) (e f : _) (r s : Page) → plan-line.Learnt κs a r e → plan-line.Learnt κs a s f → r ≡ s
 one-plan-line κs a e f r s h k = h .0 ∙ sym (k .0)
 
@@ -353,6 +371,31 @@ one-release-shown κs a e f r s h k = h .0 ∙ sym (k .0)
 pub one-answer : (κs : Lfts 1) (a : _) (e f : _) (r s : Answer) → answer.Learnt κs a r e → answer.Learnt κs a s f
     → (r ≡ s) × (e .0 .now ≡ f .0 .now)
 one-answer κs a e f r s h k = (h .0 ∙ sym (k .0), h .1 ∙ sym (k .1))
+
+-- register: a reader holds on to the text that it was given. What the kit learns of a contract it does not learn of functions over a struct
+-- that holds a reference, so the clauses of these three are written out (register/src/reader.rt)
+same-export : (r s : Export) → r .text ≡ s .text → r .at ≡ s .at → r ≡ s
+same-export r s text at = rw (text, at)
+
+module _ (text : RefT (List ℕ)) (at : ℕ) where
+  -- `moved` has the same clauses, of the text that the reader before it holds
+  pub one-opened : (r s : Export) → (r .text ≡ text) × (r .at ≡ at) → (s .text ≡ text) × (s .at ≡ at) → r ≡ s
+  one-opened r s h k = same-export r s (h .0 ∙ sym (k .0)) (h .1 ∙ sym (k .1))
+
+  pub one-row-here : (r s : Row) → r ≡ rowAt (now text) at → s ≡ rowAt (now text) at → r ≡ s
+  one-row-here r s h k = h ∙ sym k
+
+pub one-moved : (reader : Export) (at : ℕ) (r s : Export) → (r .text ≡ reader .text) × (r .at ≡ at)
+    → (s .text ≡ reader .text) × (s .at ≡ at) → r ≡ s
+one-moved reader at r s h k = one-opened (reader .text) at r s h k
+
+pub one-register : (κs : Lfts 1) (a : _) (e f : _) (r s : Reading) → register.Learnt κs a r e → register.Learnt κs a s f
+    → (r ≡ s) × (e .0 .now ≡ f .0 .now)
+one-register κs a e f r s h k = (h .0 ∙ sym (k .0), h .1 ∙ sym (k .1))
+
+pub one-table : (κs : Lfts 1) (a : _) (e f : _) (r s : Saved) → table.Learnt κs a r e → table.Learnt κs a s f
+    → (r ≡ s) × (e .1 .1 .0 .now ≡ f .1 .1 .0 .now)
+one-table κs a e f r s h k = (h .0 ∙ sym (k .0), h .1 ∙ sym (k .1))
 
 -- entries: what is read and what is written to is lent
 pub one-desk-check : (κs : Lfts 2) (a : _) (e f : _) (r s : ℕ) → desk-check.Learnt κs a r e → desk-check.Learnt κs a s f

@@ -3,14 +3,15 @@
 use Rattle.base.proofs.Prelude.{ℕ, _/_, _≤_, _<_, _≡_, refl, sym, ap, _∙_, true, false, List, [], _∷_, arith, decLe, not-suc-le-zero, le-of-suc-le-suc, length}
 use Rattle.faults.specs.{declared.Fault.the-variants.LineMalformed, declared.Checked.the-variants.Refused}
 use Rattle.faults.proofs.Checks.{then-refused}
+use Rattle.base.specs.Digits.{numberOn}
 use Rattle.base.proofs.Lists.{by-bool}
-use Rattle.rules.specs.{Layout.{Version, frameSize, numberFrom, versionIn, version01, heldTo, headerFrame}, Text.{linesOf, wellFormed, frameOf, headerCheck, readingIn, versionOf, readingOf}}
+use Rattle.rules.specs.{Layout.{Version, frameSize, versionIn, version01, heldTo, headerFrame}, Text.{linesOf, wellFormed, frameOf, headerCheck, readingIn, versionOf, readingOf}}
 use Rattle.reading.specs.inner.Positions.{digitsAhead, lineAt, Frame, numberIn}
 use Rattle.reading.proofs.{Lines.formed-is, Framing.{check-malformed, formed-frame, frame-next, frame-length, frame-number}, Whole.{read-long, read-empty, read-refused}}
 
 -- a frame of one byte names no version
 no-version : (frame : List ℕ) → length frame ≤ 1 → versionIn frame ≡ 0
-unfolding numberFrom
+unfolding numberOn
 no-version [] h = refl
 no-version (b ∷ []) h = refl
 no-version (b ∷ c ∷ rest) h = absurd (not-suc-le-zero (le-of-suc-le-suc h))

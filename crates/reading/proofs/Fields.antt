@@ -1,8 +1,9 @@
 -- The fields of a frame, by positions of the text.
 use Rattle.base.proofs.Prelude.{ℕ, zero, suc, _+_, _*_, _^_, _≤_, _<_, _≡_, refl, ap, _∙_, List, [], _∷_, _++_, arith, add-one, not-suc-le-zero, pow-suc, eqb, length, take, drop, getD, length-drop, drop-drop, getD-drop, take-suc}
 use native.Mathlib.Nat.{pow-le-pow-right}
-use Rattle.base.proofs.Lists.{by-bool}
-use Rattle.rules.specs.{Layout.{Layout, sizeOf, frameSize, numberFrom, numberOf, fieldAmong, fieldIn}, Text.{hexBytes, frameOf, fieldOf}}
+use Rattle.base.specs.Digits.{numberOn}
+use Rattle.base.proofs.{Digits.numberOn-last, Lists.by-bool}
+use Rattle.rules.specs.{Layout.{Layout, sizeOf, frameSize, numberOf, fieldAmong, fieldIn}, Text.{hexBytes, frameOf, fieldOf}}
 use Rattle.layouts.specs.inner.Versions.{offsetAmong, sizeAmong, offsetIn, sizeIn}
 use Rattle.reading.specs.inner.Positions.{digitsAhead, lineAt, Frame, byteIn, numberIn}
 use Rattle.reading.proofs.{Hex.{ahead-inside, ahead-digit}, Framing.{twice-more, frame-number}}
@@ -12,7 +13,7 @@ use Rattle.reading.proofs.{Hex.{ahead-inside, ahead-digit}, Framing.{tw
 module _ {F : Type 0} (l : Layout F) (f : F) where
   among-is : (fields : List F) (k : ℕ) (bytes : List ℕ)
       → fieldAmong l fields f (drop k bytes) ≡ numberOf (take (sizeAmong l fields f) (drop (k + offsetAmong l fields f) bytes))
-  unfolding fieldAmong numberFrom
+  unfolding fieldAmong numberOn
   among-is [] k bytes = refl
   among-is (g ∷ rest) k bytes =
       by-bool (eqb (l .rank g) (l .rank f))
@@ -41,11 +42,6 @@ module _ {F : Type 0} (l : Layout F) (f : F) where
 
 -- ---- Its number, one byte after the other
 
-numberFrom-snoc : (v : ℕ) (bytes : List ℕ) (b : ℕ) → numberFrom v (bytes ++ (b ∷ [])) ≡ numberFrom v bytes * 256 + b
-unfolding numberFrom
-numberFrom-snoc v [] b = refl
-numberFrom-snoc v (x ∷ xs) b = numberFrom-snoc (v * 256 + x) xs b
-
 pairsOf-at : (xs : List ℕ) (k : ℕ) → k * 2 + 1 < length xs → (k < length (hexBytes xs)) × (getD (hexBytes xs) k 0 ≡ byteIn xs (k * 2))
 unfolding hexBytes
 pairsOf-at [] k h = absurd (not-suc-le-zero h)
@@ -58,7 +54,7 @@ pairsOf-at (high ∷ low ∷ xs) (suc k) h =
 
 module _ (text : List ℕ) (at k : ℕ) where
   pub number-none : numberIn text at k 0 ≡ 0
-  unfolding numberIn numberFrom
+  unfolding numberIn numberOn
   number-none = refl
 
   module _ (i : ℕ) (h : (k + i) * 2 + 1 < digitsAhead (drop at text)) where
@@ -70,7 +66,7 @@ module _ (text : List ℕ) (at k : ℕ) where
         let there = pairsOf-at (drop at text) (k + i) (omega (arith, length-drop at text)) in
         let long : i < length (drop k bytes) = omega (arith, there .0, length-drop k bytes) in
         let low : at + ((k + i) * 2 + 1) ≡ at + (k + i) * 2 + 1 = omega arith in
-        rw (add-one i, take-suc (drop k bytes) i 0 long, numberFrom-snoc 0 (take i (drop k bytes)) _, getD-drop k bytes i 0)
+        rw (add-one i, take-suc (drop k bytes) i 0 long, numberOn-last 256 0 (take i (drop k bytes)) _, getD-drop k bytes i 0)
         (ap (λ b. numberOf (take i (drop k bytes)) * 256 + b)
         (there .1 ∙ rw (getD-drop at text ((k + i) * 2) 0, getD-drop at text ((k + i) * 2 + 1) 0, low)))
 

@@ -7,7 +7,6 @@ mod header;
 mod releases;
 mod strings;
 
-use days::Length;
 use digits::digits_ahead;
 use digits::field_at;
 use faults::Checked;
@@ -21,16 +20,14 @@ use layouts::Version;
 use layouts::held_to;
 use releases::release_frames;
 use releases::releases_in;
-use rules::NO_RELEASE;
-use rules::NO_STRING;
 use rules::Plan;
 use rules::Reading;
-use rules::Releases;
+use rules::refused_reading;
 use strings::plan_in;
 use strings::string_lines_check;
 ghost use mathlib.Core.Path.{_≡_};
 ghost use Rattle.rules.specs.Layout.{version01, version02};
-ghost use Rattle.rules.specs.Text.{refusedReading, readingIn, readingOf};
+ghost use Rattle.rules.specs.Text.{readingIn, readingOf};
 ghost use Rattle.layouts.specs.inner.Versions.{meantBy, Known};
 ghost use Rattle.reading.specs.inner.Positions.{HeaderRead, StringsRead, bodyReading, restReading, listReading};
 
@@ -38,24 +35,6 @@ ghost use Rattle.reading.specs.inner.Positions.{HeaderRead, StringsRead,
 pub struct Framed {
     pub count: usize,
     pub checked: Checked,
-}
-
-// What a refusal gives beside its number and line: an empty plan and no releases.
-fn refusal(fault: Fault, at: usize) -> Reading
-    ensures exact { λ r. ⌜ r ≡ refusedReading fault at ⌝ }
-{
-    Reading {
-        checked: Checked::Refused { fault, at },
-        plan: Plan {
-            n: 0,
-            run: Length(0),
-            strings: [NO_STRING; 10],
-        },
-        releases: Releases {
-            count: 0,
-            list: [NO_RELEASE; 1000],
-        },
-    }
 }
 
 // The release lines of the plan p: each line's 2, 3, 7, 8.
@@ -71,7 +50,7 @@ fn read_list(text: &[u8], version: Version, p: Plan) -> Reading
     let rs = releases_in(text, start, count, version);
     let bad = bounds::first_unlawful(p, rs);
     if 0 < bad {
-        return refusal(Fault::ReleaseUnlawful, n + 1 + bad);
+        return refused_reading(Fault::ReleaseUnlawful, n + 1 + bad);
     }
     let end = framed.checked;
     match end {
@@ -80,7 +59,7 @@ fn read_list(text: &[u8], version: Version, p: Plan) -> Reading
             plan: p,
             releases: rs,
         },
-        Checked::Refused { fault, at } => refusal(fault, at),
+        Checked::Refused { fault, at } => refused_reading(fault, at),
     }
 }
 
@@ -93,7 +72,7 @@ fn read_rest(text: &[u8], version: Version, p: Plan) -> Reading
     let multiple = bounds::multiple_check(p.n + 1, p);
     match multiple {
         Checked::Lawful => read_list(text, version, p),
-        Checked::Refused { fault, at } => refusal(fault, at),
+        Checked::Refused { fault, at } => refused_reading(fault, at),
     }
 }
 
@@ -108,7 +87,7 @@ fn read_body(text: &[u8], version: Version) -> Reading
     let strings = string_lines_check(text, start, n, version);
     match strings {
         Checked::Lawful => read_rest(text, version, plan_in(text, start, n, version)),
-        Checked::Refused { fault, at } => refusal(fault, at),
+        Checked::Refused { fault, at } => refused_reading(fault, at),
     }
 }
 
@@ -118,15 +97,15 @@ fn read_in(text: &[u8], version: Version) -> Reading
     ensures exact { λ r. ⌜ r ≡ readingIn (meantBy version) (now (text .entry)) ⌝ }
 {
     if 65536 < text.len() {
-        return refusal(Fault::TextTooLong, 0);
+        return refused_reading(Fault::TextTooLong, 0);
     }
     if text.len() == 0 {
-        return refusal(Fault::FrameWrong, 1);
+        return refused_reading(Fault::FrameWrong, 1);
     }
     let header = header_check(text, version);
     match header {
         Checked::Lawful => read_body(text, version),
-        Checked::Refused { fault, at } => refusal(fault, at),
+        Checked::Refused { fault, at } => refused_reading(fault, at),
     }
 }
 

@@ -3,14 +3,15 @@
 --     written l says        the line of the layout l whose fields say what says gives them
 --     Framed l line         the line writes a frame of the layout l
 use Rattle.base.proofs.Prelude.{ℕ, _%_, _<_, _≡_, refl, ap, _∙_, true, not, _&&_, List, [], _∷_, _++_, flatMap, arith, lt-ltb, ltb-true, eq-eqb, eqb-true, not-false, ltb, eqb, length, drop}
-use Rattle.base.specs.Count.{All, every}
+use Rattle.base.specs.{Count.{All, every}, Digits.numberOn}
 use Rattle.base.proofs.Lists.{all-map, all-of-every, every-of-all, and-left, and-right}
 use Rattle.faults.specs.{Checks.refuseIf, declared.Fault.the-variants.{LineMalformed, FrameWrong}, declared.Checked.the-variants.Lawful}
 use Rattle.faults.proofs.Checks.{then-first, then-second, refuseIf-not}
-use Rattle.rules.specs.{Layout.{Layout, frameSize, numberFrom, kindIn}, Text.{Line, digitOf, wellFormed, frameOf, frameCheck, layoutCheck}}
+use Rattle.rules.specs.{Layout.{Layout, frameSize, kindIn}, Text.{Line, digitOf, wellFormed, frameOf, frameCheck, layoutCheck}}
+use Rattle.laws.proofs.LineTexts.{lineBytes}
 use Rattle.writing.specs.Written.{byteText, frameBytes, lineText}
 use Rattle.writing.proofs.Texts.{flatMap-length, byteText-length, frameBytes-length}
-use Rattle.roundtrip.proofs.{HexBytes.{SmallByte, Digit, frame-digits, frame-said, frame-written, frame-small}, Numbers.{Says, Fits, fields-said, fields-written, fields-small}, Ended.lineBytes}
+use Rattle.roundtrip.proofs.{HexBytes.{SmallByte, Digit, frame-digits, frame-said, frame-written, frame-small}, Numbers.{Says, Fits, fields-said, fields-written, fields-small}}
 
 abbrev pub frameLine : List ℕ → Line
 frameLine frame = record { bytes = flatMap byteText frame; ended = true }
@@ -47,7 +48,7 @@ module _ {F : Type 0} (l : Layout F) (says : F → ℕ) (low : l .kind < 256) wh
   bytes-small = (low, fields-small l says (l .fields))
 
   written-kind : kindIn (frameBytes l says) ≡ l .kind
-  unfolding frameBytes numberFrom
+  unfolding frameBytes numberOn
   written-kind = omega arith
 
   pub written-lawful : (k : ℕ) → layoutCheck k l (lineWritten l says) ≡ Lawful
@@ -103,7 +104,7 @@ module _ {F : Type 0} (l : Layout F) (line : Line) where
 
 bytes-written : {F : Type 0} (l : Layout F) (says : F → ℕ) (frame : List ℕ) → All SmallByte frame → length frame ≡ frameSize l
     → kindIn frame ≡ l .kind → Says l says (l .fields) (drop 1 frame) → frameBytes l says ≡ frame
-unfolding frameBytes numberFrom
+unfolding frameBytes numberOn
 bytes-written l says [] small size kind s = absurd (omega arith)
 bytes-written l says (b ∷ bytes) small size kind s =
     let first : l .kind ≡ b = omega arith in

@@ -1,7 +1,7 @@
 -- Digits and the bytes that they write: each says the other.
 --     Small b               b is a byte
 --     Digit b               b is a hexadecimal digit
-use Rattle.base.proofs.Prelude.{ℕ, suc, _+_, _-_, _*_, _/_, _%_, _≤_, _<_, _≡_, refl, _∙_, List, [], _∷_, _++_, arith, decLe, lt-ltb, le-ltb, length}
+use Rattle.base.proofs.Prelude.{ℕ, suc, _+_, _-_, _*_, _/_, _%_, _≤_, _<_, _≡_, refl, _∙_, false, List, [], _∷_, _++_, arith, decLe, lt-ltb, le-ltb, ne-eqb, eqb, length}
 use mathlib.Core.List.{flatMap}
 use Rattle.base.proofs.Order.{all-append}
 use Rattle.base.specs.Count.{All}
@@ -56,6 +56,13 @@ digit-written b h =
           | yes low ↦ elim (decLe b 102) [ yes high ↦ letter low high | no high ↦ other no-number (λ l k. high k) ]
           | no low ↦ other no-number (λ l k. low l)
         ]
+
+-- no digit ends a line
+pub digit-no-end : (b : ℕ) → Digit b → eqb b 0x0a ≡ false
+digit-no-end b h = ne-eqb b 0x0a (λ e. absurd (not-here (rw e at h)))
+  where
+    not-here : Digit 0x0a → ⊥
+    not-here d = unfold digitOf in omega arith
 
 -- ---- The digits of a byte
 

@@ -2,7 +2,6 @@
 -- WriteBack, InPage and As02.
 pub mod HexBytes
 pub mod Numbers
-pub mod Ended
 pub mod Framed
 pub mod PlanLines
 pub mod Passed

@@ -1,9 +1,9 @@
 -- The lines of a lawful plan, and what they say to the reader, in every version: the header, a string, a release.
 use Rattle.base.proofs.Prelude.{ℕ, _≤_, _≡_, sym, ap, _∙_, true, arith, decLe, lt-ltb, take, drop}
 use Rattle.days.specs.declared.Length.{Length}
-use Rattle.base.specs.Count.{All}
+use Rattle.base.specs.{Count.All, Digits.numberOn}
 use Rattle.base.proofs.{Lists.{all-map, all-getD}, Order.all-both}
-use Rattle.rules.specs.{declared.BatteryString.BatteryString, declared.Plan.Plan, declared.Release.Release, Plan.{stringsOf, stringAt, noString}, Layout.{Version, numberFrom, numberOf, versionIn, fieldAmong, fieldIn, hasField, heldTo, headerFrame, stringFrame, releaseFrame}, Text.{Line, frameOf, fieldOf, nIn, aIn, runIn, costOf, stringOf, releaseOf}}
+use Rattle.rules.specs.{declared.BatteryString.BatteryString, declared.Plan.Plan, declared.Release.Release, Plan.{stringsOf, stringAt, noString}, Layout.{Version, numberOf, versionIn, fieldAmong, fieldIn, hasField, heldTo, headerFrame, stringFrame, releaseFrame}, Text.{Line, frameOf, fieldOf, nIn, aIn, runIn, costOf, stringOf, releaseOf}}
 use Rattle.laws.specs.Lawful.{LawfulString, LawfulPlan}
 use Rattle.layouts.proofs.Versions.{number-small, number-size, count-size, run-size, x-size, t-size, c-size, d-size, place-size, day-size, need-size, cost-sizes, cost-common, cost-own}
 use Rattle.writing.specs.Written.{headerSays, stringSays, releaseSays}
@@ -67,7 +67,7 @@ module _ (p : Plan) (ok : LawfulPlan p) where
 
     -- a header that says no moving cost says 0
     a-none : heldTo k .header layout.Common ≡ 0 → aIn (heldTo k) header ≤ 1000
-    unfolding aIn fieldOf fieldIn fieldAmong numberFrom
+    unfolding aIn fieldOf fieldIn fieldAmong numberOn
     a-none none = rw none (omega arith)
 
     pub a-small : aIn (heldTo k) header ≤ 1000

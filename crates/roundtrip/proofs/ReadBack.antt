@@ -1,6 +1,6 @@
 -- Reading what was written, in every version: the text of a lawful plan reads back to the plan and its releases. Version 01 has one moving
 -- cost for all strings, so there they must be alike.
-use Rattle.base.proofs.Prelude.{ℕ, _+_, _-_, _*_, _≤_, _<_, _≡_, refl, sym, ap, _∙_, List, [], _∷_, _++_, map, append-assoc, arith, le-ltb, length, take, drop, getD, length-map, take-at, drop-at, length-take-le}
+use Rattle.base.proofs.Prelude.{ℕ, _+_, _-_, _*_, _≤_, _<_, _≡_, refl, sym, ap, _∙_, List, [], _∷_, _++_, map, append-assoc, arith, le-ltb, length, take, drop, getD, length-map, take-at, drop-at, length-take-le, false, eqb}
 use mathlib.Core.List.{flatMap}
 use Rattle.base.specs.Count.{All}
 use Rattle.base.proofs.{Lists.{all-by, all-map, all-getD, true-not-false}, Order.all-append}
@@ -12,7 +12,8 @@ use Rattle.layouts.proofs.Versions.{number-again, header-short, string-short, r
 use Rattle.writing.specs.{Written.{headerSays, stringSays, releaseSays, frameBytes, headerText, stringText, releaseText, planText}, Saved.savedText}
 use Rattle.writing.proofs.{Texts.flatMap-append, Saving.saved-long}
 use Rattle.roundtrip.specs.OneText.{trimmedPlan, trimmedReleases, readAgain, Alike}
-use Rattle.roundtrip.proofs.{HexBytes.frame-digits, Ended.{lineBytes, textOfLines, EndedLine, Digits, lines-said}, Framed.{lineText-is, lineWritten, bytes-small}, PlanLines.{headerLine, lineOfString, lineOfRelease, Told, Brief, strings-told, named, n-said, run-said, string-read-back, release-said}, Passed.{header-passes, strings-pass, releases-pass, trimmed-multiple, trimmed-lawful}}
+use Rattle.laws.proofs.LineTexts.{lineBytes, textOfLines, EndedLine, NoEnd, lines-said}
+use Rattle.roundtrip.proofs.{HexBytes.{Digit, digit-no-end, frame-digits}, Framed.{lineText-is, lineWritten, bytes-small}, PlanLines.{headerLine, lineOfString, lineOfRelease, Told, Brief, strings-told, named, n-said, run-said, string-read-back, release-said}, Passed.{header-passes, strings-pass, releases-pass, trimmed-multiple, trimmed-lawful}}
 
 -- ---- Lines made of what they say
 
@@ -31,8 +32,10 @@ module _ {ℓ} {A : Type ℓ} (line : A → Line) where
   said-back P said each [] h = refl
   said-back P said each (x ∷ xs) h = rw (each x (h .0), said-back P said each xs (h .1))
 
-written-digits : (F : Type 0) (l : Layout F) (says : F → ℕ) → l .kind < 256 → Digits (lineWritten l says)
-written-digits F l says low = frame-digits (frameBytes l says) (bytes-small l says low)
+written-within : (F : Type 0) (l : Layout F) (says : F → ℕ) → l .kind < 256 → NoEnd (lineWritten l says)
+written-within F l says low =
+    all-map Digit (λ b. eqb b 0x0a ≡ false) digit-no-end (lineWritten l says .bytes)
+    (frame-digits (frameBytes l says) (bytes-small l says low))
 
 -- ---- The lines of the text
 
@@ -75,7 +78,7 @@ module _ (k : ℕ) where
     lines-saved : linesOf (savedText v p rs) ≡ savedLines p rs
     lines-saved =
         ap linesOf saved-is
-        ∙ lines-said (savedLines p rs) (all-saved EndedLine (λ F l says low. refl)) (all-saved Digits written-digits)
+        ∙ lines-said (savedLines p rs) (all-saved EndedLine (λ F l says low. refl)) (all-saved NoEnd written-within)
 
 -- ---- What they say
 

@@ -11,7 +11,8 @@ use Rattle.laws.proofs.{Lawful.headCheck-lawful, Versions.{strings-many, string
 use Rattle.layouts.proofs.Versions.{cost-sizes, cost-own}
 use Rattle.writing.specs.{Written.{headerSays, stringSays, releaseSays, headerText, stringText, releaseText, planText}, Saved.savedText}
 use Rattle.writing.proofs.Texts.{flatMap-append}
-use Rattle.roundtrip.proofs.{Ended.{lineBytes, textOfLines, EndedLine, lines-written}, Framed.{FramedAs, layout-framed, framed-written}}
+use Rattle.laws.proofs.LineTexts.{lineBytes, textOfLines, EndedLine, lines-written}
+use Rattle.roundtrip.proofs.{Framed.{FramedAs, layout-framed, framed-written}}
 use Rattle.rules.specs.Layout as layout
 
 -- ---- One line

@@ -5,8 +5,8 @@ use Rattle.base.proofs.Prelude.{ℕ, zero, suc, _+_, _/_, _%_, _-_, _≡_, refl
 use mathlib.Core.List.{flatMap}
 use lib.Count.{ones, onesIn}
 use Rattle.days.specs.Days.{day, days}
-use Rattle.rules.specs.{declared.BatteryString.BatteryString, declared.Plan.Plan, declared.Release.Release, declared.Releases.Releases, Plan.{noString, stringLawful, commonMultiple, multipleOf, dMin, dMax}, Demand.{movingCost, holdOf, jobs, blockerHold, blockLimit, need, demand, load, overloaded}, Verdict.{pairsAt, allPairs, broken, compared, judged, verdictOver, isPass}, Search.{permit, withSet, setPasses, setsOf, ordered, searchOf}, Release.{noRelease, tooClose, outOfOrder, releaseLawful, unlawfulFrom, firstUnlawful}, Run.{chosen, lateAt, newSlot, joinFrom, joined, holder, payer, taken, nextUp, given, useOf, spent, morning, stateAt, useOn, lateOn, history, daysOf, missDay, runOf}, Refusal.{countCheck, runLengthCheck, costCheck, stringsCheck, multipleCheck, planCheck, setCheck, releasesCheck, runCheck, setAnswer, searchAnswer, runAnswer}, Said.{Said, lawful, refused, overload, fail, pass, takers, miss, clean, checkedSays, askedVerdictSays, askedAssignSays, askedOutcomeSays}, Answer.answerOf, Lines.{bytesOf, decimal, wordedIn, refusedLine, verdictLine, assignLine, outcomeLine, linesFor}, Layout.{numberFrom, hasField, fieldAmong, fieldIn, heldTo}, Text.{before, linesOf, digitOf, wellFormed, hexBytes, frameOf, fieldOf, frameCheck, nIn, runIn, aIn, costOf, stringOf, releaseOf, planIn, listIn, versionCheck, headerCheck, stringLineCheck, stringLinesCheck, releaseLineCheck, releaseLinesCheck, bodyCheck, linesCheck, textCheck, lawfulReading, readingIn, versionOf, readingOf}}
-use Rattle.base.specs.{Count.{sumOf, largest, smallest, smallestWith, every, any, keep, countOf, upFrom, leastFrom, firstOf, filled}, Digits.{digitsIn, digitsOf}}
+use Rattle.rules.specs.{declared.BatteryString.BatteryString, declared.Plan.Plan, declared.Release.Release, declared.Releases.Releases, Plan.{noString, stringLawful, commonMultiple, multipleOf, dMin, dMax}, Demand.{movingCost, holdOf, jobs, blockerHold, blockLimit, need, demand, load, overloaded}, Verdict.{pairsAt, allPairs, broken, compared, judged, verdictOver, isPass}, Search.{permit, withSet, setPasses, setsOf, ordered, searchOf}, Release.{noRelease, tooClose, outOfOrder, releaseLawful, unlawfulFrom, firstUnlawful}, Run.{chosen, lateAt, newSlot, joinFrom, joined, holder, payer, taken, nextUp, given, useOf, spent, morning, stateAt, useOn, lateOn, history, daysOf, missDay, runOf}, Refusal.{countCheck, runLengthCheck, costCheck, stringsCheck, multipleCheck, planCheck, setCheck, releasesCheck, runCheck, setAnswer, searchAnswer, runAnswer}, Said.{Said, lawful, refused, overload, fail, pass, takers, miss, clean, checkedSays, askedVerdictSays, askedAssignSays, askedOutcomeSays}, Answer.answerOf, Lines.{bytesOf, decimal, wordedIn, refusedLine, verdictLine, assignLine, outcomeLine, linesFor}, Layout.{hasField, fieldAmong, fieldIn, heldTo}, Text.{before, linesOf, digitOf, wellFormed, hexBytes, frameOf, fieldOf, frameCheck, nIn, runIn, aIn, costOf, stringOf, releaseOf, planIn, listIn, versionCheck, headerCheck, stringLineCheck, stringLinesCheck, releaseLineCheck, releaseLinesCheck, bodyCheck, linesCheck, textCheck, lawfulReading, readingIn, versionOf, readingOf}}
+use Rattle.base.specs.{Count.{sumOf, largest, smallest, smallestWith, every, any, keep, countOf, upFrom, leastFrom, firstOf, filled}, Digits.{digitsIn, digitsOf, numberOn}}
 use Rattle.rules.specs.Answer as answers
 
 -- ---- Writing plans and texts down
@@ -190,7 +190,7 @@ unfolding
     runOf
     countCheck runLengthCheck costCheck stringsCheck multipleCheck planCheck setCheck releasesCheck runCheck
     setAnswer searchAnswer runAnswer
-    before linesOf digitOf wellFormed hexBytes frameOf numberFrom hasField fieldAmong fieldIn heldTo fieldOf
+    before linesOf digitOf wellFormed hexBytes frameOf numberOn hasField fieldAmong fieldIn heldTo fieldOf
     nIn runIn aIn costOf stringOf releaseOf planIn listIn frameCheck versionCheck headerCheck
     stringLineCheck stringLinesCheck releaseLineCheck releaseLinesCheck bodyCheck linesCheck textCheck lawfulReading readingIn versionOf
     readingOf

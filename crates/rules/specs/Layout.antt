@@ -22,6 +22,7 @@ use mathlib.Core.Bool.{Bool, cond}
 use mathlib.Core.List.{List, [], _∷_}
 use lib.Dec.{ltb, eqb}
 use lib.ListN.{take, drop}
+use Rattle.base.specs.Digits.{valueOf}
 
 -- the version's number, n, the moving cost of every string, N
 pub data HeaderField : Type 0 where
@@ -67,13 +68,8 @@ module _ {F : Type 0} where
 
 -- ---- Numbers
 
--- the number whose high bytes are worth v and whose other bytes follow
-unfoldable pub numberFrom : ℕ → List ℕ → ℕ
-numberFrom v [] = v
-numberFrom v (b ∷ bs) = numberFrom (v * 256 + b) bs
-
 abbrev pub numberOf : List ℕ → ℕ
-numberOf bytes = numberFrom 0 bytes
+numberOf bytes = valueOf 256 bytes
 
 abbrev pub kindIn : List ℕ → ℕ
 kindIn frame = numberOf (take 1 frame)

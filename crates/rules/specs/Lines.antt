@@ -8,6 +8,7 @@
 --     refusedLine f at      refused number line at
 --     askedLine v           the one line where a verdict is asked for: the refusal, or the verdict
 --     linesFor a            all that is written for an answer
+--     rowLine s             T,C,D,X,moving cost of a string, ended by CR LF (document 02, W-210)
 use Prim.Native.Nat.{ℕ, _+_}
 use Prim.Native.Char.{code}
 use Prim.Native.String.{String}
@@ -15,8 +16,9 @@ use Prim.Native.String as text
 use mathlib.Core.Bool.{cond}
 use mathlib.Core.List.{List, [], _∷_, _++_, map}
 use lib.Dec.{eqb}
-use Rattle.base.specs.Digits.{digitsOf}
+use Rattle.base.specs.Digits.{digitsOf, figure}
 use Rattle.faults.specs.declared.Fault.{Fault}
+use Rattle.rules.specs.declared.BatteryString.{BatteryString}
 use Rattle.rules.specs.declared.Verdict.{Verdict}
 use Rattle.rules.specs.declared.Verdict.the-variants as verdict
 use Rattle.rules.specs.declared.AskedVerdict.{AskedVerdict}
@@ -34,7 +36,7 @@ bytesOf text.[] = []
 bytesOf (text._∷_ c s) = code c ∷ bytesOf s
 
 unfoldable pub decimal : ℕ → List ℕ
-decimal n = map (λ d. 0x30 + d) (digitsOf 10 n)
+decimal n = map figure (digitsOf 10 n)
 
 -- the mark's byte
 abbrev pub mark : ℕ
@@ -74,3 +76,10 @@ outcomeLine (outcome.Clean w m i) = worded "run clean work # move # idle #\n" (d
 unfoldable pub linesFor : Answer → List ℕ
 linesFor (answer.Refused f at) = refusedLine f at
 linesFor (answer.Answered v a o) = verdictLine v ++ assignLine a ++ outcomeLine o
+
+-- ---- A string in the asset register's table
+
+unfoldable pub rowLine : BatteryString → List ℕ
+rowLine s =
+    worded "#,#,#,#,#\r\n"
+    (decimal (s .t .0) ∷ decimal (s .c .0) ∷ decimal (s .d .0) ∷ decimal (s .x) ∷ decimal (s .a .0) ∷ [])

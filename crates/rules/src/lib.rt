@@ -8,6 +8,7 @@ ghost use mathlib.Core.Path.{_≡_};
 ghost use Rattle.days.specs.Days.{days};
 ghost use Rattle.rules.specs.Demand.{movingCost};
 ghost use Rattle.rules.specs.Plan.{withRun};
+ghost use Rattle.rules.specs.Text.{refusedReading};
 ghost use Rattle.rules.specs.Verdict.{isPass};
 
 // A battery string: least days between two releases, most working days of a job, days from release to deadline,
@@ -80,6 +81,24 @@ pub struct Reading {
     pub checked: Checked,
     pub plan: Plan,
     pub releases: Releases,
+}
+
+// What a refusal gives beside its number and line: an empty plan and no releases.
+pub fn refused_reading(fault: Fault, at: usize) -> Reading
+    ensures exact { λ r. ⌜ r ≡ refusedReading fault at ⌝ }
+{
+    Reading {
+        checked: Checked::Refused { fault, at },
+        plan: Plan {
+            n: 0,
+            run: Length(0),
+            strings: [NO_STRING; 10],
+        },
+        releases: Releases {
+            count: 0,
+            list: [NO_RELEASE; 1000],
+        },
+    }
 }
 
 // The verdict on a plan. A fail names the interval, the blocking and the demand there; pairs are those compared.

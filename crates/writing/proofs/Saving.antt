@@ -13,7 +13,7 @@ use Rattle.faults.specs.declared.Checked.the-variants as checked
 
 -- ---- Room
 
-noRoom-beyond : (page : List ℕ) (at : ℕ) (text : List ℕ) → length page < at → noRoom page at text ≡ true
+pub noRoom-beyond : (page : List ℕ) (at : ℕ) (text : List ℕ) → length page < at → noRoom page at text ≡ true
 unfolding noRoom
 noRoom-beyond page at text h = rw (lt-ltb (length page) at h) (either (ltb (length (drop at page)) (length text)))
   where
@@ -21,11 +21,11 @@ noRoom-beyond page at text h = rw (lt-ltb (length page) at h) (either (ltb (leng
     either true = refl
     either false = refl
 
-noRoom-short : (page : List ℕ) (at : ℕ) (text : List ℕ) → length page - at < length text → noRoom page at text ≡ true
+pub noRoom-short : (page : List ℕ) (at : ℕ) (text : List ℕ) → length page - at < length text → noRoom page at text ≡ true
 unfolding noRoom
 noRoom-short page at text h = rw (lt-ltb (length (drop at page)) (length text) (omega (arith, length-drop at page)))
 
-noRoom-fits : (page : List ℕ) (at : ℕ) (text : List ℕ) → at ≤ length page → length text ≤ length page - at → noRoom page at text ≡ false
+pub noRoom-fits : (page : List ℕ) (at : ℕ) (text : List ℕ) → at ≤ length page → length text ≤ length page - at → noRoom page at text ≡ false
 unfolding noRoom
 noRoom-fits page at text here h =
     rw (le-ltb (length (drop at page)) (length text) (omega (arith, length-drop at page)), le-ltb (length page) at here)

@@ -3,7 +3,8 @@ use Rattle.base.proofs.Prelude.{ℕ, zero, suc, _+_, _-_, _*_, _/_, _%_, _≤_,
 use mathlib.Core.List.{flatMap}
 use lib.Seq.{drop-append-seam, drop-length}
 use borrow.Rule.Slice.PartMut.{postOf, post-is, same-len-mid}
-use Rattle.base.specs.Count.{sumOf}
+use Rattle.base.specs.{Count.sumOf, Digits.placesOf}
+use Rattle.base.proofs.Digits.{places-length}
 use Rattle.rules.specs.Layout.{Layout, sizeOf, frameSize}
 use Rattle.writing.specs.{declared.cells.Cell.Cell, Written.{numberBytes, byteText, frameBytes, lineText}, inner.Cells.{numberText, cellText, cellsSize, cellsText, SaysFrame}}
 
@@ -80,17 +81,10 @@ pub byteText-length : (b : ℕ) → length (byteText b) ≡ 2
 unfolding byteText
 byteText-length b = refl
 
-pub numberBytes-length : (size n : ℕ) → length (numberBytes size n) ≡ size
-unfolding numberBytes
-numberBytes-length zero n = refl
-numberBytes-length (suc k) n =
-    let rest = numberBytes-length k (n / 256) in
-    omega (arith, length-append (numberBytes k (n / 256)) (n % 256 ∷ []))
-
 pub numberText-length : (size n : ℕ) → length (numberText size n) ≡ size * 2
 unfolding numberText
 numberText-length size n =
-    flatMap-length byteText 2 byteText-length (numberBytes size n) ∙ ap (λ k. k * 2) (numberBytes-length size n)
+    flatMap-length byteText 2 byteText-length (numberBytes size n) ∙ ap (λ k. k * 2) (places-length 256 size n)
 
 pub cellsText-length : (cs : List Cell) → length (cellsText cs) ≡ cellsSize cs * 2
 unfolding cellsText cellsSize flatMap sumOf
@@ -102,11 +96,11 @@ cellsText-length (c ∷ cs) =
 -- ---- Numbers, from the last byte on
 
 numberText-none : (n : ℕ) → numberText 0 n ≡ []
-unfolding numberText numberBytes flatMap
+unfolding numberText placesOf flatMap
 numberText-none n = refl
 
 numberText-last : (k n : ℕ) → numberText (suc k) n ≡ numberText k (n / 256) ++ byteText (n % 256)
-unfolding numberText numberBytes
+unfolding numberText placesOf
 numberText-last k n =
     flatMap-append byteText (numberBytes k (n / 256)) (n % 256 ∷ [])
     ∙ ap (λ rest. flatMap byteText (numberBytes k (n / 256)) ++ rest) (flatMap-one byteText (n % 256) ∙ append-nil (byteText (n % 256)))
@@ -210,7 +204,7 @@ flatMap-flatMap f g (x ∷ xs) = flatMap-append g (f x) (flatMap f xs) ∙ ap (�
 -- a cell of one byte for the kind, then those of the fields
 pub cells-frame : (kind : ℕ) (cs : List Cell) → kind % 256 ≡ kind
     → cellsText (record { size = 1; value = kind } ∷ cs) ≡ flatMap byteText (kind ∷ flatMap (λ c. numberBytes (c .size) (c .value)) cs)
-unfolding cellsText numberText numberBytes flatMap
+unfolding cellsText numberText placesOf flatMap
 cells-frame kind cs small =
     rw small
     (ap (λ text. text ++ flatMap cellText cs) (append-nil (byteText kind))
@@ -232,7 +226,7 @@ module _ {F : Type 0} (l : Layout F) (says : F → ℕ) where
       omega (
         arith,
         length-append (numberBytes (l .size g) (says g)) (flatMap (λ f. numberBytes (l .size f) (says f)) fields),
-        numberBytes-length (l .size g) (says g),
+        places-length 256 (l .size g) (says g),
       )
 
   pub frameBytes-length : length (frameBytes l says) ≡ frameSize l

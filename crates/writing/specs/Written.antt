@@ -8,10 +8,11 @@
 --     planText v p rs       the text of a plan and its releases in the version v: the header's line, a line for each string, a line for
 --                           each release
 -- A header that says the moving cost of every string says that of the first.
-use Prim.Native.Nat.{ℕ, zero, suc, _+_, _/_, _%_}
+use Prim.Native.Nat.{ℕ, _+_, _/_, _%_}
 use mathlib.Core.Bool.{cond}
 use mathlib.Core.List.{List, [], _∷_, _++_, flatMap}
 use lib.Dec.{ltb}
+use Rattle.base.specs.Digits.{placesOf}
 use Rattle.rules.specs.declared.BatteryString.{BatteryString}
 use Rattle.rules.specs.declared.Plan.{Plan}
 use Rattle.rules.specs.declared.Release.{Release}
@@ -19,9 +20,8 @@ use Rattle.rules.specs.Plan.{stringsOf, stringAt}
 use Rattle.rules.specs.Layout.{HeaderField, StringField, ReleaseField, Layout, Version, headerFrame, stringFrame, releaseFrame}
 use Rattle.rules.specs.Layout as layout
 
-unfoldable pub numberBytes : ℕ → ℕ → List ℕ
-numberBytes zero n = []
-numberBytes (suc k) n = numberBytes k (n / 256) ++ (n % 256 ∷ [])
+abbrev pub numberBytes : ℕ → ℕ → List ℕ
+numberBytes size n = placesOf 256 size n
 
 unfoldable pub digitText : ℕ → ℕ
 digitText v = cond (ltb v 10) (0x30 + v) (0x57 + v)

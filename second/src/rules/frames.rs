@@ -1,8 +1,9 @@
 //! Reading a plan file of version 01 or 02: its lines and frames, and the refusal table.
 
-use super::plan::{BatteryString, Plan, Release};
+use super::plan::{BatteryString, Plan, Release, RUN};
 
-const MOST_BYTES: usize = 65_536;
+/// The most bytes that a text may have.
+pub const MOST_BYTES: usize = 65_536;
 const MOST_RELEASES: usize = 1_000;
 
 #[derive(Clone, Copy, Debug, PartialEq)]
@@ -41,7 +42,7 @@ pub fn read_version(text: &[u8], version: u8) -> Result<Plan, Refusal> {
     read(text)
 }
 
-fn require(holds: bool, number: usize, line: usize) -> Result<(), Refusal> {
+pub fn require(holds: bool, number: usize, line: usize) -> Result<(), Refusal> {
     if holds {
         Ok(())
     } else {
@@ -65,7 +66,7 @@ fn read_header(lines: &[&[u8]]) -> Result<(usize, Option<u64>, Plan), Refusal> {
     } else {
         (Some(number(&frame[3..5])), number(&frame[5..9]))
     };
-    let bounded = moving.map_or(true, |moving| moving <= 1_000) && (1..=1_000_000).contains(&days);
+    let bounded = moving.map_or(true, |moving| moving <= 1_000) && RUN.contains(&days);
     require(bounded, 5, 1)?;
     let plan = Plan {
         days,
@@ -88,12 +89,7 @@ fn read_string(
         d: number(&frame[6..8]),
         moving: moving.unwrap_or_else(|| number(&frame[8..10])),
     };
-    let bounded = string.x <= 1
-        && (1..=1_000).contains(&string.t)
-        && (1..=string.t).contains(&string.d)
-        && (1..=string.d).contains(&string.c)
-        && string.moving <= 1_000;
-    require(bounded, 5, line)?;
+    require(string.is_bounded(), 5, line)?;
     Ok(string)
 }
 

@@ -2,6 +2,8 @@
 //!
 //! All numbers are 64 bits wide, so that no sum or product within the bounds can overflow.
 
+use std::ops::RangeInclusive;
+
 /// When: a day number.
 pub type Day = u64;
 
@@ -10,6 +12,9 @@ pub type Length = u64;
 
 /// The most that H may be.
 pub const LONGEST_CYCLE: Length = 100_000;
+
+/// The least and the most that N may be.
+pub const RUN: RangeInclusive<Length> = 1..=1_000_000;
 
 /// One string. The letters are those of document 01; A is each string's own (document 02, W-207).
 #[derive(Clone, Debug, PartialEq)]
@@ -24,6 +29,17 @@ pub struct BatteryString {
     pub d: Length,
     /// A, the moving days that a taker of this string pays.
     pub moving: Length,
+}
+
+impl BatteryString {
+    /// Whether each of its numbers is within its bounds.
+    pub fn is_bounded(&self) -> bool {
+        self.x <= 1
+            && (1..=1_000).contains(&self.t)
+            && (1..=self.t).contains(&self.d)
+            && (1..=self.d).contains(&self.c)
+            && self.moving <= 1_000
+    }
 }
 
 #[derive(Clone, Debug, PartialEq)]

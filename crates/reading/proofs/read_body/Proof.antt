@@ -93,7 +93,7 @@ returns-2 c =
     let same =
     ap (λ n. stringLinesCheck v (lineAt (textOf b) 0) 2 n (linesFrom (textOf b) (stringsAt v))) (n-read read)
     in
-    c .refusal .ensures ∙ sym (body-refused v _ (b .pre .1) _ _ (sym same ∙ sym (checked check) ∙ known .strings .given .1))
+    c .refused-reading .ensures ∙ sym (body-refused v _ (b .pre .1) _ _ (sym same ∙ sym (checked check) ∙ known .strings .given .1))
 
 pub read-body-spec : {M : Type 1} → statement M
 read-body-spec =

@@ -22,12 +22,12 @@ lawful : (c : tie.After-enum-told)
 lawful c = sym (c .before .before .header-check .ensures) ∙ c .enum-told .given .1
 
 returns : tie.Need-returns
-returns c = c .refusal .ensures ∙ sym (read-long (versionOf (c .before .before .before)) _ (c .before .if1 .taken))
+returns c = c .refused-reading .ensures ∙ sym (read-long (versionOf (c .before .before .before)) _ (c .before .if1 .taken))
 
 returns-2 : tie.Need-returns-2
 returns-2 c =
     let first = c .before .before in
-    c .refusal2 .ensures ∙ sym (read-empty (versionOf (first .before .before)) _ (first .if1 .left) (c .before .if2 .taken))
+    c .refused-reading2 .ensures ∙ sym (read-empty (versionOf (first .before .before)) _ (first .if1 .left) (c .before .if2 .taken))
 
 read-body-requires : tie.Need-read-body-requires
 read-body-requires c κs =
@@ -46,7 +46,7 @@ returns-4 c =
     let checked = known .before .before in
     let some = checked .before in
     let refused = sym (checked .header-check .ensures) ∙ known .header .given .1 in
-    c .refusal3 .ensures ∙ sym (read-refused (versionOf (start checked)) _ (some .before .if1 .left) (omega arith) _ _ refused)
+    c .refused-reading3 .ensures ∙ sym (read-refused (versionOf (start checked)) _ (some .before .if1 .left) (omega arith) _ _ refused)
 
 pub read-in-spec : {M : Type 1} → statement M
 read-in-spec =

@@ -79,8 +79,8 @@ releases-in-requires c κs =
     let b = begin c in
     (b .pre .0, ((start-low b, rw (count-is c) (framed-few (versionOf b) _ _ (b .pre .1))), rw (count-is c) (stand b)))
 
-add-refusal-2 : tie.Need-add-refusal-2
-add-refusal-2 c =
+add-refused-reading-2 : tie.Need-add-refused-reading-2
+add-refused-reading-2 c =
     let b = begin (frames (c .before)) in
     omega (arith, few b, found-is (c .before), unlawful-few (versionOf b) _ _ (b .pre .1))
 
@@ -88,7 +88,7 @@ returns : tie.Need-returns
 returns c =
     let found = c .before .before in
     let b = begin (frames found) in
-    c .refusal .ensures ∙ sym (list-unlawful (versionOf b) _ _ (b .pre .1) _ (found-is found) (c .before .if1 .taken))
+    c .refused-reading .ensures ∙ sym (list-unlawful (versionOf b) _ _ (b .pre .1) _ (found-is found) (c .before .if1 .taken))
 
 returns-2 : tie.Need-returns-2
 returns-2 c =
@@ -106,7 +106,7 @@ returns-3 c =
     let b = begin (frames found) in
     let ended = ap (λ (r : Framed). r .checked) (frames-are (frames found)) in
     let none : 0 ≡ found .first-unlawful .result = omega arith in
-    c .refusal2 .ensures
+    c .refused-reading2 .ensures
     ∙ sym (list-refused (versionOf b) _ _ (b .pre .1) (none ∙ found-is found) _ _ (sym ended ∙ known .end .given .1))
 
 pub read-list-spec : {M : Type 1} → statement M
@@ -114,5 +114,5 @@ read-list-spec =
     tie.close (tie.spec
     (λ c. omega (arith, near (c .before .before))) (λ c. omega (arith, start-low (c .before .before .before)))
     (λ c. omega (arith, few (c .before .before .before))) release-frames-requires releases-in-requires
-    (λ c κs. search needs) (λ c. omega (arith, few (begin (frames (c .before))))) add-refusal-2 (λ c κs. search needs)
+    (λ c κs. search needs) (λ c. omega (arith, few (begin (frames (c .before))))) add-refused-reading-2 (λ c κs. search needs)
     returns (λ c. search needs) (λ c. search needs) (λ c κs. search needs) returns-2 returns-3)

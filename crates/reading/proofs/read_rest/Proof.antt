@@ -29,7 +29,7 @@ returns-2 c =
     let known = c .before .before in
     let checked = known .before .before in
     let b = begin checked in
-    c .refusal .ensures
+    c .refused-reading .ensures
     ∙ sym (rest-refused (versionOf b) _ _ (b .pre .1) _ _ (sym (checked .multiple-check .ensures) ∙ known .multiple .given .1))
 
 pub read-rest-spec : {M : Type 1} → statement M

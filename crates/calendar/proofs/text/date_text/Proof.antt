@@ -1,11 +1,12 @@
 -- `calendar::text::date_text` meets its contract: the ten characters are the date's text.
 use Rattle.base.proofs.Prelude.{sym, _∙_, needs}
+use Rattle.base.specs.Digits.{placesOf}
 use Rattle.calendar.specs.Texts.{digits, dateText}
 use Rattle.calendar.proofs.{Texts.{dateWriting-is, dateWriting-refused}, text.date_text.Statement.statement}
 use Rattle.calendar.proofs.text.date_text.Tie as tie
 
 returns : tie.Need-returns
-unfolding digits dateText
+unfolding placesOf digits dateText
 returns c =
     let day = c .before in
     let month = day .before .before in

@@ -18,7 +18,8 @@ one c = fits-length editionForm _ (formed c)
 
 -- the number that was read
 is : (c : tie.After-worth) → c .worth .result ≡ number (c .before .before .before .before .before .before .args .text .now)
-is c = c .worth .ensures .0 ∙ sym (number-one _ (one (c .before .before)))
+is c = c .worth .ensures .0 ∙ sym (number-one (c .before .before .before .before .before .before .args .text .now) (one (c .before
+    .before)))
 
 returns-2 : tie.Need-returns-2
 returns-2 c =

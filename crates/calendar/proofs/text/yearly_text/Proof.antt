@@ -1,11 +1,12 @@
 -- `calendar::text::yearly_text` meets its contract: the five characters are the text of the month and day.
 use Rattle.base.proofs.Prelude.{sym, _∙_, needs, not-true, not-false}
+use Rattle.base.specs.Digits.{placesOf}
 use Rattle.calendar.specs.Texts.{digits, yearlyText}
 use Rattle.calendar.proofs.{Texts.{yearlyWriting-is, yearlyWriting-refused}, text.yearly_text.Statement.statement}
 use Rattle.calendar.proofs.text.yearly_text.Tie as tie
 
 returns : tie.Need-returns
-unfolding digits yearlyText
+unfolding placesOf digits yearlyText
 returns c =
     let three = c .before in
     let two = three .before .before in

@@ -1,5 +1,5 @@
 -- `commands::decimal` is safe and ends: a digit is added only where the sum stays below 2^64.
-use Rattle.base.proofs.Prelude.{_-_, _≤_, length, arith}
+use Rattle.base.proofs.Prelude.{_-_, _≤_, length, arith, needs}
 use Rattle.clerk.proofs.commands.decimal.Statement.{statement}
 use Rattle.clerk.proofs.commands.decimal.Tie as tie
 
@@ -13,4 +13,4 @@ pub decimal-spec : {M : Type 1} → statement M
 decimal-spec =
     tie.close (tie.spec
     Inv-loop μ-loop (λ c. tt) (λ c. omega arith) (λ c. omega arith) (λ c κs. tt) (λ c. tt) (λ c. tt) (λ c. omega arith)
-    (λ c. tt) (λ c. omega arith) (λ c. omega arith) (λ c. omega arith) (λ c. omega arith) (λ c. omega arith) (λ c. tt))
+    (λ c. omega arith) (λ c. search needs) (λ c. search needs) (λ c κs. tt) (λ c. tt) (λ c. omega arith) (λ c. omega arith) (λ c. omega arith) (λ c. omega arith) (λ c. omega arith) (λ c. tt))

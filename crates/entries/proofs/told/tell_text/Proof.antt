@@ -11,7 +11,9 @@ slice-aggregate-put-text c =
 
 returns : tie.Need-returns
 unfolding textOf
-returns c = c .before .before .put-text .ensures
+returns c =
+    let told = c .before .before .put-text .ensures in
+    (told .0, told .1 .0)
 
 pub tell-text-spec : {M : Type 1} → statement M
 tell-text-spec =

@@ -1,11 +1,11 @@
 -- Lines and the text that they make, where each is ended by its 0a: each says the other.
---     textOf lines          the text of the lines, each with its 0a
-use Rattle.base.proofs.Prelude.{ℕ, _≡_, refl, sym, ap, _∙_, true, false, List, [], _∷_, _++_, append-assoc, arith, eqb-true, ne-eqb, eqb}
+--     textOfLines lines     the text of the lines, each with its 0a
+--     NoEnd line            no 0a stands in the line
+use Rattle.base.proofs.Prelude.{ℕ, _≡_, refl, sym, ap, _∙_, true, false, List, [], _∷_, _++_, append-assoc, eqb-true, eqb}
 use mathlib.Core.List.{flatMap}
 use Rattle.base.specs.Count.{All}
 use Rattle.base.proofs.Lists.{by-bool, true-not-false}
-use Rattle.rules.specs.Text.{Line, before, linesOf, digitOf}
-use Rattle.roundtrip.proofs.HexBytes.{Digit}
+use Rattle.rules.specs.Text.{Line, before, linesOf}
 
 abbrev pub lineBytes : Line → List ℕ
 lineBytes line = line .bytes ++ (0x0a ∷ [])
@@ -16,23 +16,17 @@ textOfLines lines = flatMap lineBytes lines
 abbrev pub EndedLine : Line → Type 0
 EndedLine line = line .ended ≡ true
 
-abbrev pub Digits : Line → Type 0
-Digits line = All Digit (line .bytes)
+abbrev pub NoEnd : Line → Type 0
+NoEnd line = All (λ b. eqb b 0x0a ≡ false) (line .bytes)
 
-digit-no-end : (b : ℕ) → Digit b → eqb b 0x0a ≡ false
-digit-no-end b h = ne-eqb b 0x0a (λ e. absurd (not-here (rw e at h)))
-  where
-    not-here : Digit 0x0a → ⊥
-    not-here d = unfold digitOf in omega arith
-
--- digits up to a 0a are a line
-line-next : (digits rest : List ℕ) → All Digit digits
-    → linesOf (digits ++ (0x0a ∷ rest)) ≡ record { bytes = digits; ended = true } ∷ linesOf rest
+-- what stands up to a 0a is a line
+pub line-next : (bytes rest : List ℕ) → All (λ b. eqb b 0x0a ≡ false) bytes
+    → linesOf (bytes ++ (0x0a ∷ rest)) ≡ record { bytes = bytes; ended = true } ∷ linesOf rest
 unfolding linesOf before
 line-next [] rest h = refl
-line-next (b ∷ digits) rest h = rw (digit-no-end b (h .0), line-next digits rest (h .1))
+line-next (b ∷ bytes) rest h = rw (h .0, line-next bytes rest (h .1))
 
-pub lines-said : (lines : List Line) → All EndedLine lines → All Digits lines → linesOf (textOfLines lines) ≡ lines
+pub lines-said : (lines : List Line) → All EndedLine lines → All NoEnd lines → linesOf (textOfLines lines) ≡ lines
 unfolding flatMap linesOf
 lines-said [] e d = refl
 lines-said (line ∷ lines) e d =

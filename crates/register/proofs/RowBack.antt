@@ -1,0 +1,268 @@
+-- A row and the string that it says: each says the other.
+--     stringNumbers s           T, C, D, X and the moving cost of a string
+--     registerRow s               the row of a string, as a line
+--     Short s               its numbers have at most four digits
+use Rattle.base.proofs.Prelude.{ℕ, zero, suc, _+_, _-_, _*_, _^_, _≤_, _<_, _≡_, refl, sym, ap, _∙_, true, false, Bool, not, _&&_, _||_, List, [], _∷_, _++_, map, append-assoc, arith, decLe, le-leb, eq-eqb, eqb-true, ne-eqb, eqb, leb, length, take, getD, length-append, length-map, take-append-seam, take-all, take-suc}
+use lib.Seq.{getD-append-seam}
+use Rattle.base.specs.{Count.{All, every}, Digits.{digitsOf, numberOn, valueOf, figure, worth, decimalIn}}
+use Rattle.base.proofs.{Digits.{digits-one, digits-short, digits-back, digits-below, digits-some, digits-lead, digits-written, figures-worth, worth-figures}, Lists.{by-bool, true-not-false, all-map, and-left, and-right, every-of-all, all-of-every}}
+use Rattle.faults.proofs.Checks.{inBounds-low, inBounds-high, inBounds-yes}
+use Rattle.rules.specs.{declared.BatteryString.BatteryString, Lines.{bytesOf, decimal, wordedIn, rowLine}, Text.Line}
+use Rattle.laws.proofs.LineTexts.{lineBytes, NoEnd}
+use Rattle.register.specs.Table.{comma, fieldsOf, isFigure, plainNumber, rowFields, fiveNumbers, rowFormed, stringSaid, rowString}
+use Rattle.register.specs.inner.Fields.{lead}
+use Rattle.register.proofs.{Plain.{plain-short, plain-figures, plain-lead}, Joined.{commaed, commaed-tail, NoComma, fields-commaed, commaed-fields, commaed-all, commaed-long}}
+
+-- ---- A number and its decimal characters
+
+-- the decimal digits of a number are figures
+decimal-figures : (n : ℕ) → All (λ b. isFigure b ≡ true) (decimal n)
+unfolding decimal
+decimal-figures n = figures (digitsOf 10 n) (digits-below 10 (omega arith) n)
+  where
+    figures : (ds : List ℕ) → All (λ d. d < 10) ds → All (λ b. isFigure b ≡ true) (map figure ds)
+    figures [] h = tt
+    figures (d ∷ ds) h =
+        let small = h .0 in
+        (inBounds-yes 0x30 (0x30 + d) 0x39 (omega arith) (omega arith), figures ds (h .1))
+
+pub decimal-said : (n : ℕ) → decimalIn (decimal n) ≡ n
+unfolding decimal
+decimal-said n = ap (valueOf 10) (figures-worth (digitsOf 10 n)) ∙ digits-back 10 (omega arith) n
+
+decimal-lead : (n : ℕ) → lead (decimal n) ≡ true
+unfolding decimal
+decimal-lead zero = rw (digits-one 10 (omega arith) 0 (omega arith))
+decimal-lead (suc n) = first (digitsOf 10 (suc n)) (digits-some 10 (omega arith) (suc n)) (digits-lead 10 (omega arith) (suc n) (omega
+    arith))
+  where
+    first : (ds : List ℕ) → 1 ≤ length ds → 1 ≤ getD ds 0 0 → lead (map figure ds) ≡ true
+    first [] some h = absurd (omega arith)
+    first (d ∷ ds) some h = rw (ne-eqb (0x30 + d) 0x30 (λ e. omega arith)) (either (eqb (length (map figure (d ∷ ds))) 1))
+      where
+        either : (b : Bool) → (b || true) ≡ true
+        either true = refl
+        either false = refl
+
+decimal-long : (n : ℕ) → n < 10000 → (1 ≤ length (decimal n)) × (length (decimal n) ≤ 4)
+unfolding decimal
+decimal-long n h =
+    let size = length-map (digitsOf 10 n) figure in
+    (omega (arith, digits-some 10 (omega arith) n), omega (arith, digits-short 10 (omega arith) 3 n (omega arith)))
+
+pub decimal-plain : (n : ℕ) → n < 10000 → plainNumber (decimal n) ≡ true
+unfolding plainNumber
+decimal-plain n h =
+    let sizes = decimal-long n h in
+    rw (
+      le-leb 1 (length (decimal n)) (sizes .0),
+      le-leb (length (decimal n)) 4 (sizes .1),
+      decimal-lead n,
+      every-of-all isFigure (decimal n) (decimal-figures n),
+    )
+
+-- and a plain number is what is written of it
+pub plain-written : (field : List ℕ) → plainNumber field ≡ true → decimal (decimalIn field) ≡ field
+unfolding decimal numberOn
+plain-written [] plain = absurd (omega (arith, plain-short [] plain .0))
+plain-written (b ∷ field) plain =
+    let figures = all-of-every isFigure (b ∷ field) (plain-figures (b ∷ field) plain) in
+    let lows = all-map _ (λ c. 0x30 ≤ c) (λ c h. inBounds-low 0x30 c 0x39 h) (b ∷ field) figures in
+    let low = lows .0 in
+    elim (decLe 1 (b - 0x30)) [
+      | yes some ↦
+          ap (map figure) (digits-written 10 (omega arith) (b - 0x30) (map worth field) some
+          (below b (figures .0)) (belows field (figures .1))) ∙ worth-figures (b ∷ field) lows
+      | no none ↦ zero-alone field (omega arith) (plain-lead (b ∷ field) plain)
+    ]
+  where
+    below : (c : ℕ) → isFigure c ≡ true → c - 0x30 < 10
+    below c h =
+        let high = inBounds-high 0x30 c 0x39 h in
+        omega arith
+
+    belows : (cs : List ℕ) → All (λ c. isFigure c ≡ true) cs → All (λ d. d < 10) (map worth cs)
+    belows [] h = tt
+    belows (c ∷ cs) h = (below c (h .0), belows cs (h .1))
+
+    -- a leading zero is the only digit
+    zero-alone : (rest : List ℕ) → b ≡ 0x30 → lead (b ∷ rest) ≡ true → map figure (digitsOf 10 (decimalIn (b ∷ rest))) ≡ b ∷ rest
+    zero-alone [] zero-here leads = rw (zero-here, digits-one 10 (omega arith) 0 (omega arith))
+    zero-alone (c ∷ rest) zero-here leads = absurd (true-not-false (sym leads
+        ∙ rw (zero-here, ne-eqb (suc (suc (length rest))) 1 (λ e. omega arith))))
+
+decimal-no-comma : (n : ℕ) → NoComma (decimal n)
+decimal-no-comma n = all-map _ _ no-comma (decimal n) (decimal-figures n)
+  where
+    no-comma : (b : ℕ) → isFigure b ≡ true → eqb b comma ≡ false
+    no-comma b h =
+        let low = inBounds-low 0x30 b 0x39 h in
+        ne-eqb b comma (λ e. omega arith)
+
+-- ---- The row of a string
+
+abbrev pub stringNumbers : BatteryString → List ℕ
+stringNumbers s = s .t .0 ∷ s .c .0 ∷ s .d .0 ∷ s .x ∷ s .a .0 ∷ []
+
+abbrev pub Short : BatteryString → Type 0
+Short s = All (λ n. n < 10000) (stringNumbers s)
+
+abbrev fieldsFor : BatteryString → List (List ℕ)
+fieldsFor s = map decimal (stringNumbers s)
+
+abbrev pub registerRow : BatteryString → Line
+registerRow s = record { bytes = commaed (fieldsFor s) (0x0d ∷ []); ended = true }
+
+pub row-line : (s : BatteryString) → rowLine s ≡ lineBytes (registerRow s)
+unfolding rowLine bytesOf wordedIn
+row-line s = commaed-tail (fieldsFor s) (0x0d ∷ []) (0x0a ∷ [])
+
+-- what stands ahead of the CR, and the CR
+module _ (fields : List (List ℕ)) (bytes : List ℕ) (is : bytes ≡ commaed fields (0x0d ∷ [])) where
+  split : bytes ≡ commaed fields [] ++ (0x0d ∷ [])
+  split = is ∙ commaed-tail fields [] (0x0d ∷ [])
+
+  long : length bytes ≡ length (commaed fields []) + 1
+  long = ap length split ∙ length-append (commaed fields []) (0x0d ∷ [])
+
+  ahead-of : length bytes - 1 ≡ length (commaed fields [])
+  ahead-of = omega (arith, long)
+
+  body-is : take (length bytes - 1) bytes ≡ commaed fields []
+  body-is = ap (λ k. take k bytes) ahead-of ∙ ap (take (length (commaed fields []))) split
+      ∙ take-append-seam (commaed fields []) (0x0d ∷ [])
+
+  last-is : getD bytes (length bytes - 1) 0 ≡ 0x0d
+  last-is =
+      ap (λ k. getD bytes k 0) ahead-of ∙ ap (λ xs. getD xs (length (commaed fields [])) 0) split
+      ∙ getD-append-seam (commaed fields []) 0x0d [] 0
+
+module _ (s : BatteryString) where
+  fields-said : rowFields (registerRow s) ≡ fieldsFor s
+  unfolding rowFields
+  fields-said =
+      ap fieldsOf (body-is (fieldsFor s) (registerRow s .bytes) refl)
+      ∙ fields-commaed (decimal (s .t .0)) (map decimal (s .c .0 ∷ s .d .0 ∷ s .x ∷ s .a .0 ∷ [])) (decimal-no-comma (s .t .0))
+      (decimal-no-comma (s .c .0), (decimal-no-comma (s .d .0), (decimal-no-comma (s .x), (decimal-no-comma (s .a .0), tt))))
+
+  pub row-formed : Short s → rowFormed (registerRow s) ≡ true
+  unfolding rowFormed fiveNumbers
+  row-formed short =
+      rw (last-is (fieldsFor s) (registerRow s .bytes) refl, fields-said)
+      (every-of-all plainNumber (fieldsFor s) (
+        decimal-plain (s .t .0) (short .0),
+        (
+          decimal-plain (s .c .0) (short .1 .0),
+          (
+            decimal-plain (s .d .0) (short .1 .1 .0),
+            (decimal-plain (s .x) (short .1 .1 .1 .0), (decimal-plain (s .a .0) (short .1 .1 .1 .1 .0), tt)),
+          ),
+        ),
+      ))
+
+  pub row-says : rowString (registerRow s) ≡ s
+  unfolding rowString stringSaid
+  row-says =
+      rw (fields-said, decimal-said (s .t .0), decimal-said (s .c .0), decimal-said (s .d .0), decimal-said (s .x), decimal-said (s .a .0))
+
+  -- no 0a stands in it
+  pub row-no-end : NoEnd (registerRow s)
+  row-no-end =
+      commaed-all (λ b. eqb b 0x0a ≡ false) refl (fieldsFor s)
+      (inside (s .t .0), (inside (s .c .0), (inside (s .d .0), (inside (s .x), (inside (s .a .0), tt))))) (0x0d ∷ []) (refl, tt)
+    where
+      no-end : (b : ℕ) → isFigure b ≡ true → eqb b 0x0a ≡ false
+      no-end b h =
+          let low = inBounds-low 0x30 b 0x39 h in
+          ne-eqb b 0x0a (λ e. omega arith)
+
+      inside : (n : ℕ) → All (λ b. eqb b 0x0a ≡ false) (decimal n)
+      inside n = all-map _ _ no-end (decimal n) (decimal-figures n)
+
+  pub rowLine-short : Short s → length (rowLine s) ≤ 27
+  rowLine-short short =
+      let few : (n : ℕ) → n < 10000 → length (decimal n) ≤ 4 = λ n h. decimal-long n h .1 in
+      omega (
+        arith,
+        ap length (row-line s),
+        length-append (registerRow s .bytes) (0x0a ∷ []),
+        commaed-long (fieldsFor s) (
+          few (s .t .0) (short .0),
+          (
+            few (s .c .0) (short .1 .0),
+            (few (s .d .0) (short .1 .1 .0), (few (s .x) (short .1 .1 .1 .0), (few (s .a .0) (short .1 .1 .1 .1 .0), tt))),
+          ),
+        )
+            (0x0d ∷ []),
+      )
+
+-- ---- The string of a row
+
+-- five numbers make a string that has them
+numbers-back : (ns : List ℕ) → length ns ≡ 5 → stringNumbers (stringSaid ns) ≡ ns
+unfolding stringSaid
+numbers-back [] h = absurd (omega arith)
+numbers-back (a ∷ []) h = absurd (omega arith)
+numbers-back (a ∷ b ∷ []) h = absurd (omega arith)
+numbers-back (a ∷ b ∷ c ∷ []) h = absurd (omega arith)
+numbers-back (a ∷ b ∷ c ∷ d ∷ []) h = absurd (omega arith)
+numbers-back (a ∷ b ∷ c ∷ d ∷ e ∷ []) h = refl
+numbers-back (a ∷ b ∷ c ∷ d ∷ e ∷ f ∷ ns) h = absurd (omega arith)
+
+plains-written : (fields : List (List ℕ)) → All (λ f. plainNumber f ≡ true) fields → map decimal (map decimalIn fields) ≡ fields
+plains-written [] h = refl
+plains-written (f ∷ fields) h = rw (plain-written f (h .0), plains-written fields (h .1))
+
+module _ (line : Line) (formed : rowFormed line ≡ true) where
+  abbrev body : List ℕ
+  body = take (length (line .bytes) - 1) (line .bytes)
+
+  abbrev cr : Bool
+  cr = eqb (getD (line .bytes) (length (line .bytes) - 1) 0) 0x0d
+
+  pub formed-ended : line .ended ≡ true
+  unfolding rowFormed
+  formed-ended = and-left (line .ended) cr (and-left (line .ended && cr) (fiveNumbers (rowFields line)) formed)
+
+  returned : cr ≡ true
+  unfolding rowFormed
+  returned = and-right (line .ended) cr (and-left (line .ended && cr) (fiveNumbers (rowFields line)) formed)
+
+  five : fiveNumbers (rowFields line) ≡ true
+  unfolding rowFormed
+  five = and-right (line .ended && cr) (fiveNumbers (rowFields line)) formed
+
+  count : length (rowFields line) ≡ 5
+  unfolding fiveNumbers
+  count = eqb-true (length (rowFields line)) 5 (and-left (eqb (length (rowFields line)) 5) (every plainNumber (rowFields line)) five)
+
+  plains : All (λ f. plainNumber f ≡ true) (rowFields line)
+  unfolding fiveNumbers
+  plains =
+      all-of-every plainNumber (rowFields line)
+      (and-right (eqb (length (rowFields line)) 5) (every plainNumber (rowFields line)) five)
+
+  -- the bytes are the fields, commaed, and the CR
+  whole : line .bytes ≡ commaed (rowFields line) (0x0d ∷ [])
+  unfolding rowFields
+  whole =
+      let bytes = line .bytes in
+      let some = not-empty bytes returned in
+      let all : suc (length bytes - 1) ≡ length bytes = omega arith in
+      sym (take-all (suc (length bytes - 1)) bytes (omega arith))
+      ∙ take-suc bytes (length bytes - 1) 0 (omega arith)
+      ∙ ap (λ b. body ++ (b ∷ [])) (eqb-true (getD bytes (length bytes - 1) 0) 0x0d returned)
+      ∙ ap (λ xs. xs ++ (0x0d ∷ [])) (sym (commaed-fields body))
+      ∙ sym (commaed-tail (fieldsOf body) [] (0x0d ∷ []))
+    where
+      not-empty : (bytes : List ℕ) → eqb (getD bytes (length bytes - 1) 0) 0x0d ≡ true → 1 ≤ length bytes
+      not-empty [] h = absurd (true-not-false (sym h))
+      not-empty (b ∷ bytes) h = omega arith
+
+  pub row-written : rowLine (rowString line) ≡ lineBytes line
+  unfolding rowString
+  row-written =
+      let fields = rowFields line in
+      let numbers = numbers-back (map decimalIn fields) (length-map fields decimalIn ∙ count) in
+      let same : fieldsFor (rowString line) ≡ fields = ap (map decimal) numbers ∙ plains-written fields plains in
+      row-line (rowString line) ∙ ap (λ fs. commaed fs (0x0d ∷ []) ++ (0x0a ∷ [])) same ∙ ap (λ bytes. bytes ++ (0x0a ∷ [])) (sym whole)

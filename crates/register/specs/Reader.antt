@@ -1,0 +1,58 @@
+-- A table taken row by row (document 02, W-210), by a reader that holds on to the caller's text and its place in it.
+--     lineLong line         how many bytes a line has, its 0a among them
+--     rowGiven lines at     what is given of the first of lines that start at the place `at`: the string that it says, or that it is no
+--                           row, each with the place at which the next line starts; or that the lines have ended
+--     rowAt text at         what a reader gives that stands at the place `at` of a text
+--     asked k text at       what a reader gives that is asked k times from the place `at` on, and moves on each time
+--     rowsGiven lines at    what is given of each of lines that start at the place `at`
+--     rowSays row           what is given, in numbers: T, C, D, X, the moving cost; 13 for a line that is no row; with the next place
+use Prim.Native.Nat.{ℕ, zero, suc, _+_}
+use mathlib.Core.Bool.{cond}
+use mathlib.Core.List.{List, [], _∷_}
+use lib.ListN.{length, drop}
+use Rattle.faults.specs.declared.Fault.the-variants.{RowMalformed}
+use Rattle.faults.specs.Checks.{faultNumber}
+use Rattle.rules.specs.Text.{Line, linesOf}
+use Rattle.register.specs.declared.Row.{Row}
+use Rattle.register.specs.declared.Row.the-variants.{End, Malformed, Says}
+use Rattle.register.specs.Table.{rowFormed, rowString}
+
+unfoldable pub lineLong : Line → ℕ
+lineLong line = length (line .bytes) + cond (line .ended) 1 0
+
+unfoldable pub rowGiven : List Line → ℕ → Row
+rowGiven [] at = End
+rowGiven (line ∷ lines) at =
+    let next = at + lineLong line in
+    cond (rowFormed line) (Says (rowString line) next) (Malformed next)
+
+unfoldable pub rowAt : List ℕ → ℕ → Row
+rowAt text at = rowGiven (linesOf (drop at text)) at
+
+-- ---- Line after line
+
+-- where the reader goes on
+abbrev pub nextOf : Row → ℕ → ℕ
+nextOf End at = at
+nextOf (Malformed next) at = next
+nextOf (Says s next) at = next
+
+unfoldable pub asked : ℕ → List ℕ → ℕ → List Row
+asked zero text at = []
+asked (suc k) text at = rowAt text at ∷ asked k text (nextOf (rowAt text at) at)
+
+unfoldable pub rowsGiven : List Line → ℕ → List Row
+rowsGiven [] at = []
+rowsGiven (line ∷ lines) at = rowGiven (line ∷ lines) at ∷ rowsGiven lines (at + lineLong line)
+
+-- ---- In numbers
+
+pub data RowTold : Type 0 where
+  ended : RowTold
+  no-row : ℕ → ℕ → RowTold
+  row : ℕ → ℕ → ℕ → ℕ → ℕ → ℕ → RowTold
+
+abbrev pub rowSays : Row → RowTold
+rowSays End = ended
+rowSays (Malformed next) = no-row (faultNumber RowMalformed) next
+rowSays (Says s next) = row (s .t .0) (s .c .0) (s .d .0) (s .x) (s .a .0) next

@@ -1,0 +1,85 @@
+// A reader that holds on to the caller's text and its place in it, and is asked row by row.
+use super::Export;
+use super::Row;
+use super::fields::numbers_in;
+use super::fields::stop_at;
+use days::Length;
+use rules::BatteryString;
+ghost use mathlib.Core.Path.{_≡_};
+ghost use Rattle.register.specs.Table.{stringSaid};
+ghost use Rattle.register.specs.Reader.{rowAt};
+
+// T, C, D, X, moving cost.
+fn string_from(values: [u32; 5]) -> BatteryString
+    ensures exact { λ r. ⌜ r ≡ stringSaid values ⌝ }
+{
+    BatteryString {
+        t: Length(values[0]),
+        c: Length(values[1]),
+        d: Length(values[2]),
+        x: values[3],
+        a: Length(values[4]),
+    }
+}
+
+// The line that starts at a place of a text: it ends by CR LF, and five numbers stand ahead of that.
+pub(crate) fn row_at(text: &[u8], at: usize) -> Row
+    ensures exact { λ r. ⌜ r ≡ rowAt (now (text .entry)) at ⌝ }
+{
+    if text.len() <= at {
+        return Row::End;
+    }
+    let end = stop_at(text, at, b'\n');
+    if end == text.len() {
+        return Row::Malformed { next: end };
+    }
+    let next = end + 1;
+    if end == at {
+        return Row::Malformed { next };
+    }
+    let stop = end - 1;
+    let last = text[stop];
+    if last != b'\r' {
+        return Row::Malformed { next };
+    }
+    let said = numbers_in(&text[at..stop]);
+    if !said.formed {
+        return Row::Malformed { next };
+    }
+    let values = said.values;
+    Row::Says {
+        string: string_from(values),
+        next,
+    }
+}
+
+// A reader of a text, from a place on.
+pub fn opened<'a>(text: &'a [u8], at: usize) -> Export<'a>
+    ensures exact { λ r. ⌜ (r .text ≡ text .entry) × (r .at ≡ at) ⌝ }
+{
+    Export { text, at }
+}
+
+// The row at which a reader stands.
+pub fn row_here<'a>(export: Export<'a>) -> Row
+    ensures exact { λ r. ⌜ r ≡ rowAt (now (export .entry .text)) (export .entry .at) ⌝ }
+{
+    row_at(export.text, export.at)
+}
+
+// The reader at another place: behind a row, at the next one.
+pub fn moved<'a>(export: Export<'a>, at: usize) -> Export<'a>
+    ensures exact { λ r. ⌜ (r .text ≡ export .entry .text) × (r .at ≡ at) ⌝ }
+{
+    Export {
+        text: export.text,
+        at,
+    }
+}
+
+// The row at a place of a text, by a reader: whoever goes through a whole text asks so.
+pub(crate) fn row_from(text: &[u8], at: usize) -> Row
+    ensures exact { λ r. ⌜ r ≡ rowAt (now (text .entry)) at ⌝ }
+{
+    row_here(opened(text, at))
+}
