@@ -13,4 +13,5 @@ pub decimal-spec : {M : Type 1} → statement M
 decimal-spec =
     tie.close (tie.spec
     Inv-loop μ-loop (λ c. tt) (λ c. omega arith) (λ c. omega arith) (λ c κs. tt) (λ c. tt) (λ c. tt) (λ c. omega arith)
-    (λ c. omega arith) (λ c. search needs) (λ c. search needs) (λ c κs. tt) (λ c. tt) (λ c. omega arith) (λ c. omega arith) (λ c. omega arith) (λ c. omega arith) (λ c. omega arith) (λ c. tt))
+    (λ c. omega arith) (λ c. search needs) (λ c. search needs) (λ c κs. tt) (λ c. tt) (λ c. omega arith) (λ c. omega arith) (λ c. omega
+    arith) (λ c. omega arith) (λ c. omega arith) (λ c. tt))
