@@ -15,7 +15,7 @@ or-right : (a b : Bool) → (a || b) ≡ false → b ≡ false
 or-right true b h = cc
 or-right false b h = h
 
-answered-text : (c : Checked) (long len : ℕ) → orRefused Refused c (Text long) ≡ Text len → (c ≡ checked.Lawful) × (long ≡ len)
+pub answered-text : (c : Checked) (long len : ℕ) → orRefused Refused c (Text long) ≡ Text len → (c ≡ checked.Lawful) × (long ≡ len)
 answered-text c long len h =
     let said = orRefused-lawful Refused c (Text long) (Text len) not-text h in
     let same = said .1 in
@@ -26,7 +26,7 @@ answered-text c long len h =
         let z : _≡_ {A = ℕ} 0 1 = cc in
         omega arith
 
-room-inside : (page : List ℕ) (at : ℕ) (text : List ℕ) → noRoom page at text ≡ false → at ≤ length page
+pub room-inside : (page : List ℕ) (at : ℕ) (text : List ℕ) → noRoom page at text ≡ false → at ≤ length page
 unfolding noRoom
 room-inside page at text fits =
     ltb-false (length page) at (or-right (ltb (length (drop at page)) (length text)) (ltb (length page) at) fits)
