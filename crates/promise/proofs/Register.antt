@@ -1,16 +1,14 @@
 -- The asset register's table (document 02, W-210), of what `register` and `table` answered: written and read back gives the same strings,
 -- read and written back the same bytes; and what is read is lawful.
 -- The arguments of `register` are the text and N; those of `table` are the plan, the releases, the page and the place.
-use Rattle.base.proofs.Prelude.{ℕ, _≤_, _≡_, refl, sym, ap, _∙_, List, [], length, take, drop}
+use Rattle.base.proofs.Prelude.{ℕ, _+_, _≤_, _≡_, sym, ap, _∙_, true, false, List, [], _∷_, length, take, drop}
 use Rattle.base.specs.Count.{putAt}
-use Rattle.base.proofs.Parts.{putAt-stands}
-use Rattle.faults.specs.{declared.Fault.the-variants.NoRoom, declared.Checked.Checked, declared.Checked.the-variants.Lawful, Checks.refuseIf}
-use Rattle.faults.proofs.Checks.{then-first, then-second, refuseIf-not}
-use Rattle.rules.specs.{declared.Plan.Plan, declared.Releases.Releases, declared.Reading.Reading, Plan.stringsOf, Release.releasesOf, Refusal.runCheck, Text.{linesOf, noReleases}}
+use Rattle.faults.specs.declared.Checked.the-variants.{Lawful}
+use Rattle.rules.specs.{declared.Plan.Plan, declared.Releases.Releases, declared.Reading.Reading, Plan.stringsOf, Release.releasesOf, Refusal.runCheck, Text.{Line, linesOf, noReleases}}
 use Rattle.laws.proofs.Releases.{runCheck-lawful}
-use Rattle.writing.specs.{declared.Saved.the-variants.Text, Saved.noRoom}
-use Rattle.roundtrip.proofs.InPage.{answered-text, room-inside}
-use Rattle.register.specs.{Table.{tablePlan, tableCheck, tableReading}, Export.{tableText, exportCheck, exportAnswer, exportPage}}
+use Rattle.writing.specs.declared.Saved.the-variants.{Text}
+use Rattle.roundtrip.proofs.InPage.{fit-lawful, fit-page, fit-stands}
+use Rattle.register.specs.{Table.{rowFormed, rowString, tablePlan, tableCheck, tableReading}, Reader.{lineLong, rowGiven, rowAt, ended, no-row, row, rowSays}, Export.{tableText, exportCheck, exportAnswer, exportPage}}
 use Rattle.register.proofs.BothWays.{strings-again, rows-written-read, table-checked, rows-read-written, table-lawful}
 use Rattle.register.proofs.register.Reads as register
 use Rattle.register.proofs.table.Reads as table
@@ -19,28 +17,17 @@ use contract.Lifetimes.{Lfts}
 -- ---- The rows in the page
 
 module _ (p : Plan) (rs : Releases) (page : List ℕ) (at len : ℕ) (h : exportAnswer p rs page at ≡ Text len) where
-  exported : (exportCheck p rs page at ≡ Lawful) × (length (tableText p) ≡ len)
-  unfolding exportAnswer
-  exported = answered-text (exportCheck p rs page at) (length (tableText p)) len h
-
   rows-lawful : runCheck p rs ≡ Lawful
-  unfolding exportCheck
-  rows-lawful = then-first (runCheck p rs) (refuseIf (noRoom page at (tableText p)) NoRoom 0) (exported .0)
+  unfolding exportAnswer exportCheck
+  rows-lawful = fit-lawful (runCheck p rs) (tableText p) page at len h
 
-  inside : at ≤ length page
-  unfolding exportCheck
-  inside =
-      let full = noRoom page at (tableText p) in
-      room-inside page at (tableText p) (refuseIf-not full NoRoom 0 (then-second (runCheck p rs) (refuseIf full NoRoom 0) (exported .0)))
-
-  page-is : exportPage p rs page at ≡ putAt at (tableText p) page
-  unfolding exportPage
-  page-is = rw (exported .0)
+  rows-page : exportPage p rs page at ≡ putAt at (tableText p) page
+  unfolding exportAnswer exportPage exportCheck
+  rows-page = fit-page (runCheck p rs) (tableText p) page at len h
 
   rows-stand : take len (drop at (exportPage p rs page at)) ≡ tableText p
-  rows-stand =
-      ap (λ whole. take len (drop at whole)) page-is
-      ∙ ap (λ k. take k (drop at (putAt at (tableText p) page))) (sym (exported .1)) ∙ putAt-stands at (tableText p) page inside
+  unfolding exportAnswer exportPage exportCheck
+  rows-stand = fit-stands (runCheck p rs) (tableText p) page at len h
 
 -- ---- Both ways
 
@@ -87,10 +74,30 @@ module _ (κs κt : Lfts 1) (lent : _) (after : _) (r : Reading) (was-read : reg
     table-writes-back a e len wrote plan =
         let page = a .1 .1 .0 .now in
         let at = a .1 .1 .1 .0 in
-        wrote .1 ∙ page-is (a .0) (a .1 .0) page at len (sym (wrote .0))
+        wrote .1 ∙ rows-page (a .0) (a .1 .0) page at len (sym (wrote .0))
         ∙ ap (λ rows. putAt at rows page) (ap tableText (plan ∙ is-plan) ∙ rows-read-written run text checked)
 
     -- and no entry refuses it
     pub table-read-lawful : runCheck (r .plan) (r .releases) ≡ Lawful
     table-read-lawful =
         ap (λ p. runCheck p (r .releases)) is-plan ∙ ap (runCheck (tablePlan run (linesOf text))) is-list ∙ table-lawful run text checked
+
+-- ---- A line, in the page's numbers
+
+-- what `row_here` gives at a place of a text: its contract is `rowAt`
+module _ (text : List ℕ) (at : ℕ) where
+  pub row-ends : linesOf (drop at text) ≡ [] → rowSays (rowAt text at) ≡ ended
+  unfolding rowAt rowGiven
+  row-ends none = rw none
+
+  module _ (line : Line) (rest : List Line) (here : linesOf (drop at text) ≡ line ∷ rest) where
+    -- 13 for a line that is not five such numbers with CR LF
+    pub row-thirteen : rowFormed line ≡ false → rowSays (rowAt text at) ≡ no-row 13 (at + lineLong line)
+    unfolding rowAt rowGiven
+    row-thirteen other = rw (here, other)
+
+    pub row-five-numbers : rowFormed line ≡ true
+        → let s = rowString line in
+        rowSays (rowAt text at) ≡ row (s .t .0) (s .c .0) (s .d .0) (s .x) (s .a .0) (at + lineLong line)
+    unfolding rowAt rowGiven
+    row-five-numbers formed = rw (here, formed)

@@ -10,7 +10,6 @@ pub mod Walk
 pub mod Taking
 pub mod Reading
 pub mod RowTexts
-pub mod Exporting
 pub mod Joined
 pub mod RowBack
 pub mod BothWays

@@ -5,7 +5,7 @@ use Rattle.base.proofs.Parts.{putAt-stands}
 use Rattle.faults.specs.{declared.Fault.Fault, declared.Fault.the-variants.NoRoom, declared.Checked.Checked, Checks.{refuseIf, orRefused}}
 use Rattle.faults.proofs.Checks.{then-first, then-second, refuseIf-not, orRefused-lawful}
 use Rattle.rules.specs.{declared.Plan.Plan, declared.Releases.Releases, Refusal.runCheck, Layout.{Version, version02, heldTo}, Text.{readingIn, readingOf}}
-use Rattle.writing.specs.{declared.Saved.the-variants.{Refused, Text}, Saved.{savedText, noRoom, writableCheck, saveCheck, savedAnswer, savedPage}}
+use Rattle.writing.specs.{declared.Saved.the-variants.{Refused, Text}, Saved.{noRoom, fitCheck, textAnswer, textPage, savedText, writableCheck, saveCheck, savedAnswer, savedPage}}
 use Rattle.writing.proofs.Saving.{writable-run}
 use Rattle.roundtrip.specs.OneText.{readAgain}
 use Rattle.roundtrip.proofs.{ReadBack.reading-02, WriteBack.writing-what-was-read}
@@ -31,38 +31,40 @@ unfolding noRoom
 room-inside page at text fits =
     ltb-false (length page) at (or-right (ltb (length (drop at page)) (length text)) (ltb (length page) at) fits)
 
-module _ (v : Version) (p : Plan) (rs : Releases) (page : List ℕ) (at len : ℕ) (h : savedAnswer v p rs page at ≡ Text len) where
-  saved : (saveCheck v p rs page at ≡ checked.Lawful) × (length (savedText v p rs) ≡ len)
-  unfolding savedAnswer
-  saved = answered-text (saveCheck v p rs page at) (length (savedText v p rs)) len h
+-- a text that went into a page where a check found nothing
+module _ (c : Checked) (text page : List ℕ) (at len : ℕ) (h : textAnswer (fitCheck c text page at) text ≡ Text len) where
+  went : (fitCheck c text page at ≡ checked.Lawful) × (length text ≡ len)
+  went = answered-text (fitCheck c text page at) (length text) len h
 
-  text-long : length (savedText v p rs) ≡ len
-  text-long = saved .1
-
-  writable : writableCheck v p rs ≡ checked.Lawful
-  unfolding saveCheck
-  writable = then-first (writableCheck v p rs) (refuseIf (noRoom page at (savedText v p rs)) NoRoom 0) (saved .0)
-
-  text-lawful : runCheck p rs ≡ checked.Lawful
-  text-lawful = writable-run v p rs writable
+  pub fit-lawful : c ≡ checked.Lawful
+  fit-lawful = then-first c (refuseIf (noRoom page at text) NoRoom 0) (went .0)
 
   inside : at ≤ length page
-  unfolding saveCheck
   inside =
-      let full = noRoom page at (savedText v p rs) in
-      room-inside page at (savedText v p rs)
-      (refuseIf-not full NoRoom 0 (then-second (writableCheck v p rs) (refuseIf full NoRoom 0) (saved .0)))
+      let full = noRoom page at text in
+      room-inside page at text (refuseIf-not full NoRoom 0 (then-second c (refuseIf full NoRoom 0) (went .0)))
+
+  pub fit-page : textPage (fitCheck c text page at) text page at ≡ putAt at text page
+  fit-page = rw (went .0)
+
+  -- it stands in the page from the named place on
+  pub fit-stands : take len (drop at (textPage (fitCheck c text page at) text page at)) ≡ text
+  fit-stands =
+      ap (λ whole. take len (drop at whole)) fit-page
+      ∙ ap (λ k. take k (drop at (putAt at text page))) (sym (went .1)) ∙ putAt-stands at text page inside
+
+module _ (v : Version) (p : Plan) (rs : Releases) (page : List ℕ) (at len : ℕ) (h : savedAnswer v p rs page at ≡ Text len) where
+  text-lawful : runCheck p rs ≡ checked.Lawful
+  unfolding savedAnswer saveCheck
+  text-lawful = writable-run v p rs (fit-lawful (writableCheck v p rs) (savedText v p rs) page at len h)
 
   page-is : savedPage v p rs page at ≡ putAt at (savedText v p rs) page
-  unfolding savedPage
-  page-is = rw (saved .0)
+  unfolding savedAnswer savedPage saveCheck
+  page-is = fit-page (writableCheck v p rs) (savedText v p rs) page at len h
 
-  -- the text stands in the page from the named place on
   pub text-stands : take len (drop at (savedPage v p rs page at)) ≡ savedText v p rs
-  text-stands =
-      let text = savedText v p rs in
-      ap (λ whole. take len (drop at whole)) page-is
-      ∙ ap (λ k. take k (drop at (putAt at text page))) (sym text-long) ∙ putAt-stands at text page inside
+  unfolding savedAnswer savedPage saveCheck
+  text-stands = fit-stands (writableCheck v p rs) (savedText v p rs) page at len h
 
 -- a text of version 02 that is written stands in the page and reads back to the plan
 pub reading-the-page : (p : Plan) (rs : Releases) (page : List ℕ) (at len : ℕ) → savedAnswer version02 p rs page at ≡ Text len

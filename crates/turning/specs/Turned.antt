@@ -9,16 +9,13 @@ use Prim.Native.Nat.{ℕ, _+_}
 use mathlib.Core.Bool.{cond}
 use mathlib.Core.List.{List}
 use lib.Dec.{eqb}
-use lib.ListN.{length}
-use Rattle.base.specs.Count.{putAt}
-use Rattle.faults.specs.declared.Fault.the-variants.{NoRoom}
 use Rattle.faults.specs.declared.Checked.{Checked}
-use Rattle.faults.specs.Checks.{then, refuseIf, orRefused}
+use Rattle.faults.specs.Checks.{then}
 use Rattle.rules.specs.Layout.{Version}
 use Rattle.rules.specs.Text.{readingIn}
 use Rattle.writing.specs.declared.Saved.{Saved}
 use Rattle.writing.specs.declared.Saved.the-variants.{Refused, Text}
-use Rattle.writing.specs.Saved.{noRoom, onPage, firstOther, alikeCheck, savedText}
+use Rattle.writing.specs.Saved.{fitCheck, textAnswer, textPage, firstOther, alikeCheck, savedText}
 
 unfoldable pub lineOf : ℕ → ℕ
 lineOf place = cond (eqb place 0) 0 (place + 1)
@@ -38,12 +35,11 @@ module _ (v w : Version) (text : List ℕ) where
 
   unfoldable pub turnCheck : List ℕ → ℕ → Checked
   turnCheck page at =
-      let room = refuseIf (noRoom page at turnedText) NoRoom 0 in
       let plan = readingIn v text .plan in
-      then (readingIn v text .checked) (then (alikeCheck w (lineOf (firstOther plan)) plan) room)
+      then (readingIn v text .checked) (fitCheck (alikeCheck w (lineOf (firstOther plan)) plan) turnedText page at)
 
   unfoldable pub turnedAnswer : List ℕ → ℕ → Saved
-  turnedAnswer page at = orRefused Refused (turnCheck page at) (Text (length turnedText))
+  turnedAnswer page at = textAnswer (turnCheck page at) turnedText
 
   unfoldable pub turnedPage : List ℕ → ℕ → List ℕ
-  turnedPage page at = onPage (turnCheck page at) page (putAt at turnedText page)
+  turnedPage page at = textPage (turnCheck page at) turnedText page at

@@ -2,18 +2,18 @@
 use Rattle.base.proofs.Prelude.{ℕ, _-_, _≤_, _<_, _≡_, refl, sym, ap, _∙_, Bool, true, false, _||_, List, _++_, arith, lt-ltb, le-ltb, le-leb, lt-leb, ltb, leb, length, take, drop, length-drop, length-take-le, drop-drop, putMid}
 use Rattle.base.specs.Count.{All}
 use Rattle.base.proofs.Lists.{by-bool, all-by}
-use Rattle.faults.specs.{declared.Fault.Fault, declared.Fault.the-variants.{NoRoom, CostsDiffer}}
+use Rattle.faults.specs.{declared.Fault.Fault, declared.Fault.the-variants.{NoRoom, CostsDiffer}, declared.Checked.Checked}
 use Rattle.faults.proofs.Checks.{then-first, then-lawful}
 use Rattle.rules.specs.{declared.Plan.Plan, declared.Releases.Releases, Plan.stringsOf, Release.{releasesOf, noRelease}, Refusal.runCheck, Layout.{Version, hasField, headerFrame, Common}}
 use Rattle.laws.specs.Lawful.{LawfulRun}
 use Rattle.laws.proofs.{Releases.runCheck-lawful, ReleaseList.release-lawful}
-use Rattle.writing.specs.{declared.Saved.the-variants.{Refused, Text}, Written.planText, Saved.{noRoom, firstOther, alikeCheck, savedText, writableCheck, saveCheck, savedAnswer, savedPage}, inner.Cells.PlanFits}
+use Rattle.writing.specs.{declared.Saved.Saved, declared.Saved.the-variants.{Refused, Text}, Written.planText, Saved.{noRoom, fitCheck, textAnswer, textPage, firstOther, alikeCheck, savedText, writableCheck, saveCheck, savedAnswer, savedPage}, inner.Cells.PlanFits}
 use Rattle.writing.proofs.{Texts.{lent-part, lent-back}, Rows.{longAs, text-long}}
 use Rattle.faults.specs.declared.Checked.the-variants as checked
 
 -- ---- Room
 
-pub noRoom-beyond : (page : List ℕ) (at : ℕ) (text : List ℕ) → length page < at → noRoom page at text ≡ true
+noRoom-beyond : (page : List ℕ) (at : ℕ) (text : List ℕ) → length page < at → noRoom page at text ≡ true
 unfolding noRoom
 noRoom-beyond page at text h = rw (lt-ltb (length page) at h) (either (ltb (length (drop at page)) (length text)))
   where
@@ -21,11 +21,11 @@ noRoom-beyond page at text h = rw (lt-ltb (length page) at h) (either (ltb (leng
     either true = refl
     either false = refl
 
-pub noRoom-short : (page : List ℕ) (at : ℕ) (text : List ℕ) → length page - at < length text → noRoom page at text ≡ true
+noRoom-short : (page : List ℕ) (at : ℕ) (text : List ℕ) → length page - at < length text → noRoom page at text ≡ true
 unfolding noRoom
 noRoom-short page at text h = rw (lt-ltb (length (drop at page)) (length text) (omega (arith, length-drop at page)))
 
-pub noRoom-fits : (page : List ℕ) (at : ℕ) (text : List ℕ) → at ≤ length page → length text ≤ length page - at → noRoom page at text ≡ false
+noRoom-fits : (page : List ℕ) (at : ℕ) (text : List ℕ) → at ≤ length page → length text ≤ length page - at → noRoom page at text ≡ false
 unfolding noRoom
 noRoom-fits page at text here h =
     rw (le-ltb (length (drop at page)) (length text) (omega (arith, length-drop at page)), le-ltb (length page) at here)
@@ -74,22 +74,48 @@ module _ (v : Version) (p : Plan) (rs : Releases) (run : runCheck p rs ≡ check
     unfolding savedText
     saved-long = text-long v p rs strings-many releases-many
 
+-- ---- A text that goes into a page where a check finds nothing
+
+module _ (c : Checked) (text page : List ℕ) (at : ℕ) where
+  abbrev answers : Saved → List ℕ → Type 0
+  answers said after =
+      (textAnswer (fitCheck c text page at) text ≡ said) × (textPage (fitCheck c text page at) text page at ≡ after)
+
+  pub fit-refused : (f : Fault) (k : ℕ) → c ≡ checked.Refused f k → answers (Refused f k) page
+  fit-refused f k h = (rw h, rw h)
+
+  module _ (lawful : c ≡ checked.Lawful) where
+    fit-full : noRoom page at text ≡ true → answers (Refused NoRoom 0) page
+    fit-full full = (rw (lawful, full), rw (lawful, full))
+
+    pub fit-beyond : length page < at → answers (Refused NoRoom 0) page
+    fit-beyond h = fit-full (noRoom-beyond page at text h)
+
+    pub fit-short : length page - at < length text → answers (Refused NoRoom 0) page
+    fit-short h = fit-full (noRoom-short page at text h)
+
+    -- the part from the place on comes back with the text at its head
+    pub fit-written : at ≤ length page → length text ≤ length page - at → (next : List ℕ)
+        → next ≡ text ++ drop (length text) (take (length page - at) (drop at page))
+        → answers (Text (length text)) (putMid at (length page - at) page next)
+    fit-written here room next got =
+        let fits = noRoom-fits page at text here room in (
+          rw (lawful, fits),
+          rw (lawful, fits) (sym (lent-back at page next here ∙ rw (got, lent-part at page, drop-drop (length text) at page))),
+        )
+
 -- ---- The answer and the page
 
 module _ (v : Version) (p : Plan) (rs : Releases) (page : List ℕ) (at : ℕ) where
   pub saved-refused : (f : Fault) (k : ℕ) → writableCheck v p rs ≡ checked.Refused f k
       → (savedAnswer v p rs page at ≡ Refused f k) × (savedPage v p rs page at ≡ page)
   unfolding savedAnswer savedPage saveCheck
-  saved-refused f k h = (rw h, rw h)
+  saved-refused f k h = fit-refused (writableCheck v p rs) (savedText v p rs) page at f k h
 
   module _ (lawful : writableCheck v p rs ≡ checked.Lawful) where
-    saved-full : noRoom page at (savedText v p rs) ≡ true
-        → (savedAnswer v p rs page at ≡ Refused NoRoom 0) × (savedPage v p rs page at ≡ page)
-    unfolding savedAnswer savedPage saveCheck
-    saved-full full = (rw (lawful, full), rw (lawful, full))
-
     pub saved-beyond : length page < at → (savedAnswer v p rs page at ≡ Refused NoRoom 0) × (savedPage v p rs page at ≡ page)
-    saved-beyond h = saved-full (noRoom-beyond page at (savedText v p rs) h)
+    unfolding savedAnswer savedPage saveCheck
+    saved-beyond h = fit-beyond (writableCheck v p rs) (savedText v p rs) page at lawful h
 
     module _ (ten : length (p .strings) ≡ 10) (thousand : length (rs .list) ≡ 1000) where
       lawful-is : LawfulRun p rs
@@ -104,7 +130,8 @@ module _ (v : Version) (p : Plan) (rs : Releases) (page : List ℕ) (at : ℕ) w
       -- long is what the code computes
       module _ (long : ℕ) (counted : long ≡ longAs v (p .n) (rs .count)) where
         pub saved-short : length page - at < long → (savedAnswer v p rs page at ≡ Refused NoRoom 0) × (savedPage v p rs page at ≡ page)
-        saved-short h = saved-full (noRoom-short page at (savedText v p rs) (omega (arith, long-is)))
+        unfolding savedAnswer savedPage saveCheck
+        saved-short h = fit-short (writableCheck v p rs) (savedText v p rs) page at lawful (omega (arith, long-is))
 
         module _ (here : at ≤ length page) (room : long ≤ length page - at) where
           -- what the writer of the plan asks of the part that it is lent
@@ -133,7 +160,5 @@ module _ (v : Version) (p : Plan) (rs : Releases) (page : List ℕ) (at : ℕ) w
           saved-written next got =
               let text = planText v p (releasesOf rs) in
               let size : length text ≡ long = long-is ∙ sym counted in
-              let fits = noRoom-fits page at text here (omega arith) in (
-                rw (lawful, fits, size),
-                rw (lawful, fits) (sym (lent-back at page next here ∙ rw (got, lent-part at page, drop-drop (length text) at page))),
-              )
+              let said = fit-written (writableCheck v p rs) text page at lawful here (omega arith) next got in
+              (said .0 ∙ ap Text size, said .1)

@@ -1,5 +1,9 @@
--- Writing a plan into the caller's page (document 02, W-201, W-207, W-208).
+-- Writing into the caller's page (document 02, W-201). A text goes there where a check finds nothing:
 --     noRoom page at text   the page has fewer bytes from the place at on than the text needs, or at lies beyond its end
+--     fitCheck c text page at    what the check c finds, then 9 with 0 where the text does not fit
+--     textAnswer c text     the refusal of the check c, or the length of the text
+--     textPage c text page at    the page afterwards: a refusal keeps every byte
+-- Writing a plan (document 02, W-201, W-207, W-208):
 --     costDiffers p i       the string at place i has another moving cost than the one at place 1
 --     firstOther p          the first place whose string has another; n + 1 where none has
 -- v is the version that is written; W-201 writes version 02, W-208 version 01 too:
@@ -33,6 +37,17 @@ noRoom page at text = ltb (length (drop at page)) (length text) || ltb (length p
 abbrev pub onPage : Checked → List ℕ → List ℕ → List ℕ
 onPage c page after = orRefused (λ f at. page) c after
 
+abbrev pub fitCheck : Checked → List ℕ → List ℕ → ℕ → Checked
+fitCheck c text page at =
+    let room = refuseIf (noRoom page at text) NoRoom 0 in
+    then c room
+
+abbrev pub textAnswer : Checked → List ℕ → Saved
+textAnswer c text = orRefused Refused c (Text (length text))
+
+abbrev pub textPage : Checked → List ℕ → List ℕ → ℕ → List ℕ
+textPage c text page at = onPage c page (putAt at text page)
+
 -- ---- Moving costs
 
 abbrev pub costDiffers : Plan → ℕ → Bool
@@ -54,12 +69,10 @@ module _ (v : Version) where
   writableCheck p rs = then (runCheck p rs) (alikeCheck (firstOther p) p)
 
   unfoldable pub saveCheck : Plan → Releases → List ℕ → ℕ → Checked
-  saveCheck p rs page at =
-      let room = refuseIf (noRoom page at (savedText p rs)) NoRoom 0 in
-      then (writableCheck p rs) room
+  saveCheck p rs page at = fitCheck (writableCheck p rs) (savedText p rs) page at
 
   unfoldable pub savedAnswer : Plan → Releases → List ℕ → ℕ → Saved
-  savedAnswer p rs page at = orRefused Refused (saveCheck p rs page at) (Text (length (savedText p rs)))
+  savedAnswer p rs page at = textAnswer (saveCheck p rs page at) (savedText p rs)
 
   unfoldable pub savedPage : Plan → Releases → List ℕ → ℕ → List ℕ
-  savedPage p rs page at = onPage (saveCheck p rs page at) page (putAt at (savedText p rs) page)
+  savedPage p rs page at = textPage (saveCheck p rs page at) (savedText p rs) page at

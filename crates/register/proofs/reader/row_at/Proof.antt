@@ -50,6 +50,10 @@ module _ (e : tie.Else3) where
   some : 1 ≤ ahead found
   some = omega (arith, found .stop-at .ensures, e .if3 .left)
 
+  -- the byte ahead of the 0a stands in the line
+  ahead-of-end : (at found ≤ found .stop-at .result - 1) × (found .stop-at .result - 1 < length (text found))
+  ahead-of-end = (omega (arith, some, found .stop-at .ensures), omega (arith, some, within found, found .stop-at .ensures))
+
   place : found .stop-at .result - 1 ≡ at found + ahead found - 1
   place = omega (arith, found .stop-at .ensures)
 
@@ -102,26 +106,6 @@ pub row-at-spec : {M : Type 1} → statement M
 row-at-spec =
     tie.close (tie.spec
     (λ c. given-end _ _ (c .if1 .taken)) (λ c κs. omega arith) returns-2 (λ c. omega (arith, within (c .before), c .if2 .left)) returns-3
-    (λ c. omega (arith, (c .before .before .stop-at .ensures), c .if3 .left)) (λ c. omega (
-      arith,
-      within (c .before .before .before),
-      some
-          (c .before),
-      c .before .before .before .stop-at .ensures,
-    ))
-    returns-4 (λ c. omega (arith, some (c .before .before), c .before .before .before .before .stop-at .ensures))
-    (λ c. search (
-      needs,
-      within (c .before .before .before .before),
-      some (c .before .before),
-      c .before .before .before .before .stop-at
-          .ensures,
-    ))
-    (λ c. search (
-      needs,
-      within (c .before .before .before .before),
-      some (c .before .before),
-      c .before .before .before .before .stop-at
-          .ensures,
-    ))
+    (λ c. omega (arith, some c, found c .stop-at .ensures)) (λ c. omega (arith, ahead-of-end (c .before))) returns-4
+    (λ c. omega (arith, ahead-of-end (ended c))) (λ c. search (needs, ahead-of-end (ended c))) (λ c. search (needs, ahead-of-end (ended c)))
     (λ c κs. tt) returns-5 (λ c κs. tt) returns-6)
