@@ -1,7 +1,7 @@
--- Easing never hurts (document 02, W-212), of what the code answered. Where an engine said pass of a plan, and some C fall, some T grow, some
--- D grow, some moving costs fall, some strings are dropped, any number of these at once, the permissions staying, it says pass of the new
--- plan, if that is lawful; with a set the same, the set carried along past a dropped string. So what passed is never late, and stays never
--- late. A string dropped from a plan of two or more leaves a lawful plan. Permissions are not on the list: P9, P1 and P3.
+-- Easing never hurts (document 02, W-212), of what the code answered. Where an engine said pass of a plan, and some C fall, some T grow,
+-- some D grow, some moving costs fall, some strings are dropped, any number of these at once, the permissions staying, it says pass of the
+-- new plan, if that is lawful; with a set the same, the set carried along past a dropped string. So what passed is never late, and stays
+-- never late. A string dropped from a plan of two or more leaves a lawful plan. Permissions are not on the list: P9, P1 and P3.
 use Rattle.base.proofs.Prelude.{ℕ, _≤_, _≡_, refl, sym, ap, _∙_, true, arith, length}
 use Rattle.faults.specs.{declared.Checked.Checked, declared.Checked.the-variants.Lawful}
 use Rattle.rules.specs.{declared.Plan.Plan, declared.Releases.Releases, declared.Verdict.Verdict, declared.AskedVerdict.AskedVerdict, declared.AskedOutcome.AskedOutcome, Demand.Passes, Verdict.{verdictOf, isPass}, Search.withSet, Release.releasesOf, Refusal.{planCheck, setCheck, runCheck, verdictAnswer, setAnswer}, Said.{overload, fail, pass, clean, askedVerdictSays, askedOutcomeSays}}

@@ -1,6 +1,6 @@
--- A string dropped from a plan of two or more: the plan that is left is lawful, whatever string it was. Its H is no larger: the old one is a
--- common multiple of the periods that are left. And a permission set goes along: the strings behind the dropped one move up a place, and so
--- do their binary digits.
+-- A string dropped from a plan of two or more: the plan that is left is lawful, whatever string it was. Its H is no larger: the old one is
+-- a common multiple of the periods that are left. And a permission set goes along: the strings behind the dropped one move up a place, and
+-- so do their binary digits.
 --     carried easier m      the set under which each string that is left has the permission that the set m gave it
 use Rattle.base.proofs.Prelude.{ℕ, zero, suc, _+_, _-_, _*_, _/_, _%_, _^_, _≤_, _<_, _≡_, refl, sym, ap, _∙_, Bool, true, false, List, [], _∷_, _++_, arith, decLe, add-one, length, take, drop, length-take, eqb}
 use lib.Pow.{pow-mono}

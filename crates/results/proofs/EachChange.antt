@@ -1,6 +1,6 @@
 -- Each change of the list alone (document 02, W-212), and several at once: a table that a class can read, the plans of
--- plans/eased-*.plan. Before, for all of them: (10, 2, 6) (10, 3, 8) (10, 1, 2), moving cost 1, and the third string may take the bank. That
--- each is on the list is by Changes; what the verdict says of both plans is computed.
+-- plans/eased-*.plan. Before, for all of them: (10, 2, 6) (10, 3, 8) (10, 1, 2), moving cost 1, and the third string may take the bank.
+-- That each is on the list is by Changes; what the verdict says of both plans is computed.
 use Rattle.base.proofs.Prelude.{ℕ, _≡_, refl, true, List, [], _∷_, leb, leb-true, getD, set}
 use mathlib.Core.List.{flatMap}
 use Rattle.faults.specs.declared.Checked.the-variants.{Lawful}
@@ -27,8 +27,8 @@ unfoldable pub rarer : Change
 rarer = change uneased (withSet (plan (string 10 2 6 ∷ string 20 3 8 ∷ string 10 1 2 ∷ []) 1 20) 4) (pass 29) (pass 39)
 
 -- D grows: the third string is due a day later
-unfoldable pub later : Change
-later = change uneased (withSet (plan (string 10 2 6 ∷ string 10 3 8 ∷ string 10 1 3 ∷ []) 1 20) 4) (pass 29) (pass 27)
+unfoldable pub postponed : Change
+postponed = change uneased (withSet (plan (string 10 2 6 ∷ string 10 3 8 ∷ string 10 1 3 ∷ []) 1 20) 4) (pass 29) (pass 27)
 
 -- a moving cost falls: the third string moves for nothing
 unfoldable pub nearer : Change
@@ -45,7 +45,7 @@ unfoldable pub together : Change
 together = change uneased (withSet (planOf (paying 1 (string 20 1 7) ∷ paying 0 (string 20 1 3) ∷ []) 20) 2) (pass 29) (pass 26)
 
 unfoldable pub listed : List Change
-listed = shorter ∷ rarer ∷ later ∷ nearer ∷ fewer ∷ together ∷ []
+listed = shorter ∷ rarer ∷ postponed ∷ nearer ∷ fewer ∷ together ∷ []
 
 -- ---- They are on the list, and the verdicts say so
 
@@ -66,20 +66,31 @@ row c easier lawful was is = record { easier = easier; lawful = lawful; both = r
 
 pub each-change : All Eases listed
 unfolding
-    listed shorter rarer later nearer fewer together uneased string paying planOf plan
+    listed shorter rarer postponed nearer fewer together uneased string paying planOf plan
     flatMap sumOf largest smallest smallestWith every upFrom leastFrom firstOf
     stringLawful commonMultiple multipleOf dMin dMax
     movingCost holdOf jobs blockerHold blockLimit need demand load overloaded
     pairsAt allPairs broken compared judged verdictOver
     permit withSet
     countCheck runLengthCheck costCheck stringsCheck multipleCheck planCheck verdictAnswer
-each-change =
-    (row shorter (one shorter 0 (by-numbers _ _ refl refl refl refl refl) refl) refl refl refl,
-    (row rarer (one rarer 1 (by-numbers _ _ refl refl refl refl refl) refl) refl refl refl,
-    (row later (one later 2 (by-numbers _ _ refl refl refl refl refl) refl) refl refl refl,
-    (row nearer (one nearer 2 (by-numbers _ _ refl refl refl refl refl) refl) refl refl refl,
-    (row fewer (one-dropped uneased (fewer .after) 1 refl) refl refl refl,
-    (row together
-    (eased (by-numbers _ _ refl refl refl refl refl) (dropped (eased (by-numbers _ _ refl refl refl refl refl) end)))
-    refl refl refl,
-    tt))))))
+each-change = (
+  row shorter (one shorter 0 (by-numbers _ _ refl refl refl refl refl) refl) refl refl refl,
+  (
+    row rarer (one rarer 1 (by-numbers _ _ refl refl refl refl refl) refl) refl refl refl,
+    (
+      row postponed (one postponed 2 (by-numbers _ _ refl refl refl refl refl) refl) refl refl refl,
+      (
+        row nearer (one nearer 2 (by-numbers _ _ refl refl refl refl refl) refl) refl refl refl,
+        (
+          row fewer (one-dropped uneased (fewer .after) 1 refl) refl refl refl,
+          (
+            row together
+                (eased (by-numbers _ _ refl refl refl refl refl) (dropped (eased (by-numbers _ _ refl refl refl refl refl) end)))
+                refl refl refl,
+            tt,
+          ),
+        ),
+      ),
+    ),
+  ),
+)
