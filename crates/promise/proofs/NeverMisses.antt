@@ -27,7 +27,7 @@ use contract.Lifetimes.{Lfts}
 
 -- ---- A verdict that says pass means the rule at every interval
 
-passed : (c : Checked) (v : Verdict) (k : ℕ) → onVerdict c v ≡ asked-verdict.Given (verdict-is.Pass k)
+pub passed : (c : Checked) (v : Verdict) (k : ℕ) → onVerdict c v ≡ asked-verdict.Given (verdict-is.Pass k)
     → (c ≡ checked.Lawful) × (v ≡ verdict-is.Pass k)
 passed checked.Lawful v k h = (refl, cc)
 passed (checked.Refused f at) v k h =
@@ -35,7 +35,7 @@ passed (checked.Refused f at) v k h =
     (let z : _≡_ {A = ℕ} 0 1 = cc in
     omega arith)
 
-pass-means : (p : Plan) (k : ℕ) → askedVerdictSays (verdictAnswer p) ≡ pass k → Passes p
+pub pass-means : (p : Plan) (k : ℕ) → askedVerdictSays (verdictAnswer p) ≡ pass k → Passes p
 unfolding verdictAnswer isPass
 pass-means p k h =
     let both = passed (planCheck p) (verdictOf p) k (asked-pass (verdictAnswer p) k h) in
@@ -54,7 +54,7 @@ refused-no-miss f at o t i h k =
     let z : _≡_ {A = ℕ} 0 1 = cc in
     omega arith
 
-rule-never-misses : (p : Plan) → Passes p → NeverMiss p
+pub rule-never-misses : (p : Plan) → Passes p → NeverMiss p
 rule-never-misses p passes κs rs e o ran t i said = go (runCheck p rs) refl
   where
     go : (c : Checked) → runCheck p rs ≡ c → ⊥

@@ -13,36 +13,36 @@ use Rattle.results.proofs.Permuted.{length-permuted}
 
 -- ---- The lowest digit
 
-digit-le : (m : ℕ) → m % 2 ≤ 1
+pub digit-le : (m : ℕ) → m % 2 ≤ 1
 digit-le m = omega arith
 
 half-below : (n m : ℕ) → m < 2 ^ suc n → m / 2 < 2 ^ n
 half-below n m h = omega (arith, pow-suc 2 n)
 
-permit-first : (m : ℕ) (s : BatteryString) (ss : List BatteryString) → permit m (s ∷ ss) ≡ permitted s (m % 2) ∷ permit (m / 2) ss
+pub permit-first : (m : ℕ) (s : BatteryString) (ss : List BatteryString) → permit m (s ∷ ss) ≡ permitted s (m % 2) ∷ permit (m / 2) ss
 unfolding permit
 permit-first m s ss = refl
 
 -- the digit x below those of k
 module _ (x k : ℕ) (digit : x ≤ 1) where
-  lowest : (x + 2 * k) % 2 ≡ x
+  pub lowest : (x + 2 * k) % 2 ≡ x
   lowest =
       let small : x < 2 = omega arith in
       add-mul-mod-self-left x 2 k ∙ mod-eq-of-lt small
 
-  higher : (x + 2 * k) / 2 ≡ k
+  pub higher : (x + 2 * k) / 2 ≡ k
   higher =
       let small : x < 2 = omega arith in
       let two : 0 < 2 = omega arith in
       add-mul-div-left x k two ∙ ap (λ n. n + k) (div-eq-of-lt small) ∙ zero-add k
 
-  joined-below : (n : ℕ) → k < 2 ^ n → x + 2 * k < 2 ^ suc n
+  pub joined-below : (n : ℕ) → k < 2 ^ n → x + 2 * k < 2 ^ suc n
   joined-below n h = omega (arith, pow-suc 2 n)
 
   joined-ones : ones (x + 2 * k) ≡ x + ones k
   joined-ones = ones-step (x + 2 * k) ∙ ap₂ (λ a b. a + ones b) lowest higher
 
-  joined-permit : (s : BatteryString) (ss : List BatteryString) → permit (x + 2 * k) (s ∷ ss) ≡ permitted s x ∷ permit k ss
+  pub joined-permit : (s : BatteryString) (ss : List BatteryString) → permit (x + 2 * k) (s ∷ ss) ≡ permitted s x ∷ permit k ss
   joined-permit s ss = permit-first (x + 2 * k) s ss ∙ ap₂ (λ a b. permitted s a ∷ permit b ss) lowest higher
 
 -- ---- The two lowest digits

@@ -28,7 +28,7 @@ module _ (p q : Plan) (ok : LawfulPlan p) (easier : EasedPlan p q) where
         ]
 
     -- the new plan need not even be lawful
-    eased-keeps-rule : Passes q
+    pub eased-keeps-rule : Passes q
     eased-keeps-rule l b pos under =
         elim (decLe 1 b) [
           | yes some ↦ with-blocking l b pos some under

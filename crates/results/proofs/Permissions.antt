@@ -3,28 +3,29 @@
 use Rattle.base.proofs.Prelude.{_≡_, refl, sym, ap, _∙_, Bool, true, false}
 use mathlib.Core.List.{flatMap}
 use Rattle.faults.specs.{declared.Checked.Checked, declared.Checked.the-variants.Lawful}
-use Rattle.rules.specs.{Said.{Said, overload, fail, pass, askedVerdictSays}, Plan.{stringLawful, commonMultiple, multipleOf, dMin, dMax}, Demand.{movingCost, holdOf, jobs, blockerHold, blockLimit, need, demand, load, overloaded}, Verdict.{pairsAt, allPairs, broken, compared, judged, verdictOver, isPass}, Search.{permit, withSet, setPasses}, Refusal.{countCheck, runLengthCheck, stringsCheck, multipleCheck, planCheck, setCheck, setAnswer}}
+use Rattle.rules.specs.{Said.{Said, overload, fail, pass, askedVerdictSays}, Plan.{stringLawful, commonMultiple, multipleOf, dMin, dMax}, Demand.{movingCost, holdOf, jobs, blockerHold, blockLimit, need, demand, load, overloaded}, Verdict.{pairsAt, allPairs, broken, compared, judged, verdictOver, verdictOf, isPass}, Search.{permit, withSet}, Refusal.{countCheck, runLengthCheck, costCheck, stringsCheck, multipleCheck, planCheck, verdictAnswer}}
 use Rattle.base.specs.Count.{sumOf, largest, smallest, smallestWith, every, upFrom, leastFrom, firstOf}
 use Rattle.rules.proofs.Worked.{string, paying, planOf, plan, two, nine}
 use Rattle.base.proofs.Lists.{true-not-false}
 use Rattle.laws.proofs.Lawful.{planCheck-lawful}
-use Rattle.demand.proofs.Search.{setPasses-exactly}
-use Rattle.results.specs.Permission.{Change, Hurts}
+use Rattle.demand.proofs.Verdict.{pass-exactly}
+use Rattle.results.specs.Change.{Change, Hurts}
 
 -- ---- The changes
 
 -- P9: its one string is given the permission
 unfoldable pub giving : Change
-giving = record { plan = nine; before = 0; after = 1; said = pass 3; says = overload 0 }
+giving = record { before = withSet nine 0; after = withSet nine 1; said = pass 3; says = overload 0 }
 
 -- P1 to P3: the first string's permission is taken away
 unfoldable pub taking : Change
-taking = record { plan = two; before = 1; after = 0; said = pass 39; says = fail 5 3 6 8 }
+taking = record { before = withSet two 1; after = withSet two 0; said = pass 39; says = fail 5 3 6 8 }
 
 -- ---- What computes
 
 record Seen : Type 0 where
   checked : Checked
+  also : Checked
   passed : Bool
   passes : Bool
   said : Said
@@ -33,15 +34,16 @@ record Seen : Type 0 where
 unfoldable seen : Change → Seen
 seen c =
     record {
-      checked = planCheck (c .plan);
-      passed = setPasses (c .plan) (c .before);
-      passes = setPasses (c .plan) (c .after);
-      said = askedVerdictSays (setAnswer (c .plan) (c .before));
-      says = askedVerdictSays (setAnswer (c .plan) (c .after));
+      checked = planCheck (c .before);
+      also = planCheck (c .after);
+      passed = isPass (verdictOf (c .before));
+      passes = isPass (verdictOf (c .after));
+      said = askedVerdictSays (verdictAnswer (c .before));
+      says = askedVerdictSays (verdictAnswer (c .after));
     }
 
 unfoldable stated : Change → Seen
-stated c = record { checked = Lawful; passed = true; passes = false; said = c .said; says = c .says }
+stated c = record { checked = Lawful; also = Lawful; passed = true; passes = false; said = c .said; says = c .says }
 
 computed : (seen giving ≡ stated giving) × (seen taking ≡ stated taking)
 unfolding
@@ -50,8 +52,8 @@ unfolding
     stringLawful commonMultiple multipleOf dMin dMax
     movingCost holdOf jobs blockerHold blockLimit need demand load overloaded
     pairsAt allPairs broken compared judged verdictOver isPass
-    permit withSet setPasses
-    countCheck runLengthCheck stringsCheck multipleCheck planCheck setCheck setAnswer
+    permit withSet
+    countCheck runLengthCheck costCheck stringsCheck multipleCheck planCheck verdictAnswer
 computed = (refl, refl)
 
 -- ---- What it means
@@ -59,12 +61,12 @@ computed = (refl, refl)
 hurts : (c : Change) → seen c ≡ stated c → Hurts c
 unfolding seen stated
 hurts c e =
-    let ok = planCheck-lawful (c .plan) (ap (λ s. s .checked) e) in
+    let ok = planCheck-lawful (c .before) (ap (λ s. s .checked) e) in
+    let also = planCheck-lawful (c .after) (ap (λ s. s .also) e) in
     record {
-      passed = setPasses-exactly (c .plan) ok (c .before) .0 (ap (λ s. s .passed) e);
-      breaks = λ rule. true-not-false (sym (setPasses-exactly (c .plan) ok (c .after) .1 rule) ∙ ap (λ s. s .passes) e);
-      was = ap (λ s. s .said) e;
-      is = ap (λ s. s .says) e;
+      passed = pass-exactly (c .before) ok .0 (ap (λ s. s .passed) e);
+      breaks = λ rule. true-not-false (sym (pass-exactly (c .after) also .1 rule) ∙ ap (λ s. s .passes) e);
+      both = record { was = ap (λ s. s .said) e; is = ap (λ s. s .says) e };
     }
 
 -- pass turned into overload

@@ -2,6 +2,6 @@ pub mod Order
 pub mod Places
 pub mod Partners
 pub mod Easing
-pub mod Permission
+pub mod Change
 pub mod Blockers
 pub mod Rows
