@@ -285,6 +285,11 @@ int main(void) {
         {960, 60, 396, 0}, {960, 60, 397, 0}, {960, 60, 398, 0}, {960, 60, 399, 0}}};
     same_cost(&worked, 5);
     clocked("search, none by work alone", &worked, 1);
+    // climbed to be slow for a search in which every set gets a quick verdict
+    Plan climbed = {10, 1000, {{945, 7, 926, 0}, {945, 1, 902, 0}, {910, 1, 781, 0}, {910, 1, 901, 0}, {936, 2, 902, 0}, {945, 2, 844, 0},
+        {936, 1, 901, 0}, {270, 1, 2, 0}, {910, 1, 840, 0}, {945, 900, 945, 0}}};
+    same_cost(&climbed, 1);
+    clocked("search, climbed to be slow", &climbed, 1);
     // steps on most days: ten short periods
     Plan dense = {10, 1000, {{7, 1, 7, 0}, {9, 1, 9, 0}, {11, 1, 11, 1}, {16, 1, 16, 0}, {20, 1, 20, 1}, {22, 1, 22, 0}, {24, 1, 24, 0}, {28, 1, 28, 1},
         {30, 1, 30, 0}, {33, 1, 33, 0}}};
