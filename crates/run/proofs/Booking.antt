@@ -1,6 +1,6 @@
 -- Why the book holds the stints of the history so far, and the lent list those that are finished.
---     Booked us list₀ list b    the book b and the list, which was list₀, have the stints of the uses us: those before the last stand in the
---                               list, if it has room for them, and the last, if there is one, is the book's current one
+--     Booked us list₀ list b    the book b and the list, which was list₀, have the stints of the uses us: those before the last stand in
+--                               the list, if it has room for them, and the last, if there is one, is the book's current one
 --     Told us list₀ list k      there are k stints, and the list has them all, if it has room for them
 use Rattle.base.proofs.Prelude.{ℕ, zero, suc, _+_, _*_, _≤_, _<_, _≡_, refl, sym, ap, _∙_, subst, _⊎_, inl, inr, Bool, true, false, cond, _&&_, List, [], _∷_, _++_, append-assoc, append-nil, arith, add-one, eq-eqb, ne-eqb, leb-true, le-leb, lt-leb, eqb, leb, length, take, drop, set, replicate, length-append, length-replicate, length-drop, take-at, drop-drop, drop-at, length-take}
 use mathlib.Core.List.{flatMap}
@@ -43,7 +43,8 @@ five-stored list at a b c d e room =
 
 pub stint-stored : (k : ℕ) (s : Stint) (list : List ℕ) (kind place release : ℕ) → kind ≡ kindOf (s .used) → place ≡ placeUsed (s .used)
     → release ≡ releaseUsed (s .used) → 5 * k + 5 ≤ length list
-    → set (set (set (set (set list (5 * k) (s .first .0)) (5 * k + 1) (s .length .0)) (5 * k + 2) kind) (5 * k + 3) place) (5 * k + 4) release
+    → set (set (set (set (set list (5 * k) (s .first .0)) (5 * k + 1) (s .length .0)) (5 * k + 2) kind) (5 * k + 3) place)
+    (5 * k + 4) release
     ≡ storedAt k s list
 unfolding storedAt
 stint-stored k s list kind place release ki pl re room =
@@ -86,12 +87,12 @@ numbers-more (r ∷ ss) s =
 -- ---- The list
 
 -- the stints ss stand at the front of a list that was list₀, if it has room for them
-pub record Listed (ss : List Stint) (list₀ list : List ℕ) : Type 0 where
+pub record InList (ss : List Stint) (list₀ list : List ℕ) : Type 0 where
   pub size : length list ≡ length list₀
   pub front : 5 * length ss ≤ length list₀ → list ≡ stintsNumbers ss ++ drop (5 * length ss) list₀
 
 -- one more is stored behind them
-module _ (ss : List Stint) (s : Stint) (list₀ list : List ℕ) (so-far : Listed ss list₀ list) where
+module _ (ss : List Stint) (s : Stint) (list₀ list : List ℕ) (so-far : InList ss list₀ list) where
   stored-size : length (storedAt (length ss) s list) ≡ length list
   unfolding storedAt
   stored-size =
@@ -125,7 +126,7 @@ module _ (ss : List Stint) (s : Stint) (list₀ list : List ℕ) (so-far : Liste
       (sym (append-assoc numbers (stintNumbers s) (drop (5 * length (ss ++ (s ∷ []))) list₀))
       ∙ ap (λ l. l ++ drop (5 * length (ss ++ (s ∷ []))) list₀) (sym (numbers-more ss s)))
 
-  listed-more : Listed (ss ++ (s ∷ [])) list₀ (storedAt (length ss) s list)
+  listed-more : InList (ss ++ (s ∷ [])) list₀ (storedAt (length ss) s list)
   listed-more = record { size = stored-size ∙ so-far .size; front = stored-front }
 
 -- ---- The book
@@ -138,7 +139,7 @@ pub record Sayable (u : Use) : Type 0 where
 pub record Booked (us : List Use) (list₀ list : List ℕ) (b : Book) : Type 0 where
   pub before : List Stint
   pub count : b .finished ≡ length before
-  pub listed : Listed before list₀ list
+  pub listed : InList before list₀ list
   pub so-far : ((us ≡ []) × (before ≡ []) × (b .current ≡ stint 0 0 Idle))
       ⊎ ((stintsFrom 0 us ≡ before ++ (b .current ∷ [])) × (1 ≤ b .current .length .0))
   pub short : b .current .length .0 ≤ length us
@@ -158,16 +159,16 @@ booked-start list =
 
 module _ (us : List Use) (list₀ list : List ℕ) (b : Book) (so : Booked us list₀ list b) where
   -- the last is finished
-  pub closed-listed : (closedCount b ≡ length (stintsFrom 0 us)) × Listed (stintsFrom 0 us) list₀ (closedList b list)
+  pub closed-listed : (closedCount b ≡ length (stintsFrom 0 us)) × InList (stintsFrom 0 us) list₀ (closedList b list)
   unfolding closedCount closedList stintsFrom
   closed-listed = go (so .so-far)
     where
       go : ((us ≡ []) × (so .before ≡ []) × (b .current ≡ stint 0 0 Idle))
           ⊎ ((stintsFrom 0 us ≡ so .before ++ (b .current ∷ [])) × (1 ≤ b .current .length .0))
-          → (closedCount b ≡ length (stintsFrom 0 us)) × Listed (stintsFrom 0 us) list₀ (closedList b list)
+          → (closedCount b ≡ length (stintsFrom 0 us)) × InList (stintsFrom 0 us) list₀ (closedList b list)
       go (inl n) =
           let none : b .current .length .0 ≡ 0 = ap (λ s. s .length .0) (n .2) in
-          rw (n .0, eq-eqb _ 0 none) (so .count ∙ ap length (n .1), subst (λ ss. Listed ss list₀ list) (n .1) (so .listed))
+          rw (n .0, eq-eqb _ 0 none) (so .count ∙ ap length (n .1), subst (λ ss. InList ss list₀ list) (n .1) (so .listed))
       go (inr n) =
           let some = ne-eqb (b .current .length .0) 0 (λ z. omega (arith, n .1)) in
           rw (n .0, some) (

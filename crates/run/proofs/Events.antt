@@ -4,7 +4,8 @@
 --     Joining p rs t from slots next        in step 2 of day t: with the releases from next on still to join, the slots become those
 --                                           that step 2 makes; where none has joined since from, they are those of the start of the day
 --     Joined p rs t from slots next         after step 2
---     Until p rs t next until               day until comes after day t, at the end of the run at the latest, and no release from next on before it
+--     Until p rs t next until               day until comes after day t, at the end of the run at the latest, and no release from next
+--                                           on before it
 use Rattle.base.proofs.Prelude.{ℕ, suc, _+_, _-_, _≤_, _<_, _≡_, sym, ap, _∙_, List, map, arith, decLe, ℕ-discrete, le-refl, length, getD, take, drop, set, length-drop, getD-drop}
 use lib.Seq.{take-set-lt}
 use Rattle.days.specs.Days.{days}

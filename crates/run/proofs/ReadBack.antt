@@ -21,14 +21,16 @@ unfolding stintsNumbers flatMap
 number-at [] rest i j h k = absurd (not-suc-le-zero h)
 number-at (s ∷ ss) rest zero j h k =
     let at : 5 * 0 + j ≡ j = omega arith in
-    ap (λ n. getD (stintNumbers s ++ (stintsNumbers ss ++ rest)) n 0) at ∙ List·getD-append (stintNumbers s) (stintsNumbers ss ++ rest) 0 j k
+    ap (λ n. getD (stintNumbers s ++ (stintsNumbers ss ++ rest)) n 0) at
+    ∙ List·getD-append (stintNumbers s) (stintsNumbers ss ++ rest) 0 j k
 number-at (s ∷ ss) rest (suc i) j h k =
     let at : 5 * suc i + j ≡ 5 + (5 * i + j) = omega arith in
     ap (λ n. getD (stintNumbers s ++ (stintsNumbers ss ++ rest)) n 0) at
     ∙ getD-append-add (stintNumbers s) (stintsNumbers ss ++ rest) (5 * i + j) 0
     ∙ number-at ss rest i j (le-of-suc-le-suc h) k
 
-pub read-back : (ss : List Stint) (rest : List ℕ) (i : ℕ) → i < length ss → stintAt (stintsNumbers ss ++ rest) i ≡ getD ss i (stint 0 0 Idle)
+pub read-back : (ss : List Stint) (rest : List ℕ) (i : ℕ) → i < length ss
+    → stintAt (stintsNumbers ss ++ rest) i ≡ getD ss i (stint 0 0 Idle)
 unfolding stintAt
 read-back ss rest i h =
     let numbers = stintsNumbers ss ++ rest in
@@ -61,7 +63,9 @@ all-from (s ∷ ss) f k h =
     shift i = omega arith
 
 pub all-read-back : (ss : List Stint) (rest : List ℕ) → map (stintAt (stintsNumbers ss ++ rest)) (upFrom 0 (length ss)) ≡ ss
-all-read-back ss rest = all-from ss (stintAt (stintsNumbers ss ++ rest)) 0 (λ i h. ap (stintAt (stintsNumbers ss ++ rest)) (same i) ∙ read-back ss rest i h)
+all-read-back ss rest =
+    all-from ss (stintAt (stintsNumbers ss ++ rest)) 0 (λ i h.
+    ap (stintAt (stintsNumbers ss ++ rest)) (same i) ∙ read-back ss rest i h)
   where
     same : (i : ℕ) → 0 + i ≡ i
     same i = omega arith

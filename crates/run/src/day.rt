@@ -1,4 +1,5 @@
-// Steps 3 to 5 of a day, and of the days after it up to the next event. Of the ten slots of an array the first n count, n being the plan's number of strings.
+// Steps 3 to 5 of a day, and of the days after it up to the next event. Of the ten slots of an array the first n count, n being the
+// plan's number of strings.
 use super::change::charge_at;
 use super::change::with_job;
 use days::Day;

@@ -3,8 +3,8 @@
 --     weight job            1 for a job, and 1 more while it has moving left: the stints that may yet end by it
 --     toCome rs t           how many releases come on day t or later
 --     budget p rs t         the stints that may yet end from day t on
---     Credit p rs n t       with n releases: what has been and what may be is within 3 n + 1; and within 3 n, unless day t goes on as the day
---                           before, if no release comes
+--     Credit p rs n t       with n releases: what has been and what may be is within 3 n + 1; and within 3 n, unless day t goes on as
+--                           the day before, if no release comes
 use Rattle.base.proofs.Prelude.{ℕ, zero, suc, _+_, _-_, _*_, _≤_, _<_, _≡_, refl, sym, ap, _∙_, _⊎_, inl, inr, Bool, true, false, cond, List, [], _∷_, _++_, map, arith, ℕ-discrete, decLe, lt-ltb, le-ltb, ltb-true, ltb-false, leb-true, eqb-true, eqb-false, eq-eqb, ne-eqb, le-leb, lt-leb, not-suc-le-zero, le-of-suc-le-suc, ltb, leb, eqb, length, getD, set, length-set}
 use Rattle.days.specs.{declared.Length.Length, Days.days}
 use Rattle.rules.specs.{declared.BatteryString.BatteryString, declared.Plan.Plan, declared.Release.Release, declared.Job.Job, declared.Job.the-variants.{Empty, Waiting, OnBank}, declared.Slot.Slot, declared.Use.Use, Plan.stringsOf, Demand.movingCost, Release.noRelease, Run.{onBank, noneAhead, noSlot, slotAt, putJob, withJob, emptySlot, onOrGone, newSlot, joinFrom, joined, holder, payer, stopped, charged, stop, taken, nextUp, seated, given, useOf, spentJob, spent, morning, stateAt, useOn, history}, Stints.stintsFrom}
@@ -143,7 +143,8 @@ spent-less ss =
       | yes free ↦ rw (spent-free ss free) (omega arith)
       | no held ↦
           let job = slotAt ss (holder ss) .job in
-          rw (spent-held ss held) (omega (arith, change-weight ss (holder ss) (spentJob job) (omega arith) (holder-le ss), spent-weight job))
+          rw (spent-held ss held)
+          (omega (arith, change-weight ss (holder ss) (spentJob job) (omega arith) (holder-le ss), spent-weight job))
     ]
 
 last-day : (job : Job) → onBank job ≡ true → partDays job ≤ 1 → suc (weight (spentJob job)) ≤ weight job

@@ -1,4 +1,5 @@
--- The run from event to event and its stints, in the order in which the parts build on each other; the theorems are in Stretches and RunStints.
+-- The run from event to event and its stints, in the order in which the parts build on each other; the theorems are in Stretches and
+-- RunStints.
 pub mod JoinList
 pub mod EachSlot
 pub mod QuietDay

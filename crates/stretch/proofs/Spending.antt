@@ -201,7 +201,8 @@ module _ (k : ℕ) (ss : List Slot) (h : ℕ) (holds : holder ss ≡ suc h)
       rw (there, keeps-bank, index) at (spent-held after (λ z. omega (arith, keeps-bank))) in
       let then : daysOff (suc k) ss ≡ set ss h (putJob s (spentBy (suc k) (s .job))) = rw index at (off-is (suc k)) in
       rw index
-      (now ∙ set-set ss h (putJob s (spend s)) (putJob s (spentJob (spend s))) ∙ ap (λ j. set ss h (putJob s j)) (still k (s .job) yet .more)
+      (now ∙ set-set ss h (putJob s (spend s)) (putJob s (spentJob (spend s)))
+      ∙ ap (λ j. set ss h (putJob s j)) (still k (s .job) yet .more)
       ∙ sym then)
 
 -- while what the holder is at is not finished, or with nobody on a bank that has been given

@@ -1,5 +1,5 @@
--- What the stints of a list of uses are: they follow each other and spell the uses, neighbours differ, and no list of stints that spells the
--- uses is shorter. Of any list that follows and spells, each day lies in exactly one stint.
+-- What the stints of a list of uses are: they follow each other and spell the uses, neighbours differ, and no list of stints that spells
+-- the uses is shorter. Of any list that follows and spells, each day lies in exactly one stint.
 use Rattle.base.proofs.Prelude.{ℕ, zero, suc, _+_, _-_, _≤_, _<_, _≡_, refl, sym, ap, _∙_, subst, List, [], _∷_, _++_, false, arith, add-one, decLe, not-suc-le-zero, le-of-suc-le-suc, length, length-append, length-replicate, getD, replicate}
 use mathlib.Core.List.{flatMap}
 use lib.ListN.{List·getD-append, getD-replicate}

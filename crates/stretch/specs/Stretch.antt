@@ -4,9 +4,9 @@
 --     spentBy k job         what k days at that make of the job: moving days first, and gone where nothing is left
 --     daysOff k ss          the slots with k days off the job on the bank
 --     morningOn p rs t      the slots after step 4 of day t
---     Stretch p rs t k      the k days from day t on lie between two events, as the slots of the morning of day t and the list have it: k is
---                           at least 1, and at most what the job on the bank is still at, the days to the next release, and the days to
---                           the earliest deadline of a job with something left
+--     Stretch p rs t k      the k days from day t on lie between two events, as the slots of the morning of day t and the list have it:
+--                           k is at least 1, and at most what the job on the bank is still at, the days to the next release, and the
+--                           days to the earliest deadline of a job with something left
 use Prim.Native.Nat.{ℕ, _+_, _-_, _≤_, _<_, max}
 use mathlib.Core.Path.{_≡_}
 use mathlib.Core.Bool.{cond}

@@ -32,7 +32,8 @@ place c =
 -- its slot, in the array
 there : (c : tie.Else1) → slotAt (take (c .before .before .args .n) (c .before .before .args .t1)) (c .before .chosen-place .result)
     ≡ slotAt (c .before .before .args .t1) (c .before .chosen-place .result)
-there c = slotAt-take (c .before .before .args .t1) (c .before .before .args .n) (c .before .chosen-place .result) (omega arith) (place c .0)
+there c =
+    slotAt-take (c .before .before .args .t1) (c .before .before .args .n) (c .before .chosen-place .result) (omega arith) (place c .0)
 
 returns-2 : tie.Need-returns-2
 returns-2 c =

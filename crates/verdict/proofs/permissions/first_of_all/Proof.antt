@@ -19,7 +19,8 @@ passed p n k m ms h fault =
     (λ f. walk-other p n k m ms h (eqb-false (ones m) k f))
 
 abbrev Inv-loop : tie.InvT-loop
-Inv-loop p h n most end known₀ ones set₀ known set = (set ≤ end) × (firstPassing p (setsFrom n ones set ++ setRows n (ones + 1)) ≡ searchOf p)
+Inv-loop p h n most end known₀ ones set₀ known set =
+    (set ≤ end) × (firstPassing p (setsFrom n ones set ++ setRows n (ones + 1)) ≡ searchOf p)
 
 abbrev μ-loop : tie.MeasureT-loop
 μ-loop p h n most end known₀ ones set₀ known set = end - set
@@ -53,7 +54,8 @@ loop-again c =
     let k = at .sets .ones in
     let loop = c .before .before .before .before .loop in
     let below : loop .set < 2 ^ p .n = omega (arith, at .sets .inv .2) in
-    (omega arith, sym (passed p (p .n) k (loop .set) _ below (sym (c .before .before .candidate .ensures) ∙ c .before .if2 .left)) ∙ loop .inv .1)
+    let fails = sym (c .before .before .candidate .ensures) ∙ c .before .if2 .left in
+    (omega arith, sym (passed p (p .n) k (loop .set) _ below fails) ∙ loop .inv .1)
 
 sets-again : tie.Need-sets-again Inv-loop μ-loop Inv-sets μ-sets
 sets-again c =

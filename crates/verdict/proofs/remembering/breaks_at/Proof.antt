@@ -25,7 +25,8 @@ short c = omega (arith, c .before .before .if2 .left)
 kept-small : (c : tie.After-work-within) → c .work-within .result .keepers ≤ 2020000000
 kept-small c =
     let s = start (c .before) in
-    omega (arith, c .work-within .ensures .0, askedBy-le (s .args .p) 0 (s .args .l) (s .pre .0 .lawful) (omega (arith, c .before .before .before .if2 .left)))
+    let most = askedBy-le (s .args .p) 0 (s .args .l) (s .pre .0 .lawful) (omega (arith, c .before .before .before .if2 .left)) in
+    omega (arith, c .work-within .ensures .0, most)
 
 took-small : (c : tie.After-work-within2) → c .work-within2 .result .takers ≤ 2020000000
 took-small c =

@@ -4,11 +4,11 @@ use crate::rules::plan::{Day, Plan};
 use crate::rules::run::{run_watched, Hall, Job, Outcome, Policy};
 
 /// A line for each day up to the first miss or the last release's deadline, and how the run ends.
-pub fn days(plan: &Plan) -> String {
+pub fn told(plan: &Plan) -> String {
     let last = plan
         .releases
         .iter()
-        .map(|release| release.day + plan.strings[release.place as usize - 1].d)
+        .map(|release| plan.deadline(release))
         .max()
         .unwrap_or(0);
     let mut lines = Vec::new();
