@@ -1,4 +1,4 @@
-// A plain C peer of the plan's check, the verdict and the search (document 01, and 02's W-205), and a clock for them and for the desk's entries.
+// A plain C peer of the plan's check, the verdict, the search and the run (document 01, and 02's W-205), and a clock for them and for the desk's entries.
 // It declares what it uses of the C library itself: the kit's compiler builds it for x86-64 on any machine, without the library's headers.
 #include "desk.h"
 struct timespec { long tv_sec, tv_nsec; };
@@ -255,6 +255,173 @@ static void random_plans(int count) {
     printf("%d random plans: %d differ (refused %d, overload %d, fail %d, pass %d)\n", count, bad, kinds[0], kinds[1], kinds[2], kinds[3]);
 }
 
+// ---- The run, from event to event (document 01, "The day-by-day run"): steps 1 to 4 of a day on which something may happen, and then step 5
+// day after day up to the next release, the end of what the job on the bank is at, the next deadline of a job with something left, or N.
+typedef struct { uint32_t day, place, need; } Release;
+typedef struct { uint32_t count; Release of[1000]; } List;
+typedef struct { int on; uint32_t work, moving, release, deadline; } Slot;
+
+// one number for how a run ends: 0 refused, else 1 and day and place of a miss, or 2 and the days of each kind
+static uint64_t missed(uint64_t day, uint64_t place) { return (day * 16 + place) * 4 + 1; }
+static uint64_t ended(uint64_t work, uint64_t moving, uint64_t idle) { return ((work << 20 | moving) << 20 | idle) * 4 + 2; }
+
+static uint64_t our_run(const Numbers *v, const List *l) {
+    uint64_t out[DESK_PLACES];
+    switch (desk_run(v->of, v->count, (const uint32_t *)l->of, 3 * l->count, out, DESK_PLACES)) {
+    case DESK_MISS: return missed(out[0], out[1]);
+    case DESK_CLEAN: return ended(out[0], out[1], out[2]);
+    default: return 0;
+    }
+}
+
+static int lawful_list(const Plan *p, const List *l) {
+    uint32_t last[10] = {0}, seen = 0;
+    for (uint32_t k = 0; k < l->count; k++) {
+        const Release *r = &l->of[k];
+        if (r->place < 1 || r->place > p->n || r->need < 1 || r->need > p->s[r->place - 1].c || r->day >= p->run) return 0;
+        if (k && r->day < l->of[k - 1].day) return 0;
+        if (seen >> r->place & 1 && r->day < last[r->place - 1] + p->s[r->place - 1].t) return 0;
+        last[r->place - 1] = r->day;
+        seen |= 1u << r->place;
+    }
+    return 1;
+}
+
+static uint64_t peer_run(const Plan *p, const List *l) {
+    if (!lawful(p) || !lawful_list(p, l)) return 0;
+    Slot s[10] = {{0}};
+    uint64_t days[3] = {0};
+    uint32_t next = 0, t = 0;
+    int holder = -1;
+    for (;;) {
+        for (uint32_t i = 0; i < p->n; i++) if (s[i].deadline == t && s[i].work + s[i].moving) return missed(t, i + 1);
+        if (t == p->run) return ended(days[0], days[1], days[2]);
+        uint32_t from = next;
+        for (; next < l->count && l->of[next].day == t; next++) {
+            const Release *r = &l->of[next];
+            s[r->place - 1] = (Slot){0, r->need, 0, t, t + p->s[r->place - 1].d};
+        }
+        if (holder >= 0 && from < next) {
+            int payer = -1;
+            for (uint32_t i = 0; i < p->n; i++)
+                if ((int)i != holder && s[i].work && s[i].release == t && p->s[i].x && s[i].deadline < s[holder].deadline
+                    && (payer < 0 || s[i].deadline < s[payer].deadline)) payer = i;
+            if (payer >= 0) { s[payer].moving += p->s[payer].a; holder = -1; }
+        }
+        if (holder < 0)
+            for (uint32_t i = 0; i < p->n; i++)
+                if (s[i].work + s[i].moving && (holder < 0 || s[i].deadline < s[holder].deadline
+                    || (s[i].deadline == s[holder].deadline && s[i].release < s[holder].release))) holder = i;
+        uint32_t until = next < l->count ? l->of[next].day : p->run;
+        for (uint32_t i = 0; i < p->n; i++) if (s[i].work + s[i].moving && s[i].deadline > t && s[i].deadline < until) until = s[i].deadline;
+        uint32_t k = until - t;
+        if (holder < 0) days[2] += k;
+        else {
+            Slot *h = &s[holder];
+            uint32_t *part = h->moving ? &h->moving : &h->work;
+            if (*part < k) k = *part;
+            days[h->moving ? 1 : 0] += k;
+            *part -= k;
+            if (!h->work && !h->moving) holder = -1;
+        }
+        t += k;
+    }
+}
+
+// the same day by day
+static uint64_t daily_run(const Plan *p, const List *l) {
+    if (!lawful(p) || !lawful_list(p, l)) return 0;
+    Slot s[10] = {{0}};
+    uint64_t days[3] = {0};
+    uint32_t next = 0;
+    for (uint32_t t = 0;; t++) {
+        for (uint32_t i = 0; i < p->n; i++) if (s[i].deadline == t && s[i].work + s[i].moving) return missed(t, i + 1);
+        if (t == p->run) return ended(days[0], days[1], days[2]);
+        for (; next < l->count && l->of[next].day == t; next++) s[l->of[next].place - 1] = (Slot){0, l->of[next].need, 0, t, t + p->s[l->of[next].place - 1].d};
+        int holder = -1, payer = -1;
+        for (uint32_t i = 0; i < p->n; i++) if (s[i].on) holder = i;
+        if (holder >= 0)
+            for (uint32_t i = 0; i < p->n; i++)
+                if (!s[i].on && s[i].work && s[i].release == t && p->s[i].x && s[i].deadline < s[holder].deadline
+                    && (payer < 0 || s[i].deadline < s[payer].deadline)) payer = i;
+        if (payer >= 0) { s[payer].moving += p->s[payer].a; s[holder].on = 0; holder = -1; }
+        if (holder < 0)
+            for (uint32_t i = 0; i < p->n; i++)
+                if (s[i].work + s[i].moving && (holder < 0 || s[i].deadline < s[holder].deadline
+                    || (s[i].deadline == s[holder].deadline && s[i].release < s[holder].release))) holder = i;
+        if (holder < 0) { days[2]++; continue; }
+        s[holder].on = 1;
+        if (s[holder].moving) s[holder].moving--, days[1]++; else s[holder].work--, days[0]++;
+        if (!s[holder].work && !s[holder].moving) s[holder].on = 0;
+    }
+}
+
+static void clocked_run(const char *name, const Plan *p, const List *l) {
+    Numbers v = numbers_of(p);
+    double best[2] = {1e9, 1e9};
+    uint64_t said[2] = {0};
+    int times = 20;
+    for (int round = 0; round < 15; round++)
+        for (int who = 0; who < 2; who++) {
+            double start = now();
+            for (int k = 0; k < times; k++) said[who] = who ? our_run(&v, l) : peer_run(p, l);
+            double spent = (now() - start) / times;
+            if (spent < best[who]) best[who] = spent;
+        }
+    printf("%-30s ours %8.4f ms  peer %8.4f (ratio %4.2f)  %s  %s\n", name, best[1] * 1e3, best[0] * 1e3, best[1] / best[0],
+        said[0] == 0 ? "refused" : said[0] % 4 == 1 ? "miss" : "clean", said[0] == said[1] && said[0] == daily_run(p, l) ? "same" : "DIFFERENT");
+}
+
+// small plans with releases of any kind, unlawful ones among them
+static void random_runs(int count) {
+    int bad = 0, kinds[4] = {0};
+    for (int k = 0; k < count; k++) {
+        Plan p = {0};
+        static List l;
+        uint32_t day = 0;
+        p.n = 1 + rand() % 4; p.run = 1 + rand() % 60;
+        for (uint32_t i = 0; i < 10; i++) {
+            String *s = &p.s[i];
+            s->t = 1 + rand() % 12; s->d = 1 + rand() % s->t; s->c = 1 + rand() % s->d; s->x = rand() % 2; s->a = rand() % 4;
+        }
+        uint32_t free[10] = {0};
+        l.count = 0;
+        for (int r = rand() % 12; r > 0; r--) {
+            day += rand() % 4;
+            uint32_t i = rand() % p.n;
+            if (day < free[i] && rand() % 50) continue;
+            l.of[l.count++] = (Release){day, i + 1, 1 + rand() % p.s[i].c};
+            free[i] = day + p.s[i].t;
+        }
+        while (l.count && l.of[l.count - 1].day >= p.run && rand() % 50) l.count--;
+        Numbers v = numbers_of(&p);
+        uint64_t a = daily_run(&p, &l);
+        bad += a != our_run(&v, &l) || a != peer_run(&p, &l);
+        kinds[a % 4]++;
+    }
+    printf("%d random runs: %d differ (refused %d, miss %d, clean %d)\n", count, bad, kinds[0], kinds[1], kinds[2]);
+}
+
+static void runs(void) {
+    static List none, spread, takes, late;
+    Plan p = {10, 1000000, {{0}}};
+    random_runs(20000);
+    for (int i = 0; i < 10; i++) p.s[i] = (String){1000, 1000, 1000, 0, 0};
+    for (uint32_t k = 0; k < 1000; k++) spread.of[k] = (Release){1000 * k, k % 10 + 1, 90};
+    spread.count = 1000;
+    clocked_run("run, no release", &p, &none);
+    clocked_run("run, 1,000 releases", &p, &spread);
+    // two jobs of a thousand days at once, at the end
+    late = spread;
+    for (uint32_t k = 998; k < 1000; k++) late.of[k] = (Release){998000, k % 10 + 1, 1000};
+    clocked_run("run, a miss at the end", &p, &late);
+    // ten jobs, each due before the one on the bank, five days apart; moving a day each
+    for (int i = 0; i < 10; i++) p.s[i] = (String){1000, 50, 1000 - 20 * i, i > 0, 1};
+    for (uint32_t k = 0; k < 1000; k++) takes.of[k] = (Release){10000 * (k / 10) + 5 * (k % 10), k % 10 + 1, 50};
+    takes.count = 1000;
+    clocked_run("run, taken at every release", &p, &takes);
+}
+
 int main(void) {
     random_plans(20000);
     random_periods(20000);
@@ -285,6 +452,11 @@ int main(void) {
         {960, 60, 396, 0}, {960, 60, 397, 0}, {960, 60, 398, 0}, {960, 60, 399, 0}}};
     same_cost(&worked, 5);
     clocked("search, none by work alone", &worked, 1);
+    // climbed to be slow for a search in which every set gets a quick verdict
+    Plan climbed = {10, 1000, {{945, 7, 926, 0}, {945, 1, 902, 0}, {910, 1, 781, 0}, {910, 1, 901, 0}, {936, 2, 902, 0}, {945, 2, 844, 0},
+        {936, 1, 901, 0}, {270, 1, 2, 0}, {910, 1, 840, 0}, {945, 900, 945, 0}}};
+    same_cost(&climbed, 1);
+    clocked("search, climbed to be slow", &climbed, 1);
     // steps on most days: ten short periods
     Plan dense = {10, 1000, {{7, 1, 7, 0}, {9, 1, 9, 0}, {11, 1, 11, 1}, {16, 1, 16, 0}, {20, 1, 20, 1}, {22, 1, 22, 0}, {24, 1, 24, 0}, {28, 1, 28, 1},
         {30, 1, 30, 0}, {33, 1, 33, 0}}};
@@ -301,5 +473,6 @@ int main(void) {
     clocked_quick("quick, periods 7 30 90 365", &page, 1);
     clocked_quick("quick, P1", &first, 1000);
     clocked_quick("quick, P5", &fails, 1000);
+    runs();
     return 0;
 }

@@ -32,8 +32,8 @@
 extern "C" {
 #endif
 
-/* The places that `out` needs, and the bytes that every answer of desk_answer fits in. */
-enum { DESK_PLACES = 4, DESK_PAGE = 256 };
+/* The places that `out` needs, the bytes that every answer of desk_answer fits in, and the numbers that every list of desk_stints fits in. */
+enum { DESK_PLACES = 4, DESK_PAGE = 256, DESK_STINT_LIST = 15005 };
 
 /* The kinds, each with its numbers in the order of out. */
 enum {
@@ -48,7 +48,8 @@ enum {
     DESK_LAWFUL = 8,    /* nothing is refused */
     DESK_NO_ROOM = 9,   /* room is below DESK_PLACES: nothing is written */
     DESK_DATE = 10,     /* year, month, day of the month */
-    DESK_DAY = 11       /* the day number */
+    DESK_DAY = 11,      /* the day number */
+    DESK_STINTS = 12    /* how many stints are listed */
 };
 
 /* The refusal numbers of entries that take numbers, in the order in which they are looked for. */
@@ -59,6 +60,7 @@ enum {
     DESK_RELEASE_TOO_MANY = 7,  /* more than 1,000 releases; with 1,001 */
     DESK_RELEASE_UNLAWFUL = 8,  /* with the place in the list, from 1, of the first release that may not stand there; one that lacks a
                                    number is such a release */
+    DESK_LIST_TOO_SHORT = 9,    /* a list has fewer places than five for each stint; with 0 */
     DESK_NO_SUCH_DATE = 10      /* a date that does not exist, or a day outside the calendar; with 0 */
 };
 
@@ -86,6 +88,14 @@ uint32_t desk_search(const uint32_t *plan, size_t count, uint64_t *out, size_t r
 /* How the run of a plan ends under a list of releases, with the X that the plan carries: DESK_CLEAN, DESK_MISS, or DESK_REFUSED with 4 to
  * 8. listed is 3 for each release. */
 uint32_t desk_run(const uint32_t *plan, size_t count, const uint32_t *releases, size_t listed, uint64_t *out, size_t room);
+
+/* The stints of that run: its days, from the first to the last, in stretches on which the bank did one thing; up to, not into, the day of the
+ * miss where there is one. Five numbers for each go to the head of `list`: first day, length in days, kind, place, release (its place in the
+ * list of releases, from 1). Kind is 0 for idle days, with place and release 0; 1 for work; 2 for moving. DESK_STINTS, or DESK_REFUSED with 4
+ * to 8, then 9; on a refusal the list stays as it is, and so do its places behind the last stint. `size` is the list's places; a run has at
+ * most 3 stints for each release and 1 more, so that DESK_STINT_LIST places are always enough. */
+uint32_t desk_stints(const uint32_t *plan, size_t count, const uint32_t *releases, size_t listed, uint32_t *list, size_t size,
+                     uint64_t *out, size_t room);
 
 /* The lines that ./desk writes for a plan file: `text` is the file, `length` bytes, and need not end in 0. The lines go to the head of
  * `page`, and their length is returned; the page's later bytes stay, and no 0 is put behind the lines. Where they do not fit into `size`

@@ -34,6 +34,7 @@ static void say(uint32_t kind, const uint64_t out[DESK_PLACES]) {
     case DESK_NO_ROOM: puts("no room"); break;
     case DESK_DATE: printf("date %04" PRIu64 "-%02" PRIu64 "-%02" PRIu64 "\n", out[0], out[1], out[2]); break;
     case DESK_DAY: printf("day %" PRIu64 "\n", out[0]); break;
+    case DESK_STINTS: printf("stints %" PRIu64 "\n", out[0]); break;
     }
 }
 
@@ -56,6 +57,14 @@ int main(int words, char **word) {
     say(desk_verdict(plan, COUNT(plan), out, COUNT(out)), out);
     say(desk_search(plan, COUNT(plan), out, COUNT(out)), out);
     say(desk_run(plan, COUNT(plan), releases, COUNT(releases), out, COUNT(out)), out);
+
+    puts("# its stints: first day, length, kind, place, release; with a list that is too short");
+    static uint32_t list[DESK_STINT_LIST];
+    say(desk_stints(plan, COUNT(plan), releases, COUNT(releases), list, COUNT(list), out, COUNT(out)), out);
+    for (uint64_t i = 0; i < out[0]; i++)
+        printf("%" PRIu32 " %" PRIu32 " %" PRIu32 " %" PRIu32 " %" PRIu32 "\n", list[5 * i], list[5 * i + 1], list[5 * i + 2], list[5 * i + 3],
+               list[5 * i + 4]);
+    say(desk_stints(plan, COUNT(plan), releases, COUNT(releases), list, 24, out, COUNT(out)), out);
 
     puts("# by the quick verdict; with nobody permitted; with both permitted");
     say(desk_quick(plan, COUNT(plan), out, COUNT(out)), out);

@@ -18,6 +18,16 @@ mod desk {
                 out: *mut u64,
                 room: usize,
             ) -> u32;
+            pub fn desk_stints(
+                plan: *const u32,
+                count: usize,
+                releases: *const u32,
+                listed: usize,
+                list: *mut u32,
+                size: usize,
+                out: *mut u64,
+                room: usize,
+            ) -> u32;
             pub fn desk_answer(text: *const u8, length: usize, page: *mut u8, size: usize) -> usize;
             pub fn desk_date(day: u32, out: *mut u64, room: usize) -> u32;
             pub fn desk_day(year: u32, month: u32, day: u32, out: *mut u64, room: usize) -> u32;
@@ -69,6 +79,21 @@ mod desk {
         })
     }
 
+    pub fn stints(plan: &[u32], releases: &[u32], list: &mut [u32]) -> Told {
+        told(|out, room| unsafe {
+            entry::desk_stints(
+                plan.as_ptr(),
+                plan.len(),
+                releases.as_ptr(),
+                releases.len(),
+                list.as_mut_ptr(),
+                list.len(),
+                out,
+                room,
+            )
+        })
+    }
+
     pub fn answer(text: &[u8]) -> Vec<u8> {
         let mut page = vec![0; 256];
         let length = unsafe { entry::desk_answer(text.as_ptr(), text.len(), page.as_mut_ptr(), page.len()) };
@@ -109,6 +134,7 @@ fn say(Told(kind, [a, b, c, d]): Told) {
         9 => println!("no room"),
         10 => println!("date {:04}-{:02}-{:02}", a, b, c),
         11 => println!("day {}", a),
+        12 => println!("stints {}", a),
         _ => unreachable!(),
     }
 }
@@ -118,6 +144,16 @@ fn main() -> std::io::Result<()> {
     say(desk::verdict(&PLAN));
     say(desk::search(&PLAN));
     say(desk::run(&PLAN, &RELEASES));
+
+    println!("# its stints: first day, length, kind, place, release; with a list that is too short");
+    let mut list = [0; 15005];
+    let listed = desk::stints(&PLAN, &RELEASES, &mut list);
+    let stints = listed.1[0] as usize;
+    say(listed);
+    for stint in list.chunks(5).take(stints) {
+        println!("{} {} {} {} {}", stint[0], stint[1], stint[2], stint[3], stint[4]);
+    }
+    say(desk::stints(&PLAN, &RELEASES, &mut list[..24]));
 
     println!("# by the quick verdict; with nobody permitted; with both permitted");
     say(desk::quick(&PLAN));

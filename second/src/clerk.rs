@@ -25,6 +25,10 @@ struct Question {
     kind: &'static str,
     command: String,
     answer: Vec<u8>,
+    /// What is said on standard error.
+    beside: String,
+    /// Where another file is that the command names.
+    beside_file: Option<PathBuf>,
 }
 
 /// Compares the files of these numbers. Without a difference none of them is needed any more.
@@ -52,6 +56,9 @@ pub fn compare_batch(
     if job.keep.is_none() {
         for file in files {
             fs::remove_file(folder.join(name(subject, file)))?;
+        }
+        for other in questions.iter().filter_map(|one| one.beside_file.as_ref()) {
+            fs::remove_file(other)?;
         }
     }
     Ok(tally)
@@ -82,17 +89,23 @@ fn prepare(
     let mut chance = Chance::new(!job.seed, file);
     let asked = questions::about(subject, &mut chance, &made.text, &name)
         .map_err(|what| Stop::found(job, file, kind, &path, what, ""))?;
-    let question = |one: questions::Asked| {
+    let mut questions = Vec::new();
+    for one in asked {
         tally.count_saved(&one.answer);
-        Question {
+        questions.push(Question {
             file,
             path: path.clone(),
             kind,
             command: one.command,
             answer: written(one.answer),
+            beside: one.beside,
+            beside_file: one.beside_file.as_ref().map(|(name, _)| folder.join(name)),
+        });
+        if let Some((name, bytes)) = &one.beside_file {
+            fs::write(folder.join(name), bytes)?;
         }
-    };
-    Ok(asked.into_iter().map(question).collect())
+    }
+    Ok(questions)
 }
 
 /// Many questions to a start.
@@ -180,7 +193,8 @@ fn compare(
             None => return Err(differs(job, question, rest, output)),
         }
     }
-    if rest.is_empty() && output.stderr.is_empty() {
+    let beside: String = questions.iter().map(|one| one.beside.as_str()).collect();
+    if rest.is_empty() && output.stderr == beside.as_bytes() {
         return Ok(());
     }
     Err(differs(job, &questions[questions.len() - 1], rest, output))
@@ -191,9 +205,13 @@ fn differs(job: &Comparison, question: &Question, given: &[u8], output: &Output)
     const SHOWN: usize = 2_000;
     let shown =
         |bytes: &[u8]| String::from_utf8_lossy(&bytes[..bytes.len().min(SHOWN)]).into_owned();
+    // the file of the question is kept; another one that its command names is shown here
+    let other = question.beside_file.as_ref();
+    let other = other.and_then(|path| fs::read(path).ok());
     let lines = format!(
-        "{}\nexpected:\n{}\ngiven:\n{}\n({}) {}",
+        "{}\n{}expected:\n{}\ngiven:\n{}\n({}) {}",
         question.command,
+        other.map_or(String::new(), |bytes| shown(&bytes) + "\n"),
         shown(&question.answer),
         shown(given),
         output.status,

@@ -1,19 +1,22 @@
 //! All batches over the machine's cores, up to the first stop.
 
 use crate::batch;
+use crate::calendar::answer::Calendar;
 use crate::clerk;
+use crate::crew;
 use crate::options::{Comparison, Program};
 use crate::stop::Stop;
 use crate::tally::Tally;
 use std::fs;
 use std::io;
+use std::ops::Range;
 use std::path::{Path, PathBuf};
 use std::sync::atomic::{AtomicU64, Ordering};
 use std::sync::{Mutex, MutexGuard};
 use std::thread;
 
 /// What the threads share.
-struct Board {
+struct Shared {
     /// The first file of the next batch.
     next: AtomicU64,
     results: Mutex<Results>,
@@ -47,39 +50,54 @@ fn folder(job: &Comparison) -> PathBuf {
 }
 
 fn run_threads(job: &Comparison, folder: &Path) -> Results {
-    let board = Board {
+    let shared = Shared {
         next: AtomicU64::new(0),
         results: Mutex::default(),
     };
     let threads = thread::available_parallelism().map_or(1, usize::from);
     thread::scope(|scope| {
         for _ in 0..threads {
-            scope.spawn(|| work(job, folder, &board));
+            scope.spawn(|| work(job, folder, &shared));
         }
     });
-    board.results.into_inner().expect("every thread has ended")
+    shared.results.into_inner().expect("every thread has ended")
 }
 
 /// One thread: takes batches in order until none is left or one has stopped.
-fn work(job: &Comparison, folder: &Path, board: &Board) {
-    while board.results().stop.is_none() {
-        let first = board.next.fetch_add(job.batch, Ordering::Relaxed);
+fn work(job: &Comparison, folder: &Path, shared: &Shared) {
+    let compare_batch = comparing(job, folder);
+    while shared.results().stop.is_none() {
+        let first = shared.next.fetch_add(job.batch, Ordering::Relaxed);
         if first >= job.files {
             return;
         }
-        let files = first..job.files.min(first + job.batch);
-        let compared = match &job.program {
-            Program::Desk(desk) => batch::compare_batch(job, desk, folder, files),
-            Program::Clerk(clerk, about) => clerk::compare_batch(job, clerk, *about, folder, files),
-        };
-        match compared {
-            Ok(tally) => board.results().tally.add(&tally),
-            Err(stop) => board.results().keep_first(first, stop),
+        match compare_batch(first..job.files.min(first + job.batch)) {
+            Ok(tally) => shared.results().tally.add(&tally),
+            Err(stop) => shared.results().keep_first(first, stop),
         }
     }
 }
 
-impl Board {
+type Batch<'a> = dyn Fn(Range<u64>) -> Result<Tally, Stop> + 'a;
+
+/// How the files of these numbers are compared with the program that is asked.
+fn comparing<'a>(job: &'a Comparison, folder: &'a Path) -> Box<Batch<'a>> {
+    match &job.program {
+        Program::Desk(desk) => {
+            Box::new(move |files| batch::compare_batch(job, desk, folder, files))
+        }
+        Program::Clerk(clerk, about) => {
+            Box::new(move |files| clerk::compare_batch(job, clerk, *about, folder, files))
+        }
+        Program::Board(board) => {
+            // torn off once for all batches of a thread
+            let calendar = Calendar::new();
+            Box::new(move |files| crew::batch::compare_batch(job, board, &calendar, folder, files))
+        }
+    }
+}
+
+impl Shared {
     fn results(&self) -> MutexGuard<'_, Results> {
         self.results.lock().expect("no other thread has failed")
     }

@@ -74,10 +74,27 @@ const AT_THE_REGISTER: [(&[&str], &str); 4] = [
     ),
 ];
 
+/// The same of the word for runs.
+const AT_THE_RUN: [(&[&str], &str); 2] = [
+    (&["run", "x.plan"], "cannot read x.plan: no such file"),
+    (&["run", "."], "cannot read .: a folder"),
+];
+
+/// The same of the words for visits.
+const AT_THE_VISITS: [(&[&str], &str); 2] = [
+    (&["visits", "x.plan"], "cannot read x.plan: no such file"),
+    (
+        &["check-visits", "x.plan", "x.visits"],
+        "cannot read x.plan: no such file",
+    ),
+];
+
 pub fn compare(clerk: &Path, subject: Subject, folder: &Path) -> Result<(), Stop> {
     compare_each(clerk, folder, &COMPLAINTS)?;
     match subject {
         Subject::Register | Subject::Table => compare_each(clerk, folder, &AT_THE_REGISTER),
+        Subject::Run => compare_each(clerk, folder, &AT_THE_RUN),
+        Subject::Visits => compare_each(clerk, folder, &AT_THE_VISITS),
         _ => Ok(()),
     }
 }

@@ -1,12 +1,14 @@
 //! A second program, written from documents 01 and 02 alone, that the desk and the clerk are compared with.
 
 mod batch;
-mod board;
 mod calendar;
 mod chance;
 mod clerk;
 mod compare;
 mod complaints;
+mod crew;
+mod days;
+mod decimal;
 mod desk;
 mod edges;
 mod faults;
@@ -17,18 +19,24 @@ mod orders;
 mod plans;
 mod questions;
 mod register;
+mod rows;
 mod rules;
+mod running;
 mod saving;
 mod selftest;
 mod showing;
 mod stop;
 mod tally;
+mod texts;
 mod turning;
+mod visits;
 mod writing;
 mod wrong;
 
+use calendar::answer::Calendar;
 use calendar::ask::{first_difference, print_all, Asked};
 use compare::compare_all;
+use crew::answer::{boarded, written};
 use options::{task, Comparison, Task, USAGE};
 use register::answer::{registered, tabled};
 use rules::answer::Answer;
@@ -36,10 +44,11 @@ use rules::frames::{read, Refusal};
 use rules::plan::Plan;
 use rules::rule::{all_breaks, PAGE};
 use saving::Saved;
-use std::io::{ErrorKind, Write};
+use std::io::{ErrorKind, Read, Write};
 use std::path::Path;
 use std::process::ExitCode;
 use stop::Stop;
+use visits::answer::{checked, visited};
 
 /// Status where a file is refused.
 const REFUSED: u8 = 1;
@@ -52,7 +61,11 @@ fn main() -> ExitCode {
         Some(Task::Answer(path)) => show_answer(&path, Answer::of_text),
         Some(Task::Register(path, run)) => show_text(&path, |text| registered(text, run)),
         Some(Task::Table(path)) => show_text(&path, tabled),
-        Some(Task::Days(path)) => show_plan(&path, board::days),
+        Some(Task::Run(path)) => show_plan(&path, running::told),
+        Some(Task::Visits(path)) => show_text(&path, visited),
+        Some(Task::CheckVisits(plan, visits)) => check_visits(&plan, &visits),
+        Some(Task::Board(path)) => show_board(&path),
+        Some(Task::Days(path)) => show_plan(&path, days::told),
         Some(Task::Breaks(path)) => show_plan(&path, breaks),
         Some(Task::Wrong(mistake, path)) => show_answer(&path, |text| wrong::answer(mistake, text)),
         Some(Task::Selftest) => run_selftest(),
@@ -102,6 +115,22 @@ fn show_text(path: &Path, said: impl Fn(&[u8]) -> Saved) -> ExitCode {
     show(path, |text| said(text).map(lines))
 }
 
+/// The board of a plan file, the start date and the diary on standard input; a refusal is its bare number.
+fn show_board(path: &Path) -> ExitCode {
+    let mut input = Vec::new();
+    if let Err(error) = std::io::stdin().read_to_end(&mut input) {
+        return unable(&error.to_string());
+    }
+    match std::fs::read(path) {
+        Ok(plan) => {
+            let board = boarded(&Calendar::new(), &plan, &input);
+            let status = board.as_ref().map_or(REFUSED, |_| 0);
+            shown(&written(board), ExitCode::from(status))
+        }
+        Err(error) => unable(&format!("{}: {error}", path.display())),
+    }
+}
+
 fn show_plan(path: &Path, lines: impl Fn(&Plan) -> String) -> ExitCode {
     show(path, |text| read(text).map(|plan| lines(&plan)))
 }
@@ -117,6 +146,13 @@ fn show(path: &Path, said: impl Fn(&[u8]) -> Result<String, Refusal>) -> ExitCod
             ),
         },
         Err(error) => unable(&format!("{}: {error}", path.display())),
+    }
+}
+
+fn check_visits(plan: &Path, visits: &Path) -> ExitCode {
+    match std::fs::read(visits) {
+        Ok(list) => show_text(plan, |plan| checked(plan, &list)),
+        Err(error) => unable(&format!("{}: {error}", visits.display())),
     }
 }
 

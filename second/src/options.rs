@@ -10,10 +10,16 @@ use std::str::FromStr;
 
 pub const USAGE: &str =
     "usage: second --desk PATH [--files N] [--seed S] [--batch B] [--keep DIR] [--tally]
-       second --clerk PATH [--about save|quick|show|turn|register|table] [--files N] [--seed S] [--batch B] [--keep DIR] [--tally]
+       second --clerk PATH [--about SUBJECT] [--files N] [--seed S] [--batch B] [--keep DIR] [--tally]
+              a SUBJECT is one of save quick show turn register table run visits
+       second --boards PATH [--files N] [--seed S] [--batch B] [--keep DIR] [--tally]
        second --answer FILE
        second --register FILE N
        second --table FILE
+       second --run FILE
+       second --visits FILE
+       second --check-visits FILE VISITS
+       second --board FILE < START-DATE-AND-DIARY
        second --days FILE
        second --breaks FILE
        second --wrong equation-7|one-by-one|stop-at-dmax|load-equal-to-h|start-early|stopped-pays|one-week|who-is-interrupted FILE
@@ -28,6 +34,10 @@ pub enum Task {
     Answer(PathBuf),
     Register(PathBuf, RunLength),
     Table(PathBuf),
+    Run(PathBuf),
+    Visits(PathBuf),
+    CheckVisits(PathBuf, PathBuf),
+    Board(PathBuf),
     Days(PathBuf),
     Breaks(PathBuf),
     Wrong(Mistake, PathBuf),
@@ -42,6 +52,8 @@ pub enum Task {
 pub enum Program {
     Desk(PathBuf),
     Clerk(PathBuf, Subject),
+    /// The crew's board.
+    Board(PathBuf),
 }
 
 /// What the clerk is asked about.
@@ -59,6 +71,10 @@ pub enum Subject {
     Register,
     /// Plans' strings written as the register has them.
     Table,
+    /// Runs told stint by stint.
+    Run,
+    /// Visits of our own runs, and visit lists.
+    Visits,
 }
 
 impl FromStr for Subject {
@@ -72,6 +88,8 @@ impl FromStr for Subject {
             "turn" => Ok(Subject::Turn),
             "register" => Ok(Subject::Register),
             "table" => Ok(Subject::Table),
+            "run" => Ok(Subject::Run),
+            "visits" => Ok(Subject::Visits),
             _ => Err(()),
         }
     }
@@ -98,7 +116,8 @@ impl Comparison {
 
 /// Reads the arguments; nothing if they ask for no task or have a word too many.
 pub fn task(mut words: impl Iterator<Item = String>) -> Option<Task> {
-    let (mut desk, mut clerk, mut about) = (None, None, Subject::Save);
+    let (mut desk, mut clerk, mut board) = (None, None, None);
+    let mut about = Subject::Save;
     let (mut files, mut seed, mut batch) = (50_000, 1, 200);
     let (mut keep, mut tally) = (None, false);
     while let Some(word) = words.next() {
@@ -106,6 +125,12 @@ pub fn task(mut words: impl Iterator<Item = String>) -> Option<Task> {
             "--answer" => return words.next().map(|path| Task::Answer(path.into())),
             "--register" => return Some(Task::Register(value(&mut words)?, value(&mut words)?)),
             "--table" => return words.next().map(|path| Task::Table(path.into())),
+            "--run" => return words.next().map(|path| Task::Run(path.into())),
+            "--visits" => return words.next().map(|path| Task::Visits(path.into())),
+            "--check-visits" => {
+                return Some(Task::CheckVisits(value(&mut words)?, value(&mut words)?))
+            }
+            "--board" => return words.next().map(|path| Task::Board(path.into())),
             "--days" => return words.next().map(|path| Task::Days(path.into())),
             "--breaks" => return words.next().map(|path| Task::Breaks(path.into())),
             "--wrong" => return Some(Task::Wrong(value(&mut words)?, value(&mut words)?)),
@@ -116,6 +141,7 @@ pub fn task(mut words: impl Iterator<Item = String>) -> Option<Task> {
             "--orders" => return reordered(words).map(Task::Orders),
             "--desk" => desk = Some(value(&mut words)?),
             "--clerk" => clerk = Some(value(&mut words)?),
+            "--boards" => board = Some(value(&mut words)?),
             "--about" => about = value(&mut words)?,
             "--files" => files = value(&mut words)?,
             "--seed" => seed = value(&mut words)?,
@@ -128,9 +154,10 @@ pub fn task(mut words: impl Iterator<Item = String>) -> Option<Task> {
     if files == 0 || batch == 0 {
         return None;
     }
-    let program = match (desk, clerk) {
-        (Some(desk), None) => Program::Desk(desk),
-        (None, Some(clerk)) => Program::Clerk(clerk, about),
+    let program = match (desk, clerk, board) {
+        (Some(desk), None, None) => Program::Desk(desk),
+        (None, Some(clerk), None) => Program::Clerk(clerk, about),
+        (None, None, Some(board)) => Program::Board(board),
         _ => return None,
     };
     Some(Task::Compare(Comparison {

@@ -4,6 +4,7 @@ use crate::chance::Chance;
 use crate::edges::pages;
 use crate::mix::{make, make_at_the_border, make_to_turn, Made};
 use crate::options::Subject;
+use crate::plans::runs;
 use crate::register::answer::{registered, tabled};
 use crate::register::run_length::{any_words, RunLength};
 use crate::register::{exports, plans, reader};
@@ -11,15 +12,33 @@ use crate::rules::frames::read;
 use crate::rules::plan::Plan;
 use crate::rules::quick::quick;
 use crate::rules::rule::verdict;
+use crate::running;
 use crate::saving::{into_page, saved, Saved};
 use crate::showing::shown;
 use crate::turning::turned;
+use crate::visits;
 use crate::writing::Version;
 
 /// The words of a command about a file of some name, and its answer.
 pub struct Asked {
     pub command: String,
     pub answer: Saved,
+    /// The line on standard error, where there is one.
+    pub beside: String,
+    /// The name and the bytes of another file that the command names.
+    pub beside_file: Option<(String, Vec<u8>)>,
+}
+
+impl Asked {
+    /// About one file, with nothing to be said on standard error.
+    pub fn new(command: String, answer: Saved) -> Asked {
+        Asked {
+            command,
+            answer,
+            beside: String::new(),
+            beside_file: None,
+        }
+    }
 }
 
 /// The file of this number that the subject asks about.
@@ -30,6 +49,8 @@ pub fn file(subject: Subject, seed: u64, file: u64) -> Made {
         Subject::Turn => make_to_turn(seed, file),
         Subject::Register => exports::make(seed, file),
         Subject::Table => plans::make(seed, file),
+        Subject::Run => runs::make(seed, file),
+        Subject::Visits => visits::plans::make(seed, file),
     }
 }
 
@@ -47,6 +68,8 @@ pub fn about(
         Subject::Turn => about_turning(text, name),
         Subject::Register => about_registering(chance, text, name),
         Subject::Table => about_tables(chance, text, name),
+        Subject::Run => about_runs(text, name),
+        Subject::Visits => visits::ask::about(chance, text, name),
     }
 }
 
@@ -69,13 +92,10 @@ fn about_saving(chance: &mut Chance, text: &[u8], name: &str) -> Result<Vec<Aske
 
 /// All that is written for a file, and the same into pages about its edges.
 fn alone_and_in_pages(chance: &mut Chance, word: &str, name: &str, whole: &Saved) -> Vec<Asked> {
-    let mut asked = vec![Asked {
-        command: format!("{word} {name}"),
-        answer: whole.clone(),
-    }];
-    asked.extend(pages(chance, whole).into_iter().map(|page| Asked {
-        command: format!("{word} {name} {} {}", page.size, page.place),
-        answer: into_page(whole, page),
+    let mut asked = vec![Asked::new(format!("{word} {name}"), whole.clone())];
+    asked.extend(pages(chance, whole).into_iter().map(|page| {
+        let command = format!("{word} {name} {} {}", page.size, page.place);
+        Asked::new(command, into_page(whole, page))
     }));
     asked
 }
@@ -99,10 +119,7 @@ fn about_registering(
                 return Err("the file of an export says another plan");
             }
         }
-        asked.push(Asked {
-            command: format!("register {name} {word}"),
-            answer,
-        });
+        asked.push(Asked::new(format!("register {name} {word}"), answer));
     }
     Ok(asked)
 }
@@ -132,19 +149,22 @@ fn about_turning(text: &[u8], name: &str) -> Result<Vec<Asked>, &'static str> {
                 return Err("a file turned and turned back is another");
             }
         }
-        asked.push(Asked {
-            command: format!("{word} {name}"),
-            answer,
-        });
+        asked.push(Asked::new(format!("{word} {name}"), answer));
     }
     Ok(asked)
 }
 
 fn about_showing(text: &[u8], name: &str) -> Vec<Asked> {
-    vec![Asked {
-        command: format!("show {name}"),
-        answer: read(text).map(|plan| shown(&plan, cycle(&plan)).into_bytes()),
-    }]
+    let answer = read(text).map(|plan| shown(&plan, cycle(&plan)).into_bytes());
+    vec![Asked::new(format!("show {name}"), answer)]
+}
+
+/// The stints of a lawful file hold what this program claims of them.
+fn about_runs(text: &[u8], name: &str) -> Result<Vec<Asked>, &'static str> {
+    if let Some(what) = read(text).ok().as_ref().and_then(running::claim_broken) {
+        return Err(what);
+    }
+    Ok(vec![Asked::new(format!("run {name}"), running::ran(text))])
 }
 
 /// The two engines agree on all but the count of pairs.
@@ -154,10 +174,7 @@ fn about_quick_verdicts(text: &[u8], name: &str) -> Result<Vec<Asked>, &'static 
         return Err("the quick verdict is another");
     }
     let line = |plan: Plan| format!("{}\n", quick(&plan, cycle(&plan))).into_bytes();
-    Ok(vec![Asked {
-        command: format!("quick {name}"),
-        answer: plan.map(line),
-    }])
+    Ok(vec![Asked::new(format!("quick {name}"), plan.map(line))])
 }
 
 fn engines_agree(plan: &Plan) -> bool {

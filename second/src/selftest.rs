@@ -2,6 +2,7 @@
 
 use crate::calendar::answer::Calendar;
 use crate::chance::Chance;
+use crate::crew;
 use crate::misses::plans::any_small_plan;
 use crate::orders::answer::{matched, Matched};
 use crate::register;
@@ -13,9 +14,11 @@ use crate::rules::quick::quick;
 use crate::rules::rule::{passes_by, verdict, Verdict};
 use crate::rules::run::{run, Outcome};
 use crate::rules::search::search;
+use crate::running::{claim_broken, told};
 use crate::saving::{into_page, saved, written, Page};
 use crate::showing::shown;
 use crate::turning::turned;
+use crate::visits;
 use crate::writing::{self, Version};
 use crate::wrong::{self, Mistake};
 
@@ -26,6 +29,7 @@ pub fn wrong_cases() -> Vec<&'static str> {
         quick_verdicts(),
         searches(),
         runs(),
+        stints(),
         readings(),
         versions(),
         writings(),
@@ -33,8 +37,10 @@ pub fn wrong_cases() -> Vec<&'static str> {
         orders(),
         showings(),
         register::checks::cases(),
+        visits::checks::cases(),
         dates(),
         beside_dates(),
+        crew::checks::cases(),
         mistakes(),
     ]
     .concat();
@@ -142,10 +148,6 @@ fn searches() -> Cases {
 }
 
 fn runs() -> Cases {
-    let mut plan = three_strings().with_set(2);
-    plan.releases = [(0, 3, 2), (1, 2, 1), (2, 1, 3)]
-        .map(|(day, place, need)| Release { place, day, need })
-        .to_vec();
     let roof = read(ROOF).map(|plan| run(&plan));
     let for_all = |moving| {
         read(ROOF).map(|mut plan| {
@@ -161,12 +163,80 @@ fn runs() -> Cases {
         })
     };
     vec![
-        ("P6", run(&plan) == Outcome::Miss { day: 8, place: 1 }),
+        (
+            "P6",
+            run(&missing_plan()) == Outcome::Miss { day: 8, place: 1 },
+        ),
         ("the roof string pays four", roof == clean(5)),
         ("with one day for all", for_all(1) == clean(2)),
         (
             "with four days for all",
             for_all(4) == Ok(Outcome::Miss { day: 15, place: 1 }),
+        ),
+    ]
+}
+
+/// P6 as a plan.
+fn missing_plan() -> Plan {
+    let mut plan = three_strings().with_set(2);
+    plan.releases = [(0, 3, 2), (1, 2, 1), (2, 1, 3)]
+        .map(|(day, place, need)| Release { place, day, need })
+        .to_vec();
+    plan
+}
+
+/// Found by hand from the five steps of a day.
+fn stints() -> Cases {
+    const SAMPLE_RUN: &str = "day 0 place 2 work release 1\nday 1 place 1 move release 2\n\
+        days 2 to 4 place 1 work release 2\ndays 5 to 8 place 2 work release 1\ndays 9 to 19 idle\n\
+        run clean work 8 move 1 idle 11\n";
+    const P6_RUN: &str = "day 0 place 3 work release 1\ndays 1 to 5 place 2 move release 2\n\
+        day 6 place 2 work release 2\nday 7 place 1 work release 3\nrun miss day 8 place 1\n";
+    const DAILY: &str = "day 0 place 1 work release 1\nday 1 place 1 work release 2\nday 2 idle\n\
+        run clean work 2 move 0 idle 1\n";
+    let says = |plan: &Plan, lines: &str| told(plan) == lines && claim_broken(plan).is_none();
+    let sample = read(SAMPLE).expect("the sample is lawful");
+    let at_the_end = |days| Plan {
+        days,
+        ..missing_plan()
+    };
+    let mut daily = plan(&[(1, 1, 1)], 0);
+    daily.days = 3;
+    daily.releases = [0, 1]
+        .map(|day| Release {
+            place: 1,
+            day,
+            need: 1,
+        })
+        .to_vec();
+    let nothing = |days| Plan {
+        days,
+        ..plan(&[(10, 3, 5)], 1)
+    };
+    let idle = |line: &str, days| format!("{line}\nrun clean work 0 move 0 idle {days}\n");
+    vec![
+        ("the sample's stints", says(&sample, SAMPLE_RUN)),
+        ("P6's stints", says(&missing_plan(), P6_RUN)),
+        ("a miss after the last day", says(&at_the_end(8), P6_RUN)),
+        (
+            "the run's end before the miss",
+            says(
+                &at_the_end(7),
+                "day 0 place 3 work release 1\ndays 1 to 5 place 2 move release 2\n\
+                 day 6 place 2 work release 2\nrun clean work 2 move 5 idle 0\n",
+            ),
+        ),
+        ("one place, two releases", says(&daily, DAILY)),
+        (
+            "a day without releases",
+            says(&nothing(1), &idle("day 0 idle", 1)),
+        ),
+        (
+            "a million days without releases",
+            says(
+                &nothing(1_000_000),
+                &idle("days 0 to 999999 idle", 1_000_000),
+            ),
         ),
     ]
 }

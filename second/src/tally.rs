@@ -13,7 +13,7 @@ pub struct Tally {
     /// By the kind's name.
     kinds: BTreeMap<&'static str, u64>,
     /// By refusal number; the first is not used.
-    refused: [u64; 14],
+    refused: [u64; 16],
     /// Texts, pages and lines that the clerk has to write.
     saved: u64,
     overload: u64,

@@ -9,6 +9,7 @@ mod miss;
 mod orders;
 mod plans;
 mod quick;
+mod runs;
 mod save;
 mod say;
 mod show;

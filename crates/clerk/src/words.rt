@@ -8,6 +8,7 @@ use super::export::register_file;
 use super::miss::miss;
 use super::orders::same_strings;
 use super::quick::quick_verdict;
+use super::runs::show_run;
 use super::save::save;
 use super::say;
 use super::show::show;
@@ -25,6 +26,8 @@ pub(crate) fn answer(command: &[u8]) -> u8 {
         quick_verdict(command)
     } else if same(first, b"miss") {
         miss(command)
+    } else if same(first, b"run") {
+        show_run(command)
     } else if same(first, b"show") {
         show(command)
     } else if same(first, b"same") {
@@ -74,6 +77,10 @@ fn help() -> u8 {
     let end = say::more(
         end,
         b"register FILE N         write the plan file of FILE, an export of the asset register, with N days to run\n",
+    );
+    let end = say::more(
+        end,
+        b"run [FILE]              the run of the plan in FILE, stint by stint, and how it ends\n",
     );
     let end = say::more(
         end,

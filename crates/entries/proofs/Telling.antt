@@ -3,7 +3,7 @@ use Rattle.base.proofs.Prelude.{ℕ, _≤_, _<_, _≡_, refl, ap, _∙_, List, 
 use lib.Seq.{sets-eq}
 use Rattle.rules.specs.declared.Plan.{Plan}
 use Rattle.lines.specs.Pages.{lengthTold, pageTold}
-use Rattle.entries.specs.{declared.told.Row.Row, Given.planGiven, Told.{numbersOf, kindTold, placesTold}}
+use Rattle.entries.specs.{declared.told.Row.Row, Given.planGiven, Told.{numbersOf, kindTold, placesTold, listTold}}
 
 -- ---- A row
 
@@ -16,6 +16,16 @@ module _ (r : Row) (places : List ℕ) where
       × (set (set (set (set places 0 (r .first)) 1 (r .second)) 2 (r .third)) 3 (r .fourth) ≡ placesTold r places)
   unfolding kindTold placesTold
   four-told h = rw (le-ltb _ _ h) (refl, sets-eq (numbersOf r) places 0 h)
+
+-- a list beside the places
+module _ (told : List ℕ → List ℕ) (list places : List ℕ) where
+  pub none-listed : length places < 4 → list ≡ listTold told list places
+  unfolding listTold
+  none-listed h = rw (lt-ltb _ _ h)
+
+  pub list-told : 4 ≤ length places → told list ≡ listTold told list places
+  unfolding listTold
+  list-told h = rw (le-ltb _ _ h)
 
 -- it told a row, so it told what the row is
 pub told-as : (r s : Row) (places after : List ℕ) (kind : ℕ) → r ≡ s → (kind ≡ kindTold r places) × (after ≡ placesTold r places)

@@ -13,11 +13,14 @@
 --     9     fewer than four places are lent: nothing is written, whatever the answer is
 --     10    a date                year, month, day
 --     11    a day                 its number
+--     12    stints                how many are listed
 -- Where fewer than four numbers are said, 0 stands in the places after them.
 --     rowOf s               kind and numbers of what an answer says (rules/specs/Said.antt)
+--     stintedRow s          the same of what is answered where the stints of a run are asked for
 --     dateRow w, dayRow w   the same of the calendar's answers
 --     kindTold r places     what is returned
 --     placesTold r places   the places afterwards: the four numbers, and then its own later places
+--     listTold told list places     a lent list afterwards: what is told of it, and itself where fewer than four places are lent
 -- What is returned of a text, and the page afterwards: lines/specs/Pages.antt.
 use Prim.Native.Nat.{ℕ}
 use mathlib.Core.Bool.{cond}
@@ -26,6 +29,8 @@ use lib.Dec.{ltb}
 use lib.ListN.{length, drop}
 use Rattle.faults.specs.Checks.{faultNumber}
 use Rattle.rules.specs.Said.{Said, lawful, refused, overload, fail, pass, takers, none, miss, clean}
+use Rattle.rules.specs.declared.Stinted.{Stinted}
+use Rattle.rules.specs.declared.Stinted.the-variants as stinted
 use Rattle.calendar.specs.declared.WhichDate.{WhichDate}
 use Rattle.calendar.specs.declared.WhichDate.the-variants as which-date
 use Rattle.calendar.specs.declared.WhichDay.{WhichDay}
@@ -49,6 +54,10 @@ rowOf (clean w m i) = row 6 w m i 0
 rowOf (miss t i) = row 7 t i 0 0
 rowOf lawful = row 8 0 0 0 0
 
+abbrev pub stintedRow : Stinted → Row
+stintedRow (stinted.Refused f at) = refusedRow (faultNumber f) at
+stintedRow (stinted.Listed k) = row 12 k 0 0 0
+
 abbrev pub dateRow : WhichDate → Row
 dateRow (which-date.Is d) = row 10 (d .year) (d .month) (d .day) 0
 dateRow (which-date.Refused f at) = refusedRow (faultNumber f) at
@@ -67,3 +76,6 @@ kindTold r places = cond (ltb (length places) 4) 9 (r .kind)
 
 unfoldable pub placesTold : Row → List ℕ → List ℕ
 placesTold r places = cond (ltb (length places) 4) places (numbersOf r ++ drop 4 places)
+
+unfoldable pub listTold : (List ℕ → List ℕ) → List ℕ → List ℕ → List ℕ
+listTold told list places = cond (ltb (length places) 4) list (told list)

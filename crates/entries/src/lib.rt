@@ -9,11 +9,13 @@ use calendar::Date;
 use days::Day;
 use given::plan_given;
 use given::releases_given;
+use told::NO_ROOM;
 use told::assign_row;
 use told::checked_row;
 use told::date_row;
 use told::day_row;
 use told::outcome_row;
+use told::stinted_row;
 use told::tell;
 use told::tell_text;
 use told::verdict_row;
@@ -23,13 +25,14 @@ ghost use lib.ListN.{length};
 ghost use Rattle.rules.specs.Plan.{multipleOf};
 ghost use Rattle.rules.specs.Refusal.{planCheck, verdictAnswer, setAnswer, searchAnswer, runAnswer};
 ghost use Rattle.rules.specs.Said.{checkedSays, askedVerdictSays, askedAssignSays, askedOutcomeSays};
+ghost use Rattle.rules.specs.Stints.{stintsAnswer, stintsListed};
 ghost use Rattle.rules.specs.Answer.{answerOf};
 ghost use Rattle.rules.specs.Lines.{linesFor};
 ghost use Rattle.demand.specs.Quick.{quickAnswer};
 ghost use Rattle.calendar.specs.Refusals.{dateAnswer, dayAnswer};
 ghost use Rattle.entries.specs.Given.{planGiven, releasesGiven, dateGiven};
 ghost use Rattle.lines.specs.Pages.{lengthTold, pageTold};
-ghost use Rattle.entries.specs.Told.{rowOf, dateRow, dayRow, kindTold, placesTold};
+ghost use Rattle.entries.specs.Told.{rowOf, stintedRow, dateRow, dayRow, kindTold, placesTold, listTold};
 
 // Whether a plan is lawful; if not, the first fault.
 #[no_mangle]
@@ -114,6 +117,33 @@ pub extern "C" fn desk_run(plan: &[u32], releases: &[u32], out: &mut [u64]) -> u
         outcome_row(run::run(plan_given(plan), releases_given(releases))),
         out,
     )
+}
+
+// The stints of the run under a plan and a list of releases, five numbers each, in the list that is lent. 15,005 places hold them, whatever
+// the plan.
+#[no_mangle]
+pub extern "C" fn desk_stints(
+    plan: &[u32],
+    releases: &[u32],
+    list: &mut [u32],
+    out: &mut [u64],
+) -> u32
+    ensures exact { λ r. ⌜ r ≡ kindTold
+        (stintedRow (stintsAnswer (planGiven (now (plan .entry))) (releasesGiven (now (releases .entry))) (length (now (list .entry)))))
+        (now (out .entry)) ⌝ }
+    ensures out { λ r. ⌜ now (out .exit) ≡ placesTold
+        (stintedRow (stintsAnswer (planGiven (now (plan .entry))) (releasesGiven (now (releases .entry))) (length (now (list .entry)))))
+        (now (out .entry)) ⌝ }
+    ensures list { λ r. ⌜ now (list .exit) ≡ listTold (stintsListed (planGiven (now (plan .entry))) (releasesGiven (now (releases .entry))))
+        (now (list .entry)) (now (out .entry)) ⌝ }
+    ensures plan { λ r. ⌜ now (plan .exit) ≡ now (plan .entry) ⌝ }
+    ensures releases { λ r. ⌜ now (releases .exit) ≡ now (releases .entry) ⌝ }
+{
+    if out.len() < 4 {
+        return NO_ROOM;
+    }
+    let listed = run::stints(plan_given(plan), releases_given(releases), list);
+    tell(stinted_row(listed), out)
 }
 
 // The lines that the desk writes for a plan file. 256 bytes hold them, whatever the file.

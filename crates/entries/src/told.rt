@@ -11,6 +11,7 @@ use rules::AskedOutcome;
 use rules::AskedVerdict;
 use rules::Assign;
 use rules::Outcome;
+use rules::Stinted;
 use rules::Verdict;
 ghost use mathlib.Core.Path.{_≡_};
 ghost use Prim.Native.Nat.{_≤_};
@@ -18,7 +19,7 @@ ghost use lib.ListN.{length};
 ghost use Rattle.faults.specs.Checks.{faultNumber};
 ghost use Rattle.rules.specs.Said.{checkedSays, askedVerdictSays, askedAssignSays, askedOutcomeSays};
 ghost use Rattle.lines.specs.Pages.{textOf, lengthTold, pageTold};
-ghost use Rattle.entries.specs.Told.{row, refusedRow, rowOf, dateRow, dayRow, kindTold, placesTold};
+ghost use Rattle.entries.specs.Told.{row, refusedRow, rowOf, stintedRow, dateRow, dayRow, kindTold, placesTold};
 
 // A kind, and the numbers that it comes with; 0 stands where there is nothing to say.
 pub(crate) struct Row {
@@ -47,11 +48,13 @@ const MISS: u32 = 7;
 
 const LAWFUL: u32 = 8;
 
-const NO_ROOM: u32 = 9;
+pub(crate) const NO_ROOM: u32 = 9;
 
 const DATE: u32 = 10;
 
 const DAY: u32 = 11;
+
+const STINTS: u32 = 12;
 
 // A row of counts.
 fn row_of(kind: u32, first: u32, second: u32, third: u32, fourth: u32) -> Row
@@ -132,6 +135,21 @@ pub(crate) fn outcome_row(o: AskedOutcome) -> Row
         AskedOutcome::Given { outcome } => match outcome {
             Outcome::Miss { day, place } => row_at(MISS, day.0, place),
             Outcome::Clean { work, moving, idle } => row_of(CLEAN, work.0, moving.0, idle.0, 0),
+        },
+    }
+}
+
+pub(crate) fn stinted_row(s: Stinted) -> Row
+    ensures exact { λ r. ⌜ r ≡ stintedRow s ⌝ }
+{
+    match s {
+        Stinted::Refused { fault, at } => refused_row(fault, at),
+        Stinted::Listed { stints } => Row {
+            kind: STINTS,
+            first: stints as u64,
+            second: 0,
+            third: 0,
+            fourth: 0,
         },
     }
 }

@@ -15,6 +15,7 @@ pub mod Says
 pub mod JobParts
 pub mod Slots
 pub mod Choice
+pub mod Choices
 pub mod Steps
 pub mod History
 pub mod LineTexts

@@ -1,5 +1,6 @@
 pub mod Pages
 pub mod Dates
 pub mod Shown
+pub mod Stints
 pub mod Same
 pub mod inner

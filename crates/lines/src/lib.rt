@@ -5,6 +5,7 @@ mod parts;
 mod rows;
 mod same;
 mod shown;
+mod stints;
 mod templates;
 
 pub use dates::date_line;
@@ -17,6 +18,7 @@ use parts::outcome_line;
 use parts::verdict_line;
 pub use rows::row_line;
 use rules::Answer;
+use rules::AskedOutcome;
 use rules::AskedVerdict;
 pub use same::alone_line;
 pub use same::counts_line;
@@ -25,11 +27,13 @@ pub use shown::load_line;
 pub use shown::plan_line;
 pub use shown::release_line;
 pub use shown::string_line;
+pub use stints::stint_line;
 ghost use mathlib.Core.Path.{_≡_};
 ghost use Prim.Native.Nat.{_≤_};
 ghost use lib.ListN.{length};
 ghost use Rattle.rules.specs.Lines.{linesFor, askedLine};
 ghost use Rattle.lines.specs.Pages.{pageOf};
+ghost use Rattle.lines.specs.Stints.{endLine};
 
 // Text and what is left of the page: the first `len` bytes are the text; zeros stand behind it.
 pub struct Page {
@@ -64,5 +68,16 @@ pub fn verdict_written(v: AskedVerdict) -> Page
     match v {
         AskedVerdict::Refused { fault, at } => refused(fault, at),
         AskedVerdict::Given { verdict } => verdict_line(blank(), verdict),
+    }
+}
+
+// The line of a run that was asked for alone: its refusal, or how it ends.
+pub fn run_written(o: AskedOutcome) -> Page
+    ensures exact { λ r. ⌜ r ≡ pageOf (endLine o) ⌝ }
+    ensures within { λ r. ⌜ r .len ≤ length (r .bytes) ⌝ }
+{
+    match o {
+        AskedOutcome::Refused { fault, at } => refused(fault, at),
+        AskedOutcome::Given { outcome } => outcome_line(blank(), outcome),
     }
 }

@@ -6,7 +6,7 @@
 use Rattle.base.proofs.Prelude.{_≡_, sym, _∙_, Bool, ℕ, List}
 use Rattle.days.specs.{declared.Later.Later, declared.Gap.Gap, declared.Length.Length}
 use Rattle.faults.specs.declared.Checked.{Checked}
-use Rattle.rules.specs.{declared.Reading.Reading, declared.AskedVerdict.AskedVerdict, declared.AskedBroken.AskedBroken, declared.AskedAssign.AskedAssign, declared.AskedOutcome.AskedOutcome, declared.Figures.Figures, declared.Answer.Answer, declared.Job.Job, declared.Slot.Slot, declared.Use.Use, declared.Plan.Plan}
+use Rattle.rules.specs.{declared.Reading.Reading, declared.AskedVerdict.AskedVerdict, declared.AskedBroken.AskedBroken, declared.AskedAssign.AskedAssign, declared.AskedOutcome.AskedOutcome, declared.Figures.Figures, declared.Answer.Answer, declared.Job.Job, declared.Slot.Slot, declared.Use.Use, declared.Stint.Stint, declared.Stinted.Stinted, declared.Plan.Plan}
 use Rattle.lines.specs.declared.Page.{Page}
 use Rattle.calendar.specs.{declared.Date.Date, declared.WhichDate.WhichDate, declared.WhichDay.WhichDay, declared.WhichWeekday.WhichWeekday, declared.WhichYearly.WhichYearly, declared.WhichEdition.WhichEdition, declared.Listed.Listed, declared.DateText.DateText, declared.YearlyText.YearlyText}
 use Rattle.missed.specs.declared.Missed.{Missed}
@@ -38,7 +38,8 @@ use Rattle.rules.proofs.Verdict.passes.Reads as Verdict-passes
 use Rattle.slots.proofs.chosen_place.Reads as chosen-place
 use Rattle.slots.proofs.stopped_job.Reads as stopped-job
 use Rattle.slots.proofs.seated_job.Reads as seated-job
-use Rattle.slots.proofs.spent_job.Reads as spent-job
+use Rattle.slots.proofs.part_left.Reads as part-left
+use Rattle.slots.proofs.spent_by.Reads as spent-by
 use Rattle.slots.proofs.use_for.Reads as use-for
 use Rattle.slots.proofs.empty_slots.Reads as empty-slots
 use Rattle.bounds.proofs.string_lawful.Reads as string-lawful
@@ -70,9 +71,12 @@ use Rattle.verdict.proofs.first_break.Reads as first-break
 use Rattle.verdict.proofs.search.Reads as search-takers
 use Rattle.verdict.proofs.figures.Reads as figures
 use Rattle.run.proofs.run.Reads as run
+use Rattle.run.proofs.stints.Reads as stints
+use Rattle.run.proofs.stint_at.Reads as stint-at
 use Rattle.tries.proofs.releases_that_miss.Reads as releases-that-miss
 use Rattle.lines.proofs.written.Reads as written
 use Rattle.lines.proofs.verdict_written.Reads as verdict-written
+use Rattle.lines.proofs.run_written.Reads as run-written
 use Rattle.lines.proofs.date_line.Reads as date-line
 use Rattle.lines.proofs.day_line.Reads as day-line
 use Rattle.lines.proofs.blank.Reads as blank
@@ -80,6 +84,7 @@ use Rattle.lines.proofs.put_text.Reads as put-text
 use Rattle.lines.proofs.row_line.Reads as row-line
 use Rattle.lines.proofs.plan_line.Reads as plan-line
 use Rattle.lines.proofs.string_line.Reads as string-line
+use Rattle.lines.proofs.stint_line.Reads as stint-line
 use Rattle.lines.proofs.load_line.Reads as load-line
 use Rattle.lines.proofs.release_line.Reads as release-line
 use Rattle.lines.proofs.same_line.Reads as same-line
@@ -99,6 +104,7 @@ use Rattle.entries.proofs.desk_verdict_with.Reads as desk-verdict-with
 use Rattle.entries.proofs.desk_quick.Reads as desk-quick
 use Rattle.entries.proofs.desk_search.Reads as desk-search
 use Rattle.entries.proofs.desk_run.Reads as desk-run
+use Rattle.entries.proofs.desk_stints.Reads as desk-stints
 use Rattle.entries.proofs.desk_answer.Reads as desk-answer
 use Rattle.entries.proofs.desk_date.Reads as desk-date
 use Rattle.entries.proofs.desk_day.Reads as desk-day
@@ -186,8 +192,11 @@ one-stopped-job κs a e f r s h k = h ∙ sym k
 pub one-seated-job : (κs : Lfts 0) (a : _) (e f : _) (r s : Job) → seated-job.Learnt κs a r e → seated-job.Learnt κs a s f → r ≡ s
 one-seated-job κs a e f r s h k = h ∙ sym k
 
-pub one-spent-job : (κs : Lfts 0) (a : _) (e f : _) (r s : Job) → spent-job.Learnt κs a r e → spent-job.Learnt κs a s f → r ≡ s
-one-spent-job κs a e f r s h k = h ∙ sym k
+pub one-part-left : (κs : Lfts 0) (a : _) (e f : _) (r s : Length) → part-left.Learnt κs a r e → part-left.Learnt κs a s f → r ≡ s
+one-part-left κs a e f r s h k = h ∙ sym k
+
+pub one-spent-by : (κs : Lfts 0) (a : _) (e f : _) (r s : Job) → spent-by.Learnt κs a r e → spent-by.Learnt κs a s f → r ≡ s
+one-spent-by κs a e f r s h k = h ∙ sym k
 
 pub one-use-for : (κs : Lfts 0) (a : _) (e f : _) (r s : Use) → use-for.Learnt κs a r e → use-for.Learnt κs a s f → r ≡ s
 one-use-for κs a e f r s h k = h ∙ sym k
@@ -296,6 +305,14 @@ one-figures κs a e f r s h k = h ∙ sym k
 pub one-run : (κs : Lfts 0) (a : _) (e f : _) (r s : AskedOutcome) → run.Learnt κs a r e → run.Learnt κs a s f → r ≡ s
 one-run κs a e f r s h k = h ∙ sym k
 
+pub one-stints : (κs : Lfts 1) (a : _) (e f : _) (r s : Stinted) → stints.Learnt κs a r e → stints.Learnt κs a s f
+    → (r ≡ s) × (e .1 .1 .0 .now ≡ f .1 .1 .0 .now)
+one-stints κs a e f r s h k = (h .0 ∙ sym (k .0), h .1 ∙ sym (k .1))
+
+pub one-stint-at : (κs : Lfts 1) (a : _) (e f : _) (r s : Stint) → stint-at.Learnt κs a r e → stint-at.Learnt κs a s f
+    → (r ≡ s) × (e .0 .now ≡ f .0 .now)
+one-stint-at κs a e f r s h k = (h .0 ∙ sym (k .0), h .1 ∙ sym (k .1))
+
 -- tries
 pub one-releases-that-miss : (κs : Lfts 0) (a : _) (e f : _) (r s : Shown) → releases-that-miss.Learnt κs a r e
     → releases-that-miss.Learnt κs a s f → r ≡ s
@@ -308,6 +325,9 @@ one-written κs a e f r s h k = h .0 ∙ sym (k .0)
 pub one-verdict-written : (κs : Lfts 0) (a : _) (e f : _) (r s : Page) → verdict-written.Learnt κs a r e → verdict-written.Learnt κs a s f
     → r ≡ s
 one-verdict-written κs a e f r s h k = h .0 ∙ sym (k .0)
+
+pub one-run-written : (κs : Lfts 0) (a : _) (e f : _) (r s : Page) → run-written.Learnt κs a r e → run-written.Learnt κs a s f → r ≡ s
+one-run-written κs a e f r s h k = h .0 ∙ sym (k .0)
 
 pub one-date-line : (κs : Lfts 1) (a : _) (e f : _) (r s : Page) → date-line.Learnt κs a r e → date-line.Learnt κs a s f
     → (r ≡ s) × (e .0 .now ≡ f .0 .now)
@@ -331,6 +351,9 @@ one-plan-line κs a e f r s h k = h .0 ∙ sym (k .0)
 
 pub one-string-line : (κs : Lfts 0) (a : _) (e f : _) (r s : Page) → string-line.Learnt κs a r e → string-line.Learnt κs a s f → r ≡ s
 one-string-line κs a e f r s h k = h .0 ∙ sym (k .0)
+
+pub one-stint-line : (κs : Lfts 0) (a : _) (e f : _) (r s : Page) → stint-line.Learnt κs a r e → stint-line.Learnt κs a s f → r ≡ s
+one-stint-line κs a e f r s h k = h .0 ∙ sym (k .0)
 
 pub one-load-line : (κs : Lfts 0) (a : _) (e f : _) (r s : Page) → load-line.Learnt κs a r e → load-line.Learnt κs a s f → r ≡ s
 one-load-line κs a e f r s h k = h .0 ∙ sym (k .0)
@@ -426,6 +449,17 @@ one-desk-search κs a e f r s h k = (h .0 ∙ sym (k .0), h .1 .0 ∙ sym (k .1 
 pub one-desk-run : (κs : Lfts 3) (a : _) (e f : _) (r s : ℕ) → desk-run.Learnt κs a r e → desk-run.Learnt κs a s f
     → (r ≡ s) × (e .1 .1 .0 .now ≡ f .1 .1 .0 .now) × (e .0 .now ≡ f .0 .now) × (e .1 .0 .now ≡ f .1 .0 .now)
 one-desk-run κs a e f r s h k = (h .0 ∙ sym (k .0), h .1 .0 ∙ sym (k .1 .0), h .1 .1 .0 ∙ sym (k .1 .1 .0), h .1 .1 .1 ∙ sym (k .1 .1 .1))
+
+pub one-desk-stints : (κs : Lfts 4) (a : _) (e f : _) (r s : ℕ) → desk-stints.Learnt κs a r e → desk-stints.Learnt κs a s f
+    → (r ≡ s) × (e .1 .1 .1 .0 .now ≡ f .1 .1 .1 .0 .now) × (e .1 .1 .0 .now ≡ f .1 .1 .0 .now) × (e .0 .now ≡ f .0 .now)
+    × (e .1 .0 .now ≡ f .1 .0 .now)
+one-desk-stints κs a e f r s h k = (
+  h .0 ∙ sym (k .0),
+  h .1 .0 ∙ sym (k .1 .0),
+  h .1 .1 .0 ∙ sym (k .1 .1 .0),
+  h .1 .1 .1 .0 ∙ sym (k .1 .1 .1 .0),
+  h .1 .1 .1 .1 ∙ sym (k .1 .1 .1 .1),
+)
 
 pub one-desk-answer : (κs : Lfts 2) (a : _) (e f : _) (r s : ℕ) → desk-answer.Learnt κs a r e → desk-answer.Learnt κs a s f
     → (r ≡ s) × (e .1 .0 .now ≡ f .1 .0 .now) × (e .0 .now ≡ f .0 .now)

@@ -43,7 +43,7 @@ p3-with =
 p1-search : askedAssignSays (searchAnswer two) ≡ takers 1
 unfolding table row page.answered
 p1-search =
-    let e = at 18 in
+    let e = at 20 in
     cc
 
 abbrev list : Releases
@@ -52,7 +52,7 @@ list = releases (release 0 1 5 ∷ release 1 2 3 ∷ [])
 run-of-eight : askedOutcomeSays (runAnswer (withSet level 2) list) ≡ clean 8 0 12
 unfolding table row page.answered
 run-of-eight =
-    let e = at 16 in
+    let e = at 18 in
     cc
 
 sample-read : readingOf sample .checked ≡ Lawful
@@ -60,7 +60,7 @@ sample-read = says-lawful (readingOf sample .checked) said
   where
     said : checkedSays (readingOf sample .checked) ≡ lawful
     said = unfold table row page.answered in
-        let e = at 12 in
+        let e = at 13 in
         cc
 
 -- ---- What is not refused was lawful

@@ -1,11 +1,11 @@
 -- Document 01's worked plans, P1 to P10, its sample file, and two runs on which planners go wrong, with the blocking limit of document 02's
 -- W-205; its string on the roof, and its plan file with a moving cost for each string (W-207): one table, one statement. Each row is a
 -- question and the answer that the page gives. `worked` has antt compute every answer from the definitions.
-use Rattle.base.proofs.Prelude.{ℕ, zero, suc, _+_, _/_, _%_, _-_, _≡_, refl, cond, List, [], _∷_, _++_, map, ltb, length}
+use Rattle.base.proofs.Prelude.{ℕ, zero, suc, _+_, _/_, _%_, _-_, min, _≡_, refl, cond, List, [], _∷_, _++_, map, ltb, length}
 use mathlib.Core.List.{flatMap}
 use lib.Count.{ones, onesIn}
 use Rattle.days.specs.Days.{day, days}
-use Rattle.rules.specs.{declared.BatteryString.BatteryString, declared.Plan.Plan, declared.Release.Release, declared.Releases.Releases, Plan.{noString, stringLawful, commonMultiple, multipleOf, dMin, dMax}, Demand.{movingCost, holdOf, jobs, blockerHold, blockLimit, need, demand, load, overloaded}, Verdict.{pairsAt, allPairs, broken, compared, judged, verdictOver, isPass}, Search.{permit, withSet, setPasses, setsOf, ordered, searchOf}, Release.{noRelease, tooClose, outOfOrder, releaseLawful, unlawfulFrom, firstUnlawful}, Run.{chosen, lateAt, newSlot, joinFrom, joined, holder, payer, taken, nextUp, given, useOf, spent, morning, stateAt, useOn, lateOn, history, daysOf, missDay, runOf}, Refusal.{countCheck, runLengthCheck, costCheck, stringsCheck, multipleCheck, planCheck, setCheck, releasesCheck, runCheck, setAnswer, searchAnswer, runAnswer}, Said.{Said, lawful, refused, overload, fail, pass, takers, miss, clean, checkedSays, askedVerdictSays, askedAssignSays, askedOutcomeSays}, Answer.answerOf, Lines.{bytesOf, decimal, wordedIn, refusedLine, verdictLine, assignLine, outcomeLine, linesFor}, Layout.{hasField, fieldAmong, fieldIn, heldTo}, Text.{before, linesOf, digitOf, wellFormed, hexBytes, frameOf, fieldOf, frameCheck, nIn, runIn, aIn, costOf, stringOf, releaseOf, planIn, listIn, versionCheck, headerCheck, stringLineCheck, stringLinesCheck, releaseLineCheck, releaseLinesCheck, bodyCheck, linesCheck, textCheck, lawfulReading, readingIn, versionOf, readingOf}}
+use Rattle.rules.specs.{declared.BatteryString.BatteryString, declared.Plan.Plan, declared.Release.Release, declared.Releases.Releases, Plan.{noString, stringLawful, commonMultiple, multipleOf, dMin, dMax}, Demand.{movingCost, holdOf, jobs, blockerHold, blockLimit, need, demand, load, overloaded}, Verdict.{pairsAt, allPairs, broken, compared, judged, verdictOver, isPass}, Search.{permit, withSet, setPasses, setsOf, ordered, searchOf}, Release.{noRelease, tooClose, outOfOrder, releaseLawful, unlawfulFrom, firstUnlawful}, Run.{chosen, lateAt, newSlot, joinFrom, joined, holder, payer, taken, nextUp, given, useOf, spent, morning, stateAt, useOn, lateOn, history, daysOf, missDay, runOf}, Refusal.{countCheck, runLengthCheck, costCheck, stringsCheck, multipleCheck, planCheck, setCheck, releasesCheck, runCheck, setAnswer, searchAnswer, runAnswer}, Said.{Said, lawful, refused, overload, fail, pass, takers, miss, clean, checkedSays, askedVerdictSays, askedAssignSays, askedOutcomeSays}, Stints.{sameUse, dayAhead, stintsFrom, daysRun, runStints, stintsNumbers}, Answer.answerOf, Lines.{bytesOf, decimal, wordedIn, refusedLine, verdictLine, assignLine, outcomeLine, linesFor}, Layout.{hasField, fieldAmong, fieldIn, heldTo}, Text.{before, linesOf, digitOf, wellFormed, hexBytes, frameOf, fieldOf, frameCheck, nIn, runIn, aIn, costOf, stringOf, releaseOf, planIn, listIn, versionCheck, headerCheck, stringLineCheck, stringLinesCheck, releaseLineCheck, releaseLinesCheck, bodyCheck, linesCheck, textCheck, lawfulReading, readingIn, versionOf, readingOf}}
 use Rattle.base.specs.{Count.{sumOf, largest, smallest, smallestWith, every, any, keep, countOf, upFrom, leastFrom, firstOf, filled}, Digits.{digitsIn, digitsOf, numberOn}}
 use Rattle.rules.specs.Answer as answers
 
@@ -101,6 +101,7 @@ pub data Question : Type 0 where
   verdict-with : Plan → ℕ → Question
   search : Plan → Question
   run-with : Plan → ℕ → List Release → Question
+  stints-with : Plan → ℕ → List Release → Question
   load-with : Plan → ℕ → Question
   read-text : List ℕ → Question
   file : List ℕ → Question
@@ -108,6 +109,7 @@ pub data Question : Type 0 where
 pub data Answer : Type 0 where
   says : Said → Answer
   load-and-H : ℕ → ℕ → Answer
+  numbered : List ℕ → Answer
   written : List ℕ → Answer
 
 pub record Row : Type 0 where
@@ -118,6 +120,7 @@ unfoldable pub answered : Question → Answer
 answered (verdict-with p m) = says (askedVerdictSays (setAnswer p m))
 answered (search p) = says (askedAssignSays (searchAnswer p))
 answered (run-with p m rs) = says (askedOutcomeSays (runAnswer (withSet p m) (releases rs)))
+answered (stints-with p m rs) = numbered (stintsNumbers (runStints (withSet p m) rs))
 answered (load-with p m) = load-and-H (load (withSet p m)) (multipleOf (withSet p m))
 answered (read-text text) = says (checkedSays (readingOf text .checked))
 answered (file text) = written (linesFor (answerOf text))
@@ -134,6 +137,9 @@ table =
     ∷ row (search three) (says (takers 0))  -- P4
     ∷ row (verdict-with five 2) (says (fail 6 4 7 10))  -- P5: passes by the source's equation 7
     ∷ row (run-with five 2 (release 0 3 2 ∷ release 1 2 1 ∷ release 2 1 3 ∷ [])) (says (miss 8 1))  -- P6
+    -- P6 in stints: place 3 works, place 2 moves five days and works one, place 1 has one day and misses
+    ∷ row (stints-with five 2 (release 0 3 2 ∷ release 1 2 1 ∷ release 2 1 3 ∷ []))
+    (numbered (0 ∷ 1 ∷ 1 ∷ 3 ∷ 1 ∷ 1 ∷ 5 ∷ 2 ∷ 2 ∷ 2 ∷ 6 ∷ 1 ∷ 1 ∷ 2 ∷ 2 ∷ 7 ∷ 1 ∷ 1 ∷ 1 ∷ 3 ∷ []))
     ∷ row (search (withSet five 2)) (says (takers 0))  -- P7: P5 as it stands, with set 2
     ∷ row (search eight) (says (takers 0))  -- P8
     ∷ row (verdict-with nine 1) (says (overload 0))  -- P9
@@ -141,6 +147,10 @@ table =
     ∷ row (verdict-with ten 0) (says (pass 1))  -- P10
     ∷ row (read-text sample) (says lawful)
     ∷ row (file sample) (written (bytesOf "verdict pass pairs 39\nassign 1\nrun clean work 8 move 1 idle 11\n"))
+    -- the sample's run in stints: the last is idle, and the stopped job has two
+    ∷ row (stints-with two 1 (release 0 2 5 ∷ release 1 1 3 ∷ []))
+    (numbered
+    (0 ∷ 1 ∷ 1 ∷ 2 ∷ 1 ∷ 1 ∷ 1 ∷ 2 ∷ 1 ∷ 2 ∷ 2 ∷ 3 ∷ 1 ∷ 1 ∷ 2 ∷ 5 ∷ 4 ∷ 1 ∷ 2 ∷ 1 ∷ 9 ∷ 11 ∷ 0 ∷ 0 ∷ 0 ∷ []))
     -- its second string with T 1001
     ∷ row (file (line 18 0x010102000100000014 ++ line 16 0x0201000a00030005 ++ line 16 0x020003e90005000a))
     (written (bytesOf "refused 5 line 3\n"))
@@ -190,6 +200,7 @@ unfolding
     runOf
     countCheck runLengthCheck costCheck stringsCheck multipleCheck planCheck setCheck releasesCheck runCheck
     setAnswer searchAnswer runAnswer
+    sameUse dayAhead stintsFrom daysRun runStints stintsNumbers
     before linesOf digitOf wellFormed hexBytes frameOf numberOn hasField fieldAmong fieldIn heldTo fieldOf
     nIn runIn aIn costOf stringOf releaseOf planIn listIn frameCheck versionCheck headerCheck
     stringLineCheck stringLinesCheck releaseLineCheck releaseLinesCheck bodyCheck linesCheck textCheck lawfulReading readingIn versionOf

@@ -1,5 +1,5 @@
--- The rules of document 01, in its order. Read: Plan, Demand, Verdict, Search, Release, Run, Refusal, Figures, Layout, Text, Answer, Said,
--- Lines.
+-- The rules of document 01, in its order. Read: Plan, Demand, Verdict, Search, Release, Run, Refusal, Stints, Figures, Layout, Text,
+-- Answer, Said, Lines.
 pub mod Plan
 pub mod Demand
 pub mod Verdict
@@ -7,6 +7,7 @@ pub mod Search
 pub mod Release
 pub mod Run
 pub mod Refusal
+pub mod Stints
 pub mod Figures
 pub mod Layout
 pub mod Text

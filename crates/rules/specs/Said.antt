@@ -12,11 +12,13 @@
 -- And what is answered beside the desk's three lines:
 --     refused-with number at                  the refusal number and the place, as above
 --     unbroken, breaks interval blocking      the first pair that breaks the rule
+--     stints count                            how many stints were listed
 --     text length                             what was written into a page
 --     passing, none-found, too-many, misses run
 --                                             releases that miss: none, the plan passes; none was found; there are some, but more than
 --                                             1,000; the days of a run that misses
 --     brokenSays b, askedBrokenSays b         what the first broken pair says, and what is said where it is asked for
+--     stintedSays s                           what is said where the stints of a run are asked for
 -- Of texts that are written and of releases that miss the crates writing, tries and missed have it: savedSays, missingSays, missedSays.
 use Prim.Native.Nat.{ℕ}
 use Rattle.faults.specs.declared.Checked.{Checked}
@@ -38,6 +40,8 @@ use Rattle.rules.specs.declared.Outcome.{Outcome}
 use Rattle.rules.specs.declared.Outcome.the-variants as outcome
 use Rattle.rules.specs.declared.AskedOutcome.{AskedOutcome}
 use Rattle.rules.specs.declared.AskedOutcome.the-variants as asked-outcome
+use Rattle.rules.specs.declared.Stinted.{Stinted}
+use Rattle.rules.specs.declared.Stinted.the-variants as stinted
 
 pub data Said : Type 0 where
   lawful : Said
@@ -85,6 +89,7 @@ pub data Noted : Type 0 where
   refused-with : ℕ → ℕ → Noted
   unbroken : Noted
   breaks : ℕ → ℕ → Noted
+  stints : ℕ → Noted
   text : ℕ → Noted
   passing : Noted
   none-found : Noted
@@ -98,3 +103,7 @@ brokenSays (broken.At l b) = breaks (l .0) (b .0)
 abbrev pub askedBrokenSays : AskedBroken → Noted
 askedBrokenSays (asked-broken.Refused f at) = refused-with (faultNumber f) at
 askedBrokenSays (asked-broken.Given b) = brokenSays b
+
+abbrev pub stintedSays : Stinted → Noted
+stintedSays (stinted.Refused f at) = refused-with (faultNumber f) at
+stintedSays (stinted.Listed k) = stints k

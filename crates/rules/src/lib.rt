@@ -225,3 +225,16 @@ pub enum Use {
     Work { place: usize, serves: usize },
     Move { place: usize, serves: usize },
 }
+
+// A stretch of days of the run on which the bank did one thing.
+pub struct Stint {
+    pub first: Day,
+    pub length: Length,
+    pub used: Use,
+}
+
+// What is answered where the stints of a run are asked for: the refusal of what was handed over, or how many were listed.
+pub enum Stinted {
+    Refused { fault: Fault, at: usize },
+    Listed { stints: usize },
+}

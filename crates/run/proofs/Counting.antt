@@ -1,11 +1,19 @@
--- The tally of a run's days: a day more adds to the kind of that day, and no kind has more days than have passed.
-use Rattle.base.proofs.Prelude.{ℕ, suc, _+_, _≤_, _≡_, refl, _∙_, Bool, cond, List, arith}
+-- The tally of a run's days: a stretch more adds its days to the kind of their use, and no kind has more days than have passed.
+use Rattle.base.proofs.Prelude.{ℕ, zero, suc, _+_, _≤_, _≡_, refl, sym, ap, _∙_, Bool, cond, List, [], _∷_, _++_, arith, replicate}
 use Rattle.days.specs.Days.{days}
 use Rattle.rules.specs.{declared.Plan.Plan, declared.Release.Release, declared.Use.Use, declared.Use.the-variants.{Idle, Work, Move}, declared.Outcome.the-variants.Clean, Run.{useOn, history, isWork, isMove, isIdle, lateOn, daysOf, runOf}}
 use Rattle.base.specs.Count.{countOf}
-use Rattle.base.proofs.Counts.{countOf-le}
-use Rattle.laws.proofs.History.{history-next, history-length, missDay-none, runOf-clean}
+use Rattle.base.proofs.{Counts.{countOf-append, countOf-le}, Lists.by-bool}
+use Rattle.laws.proofs.History.{history-length, missDay-none, runOf-clean}
 use Rattle.run.specs.inner.Tally.{addedTo, tallyOf, Under}
+
+-- a use k times
+count-alike : (f : Use → Bool) (k : ℕ) (u : Use) → countOf f (replicate k u) ≡ cond (f u) k 0
+unfolding countOf
+count-alike f zero u = by-bool (f u) (λ t. rw t) (λ e. rw e)
+count-alike f (suc k) u =
+    let rest = count-alike f k u in
+    by-bool (f u) (λ t. rw t (omega (arith, rw t at rest))) (λ e. rw e (omega (arith, rw e at rest)))
 
 module _ (p : Plan) (rs : List Release) where
   -- a day adds one or nothing
@@ -24,23 +32,29 @@ module _ (p : Plan) (rs : List Release) where
   unfolding history countOf
   tallyOf-start = refl
 
-  pub tallyOf-more : (k : ℕ) → addedTo (tallyOf p rs k) (useOn p rs k) ≡ tallyOf p rs (suc k)
-  tallyOf-more k =
-      added (countOf isWork (history p rs k)) (countOf isMove (history p rs k)) (countOf isIdle (history p rs k)) (useOn p rs k)
-      ∙ rw (history-next p rs k isWork, history-next p rs k isMove, history-next p rs k isIdle)
+  pub tallyOf-more : (t k : ℕ) (u : Use) → history p rs (t + k) ≡ history p rs t ++ replicate k u
+      → addedTo (tallyOf p rs t) u k ≡ tallyOf p rs (t + k)
+  tallyOf-more t k u longer =
+      added (countOf isWork (history p rs t)) (countOf isMove (history p rs t)) (countOf isIdle (history p rs t)) u
+      ∙ rw (sym (grows isWork), sym (grows isMove), sym (grows isIdle))
     where
+      grows : (f : Use → Bool) → countOf f (history p rs (t + k)) ≡ countOf f (history p rs t) + cond (f u) k 0
+      grows f =
+          ap (countOf f) longer ∙ countOf-append f (history p rs t) (replicate k u)
+          ∙ ap (λ n. countOf f (history p rs t) + n) (count-alike f k u)
+
       added : (w m i : ℕ) (u : Use)
-          → addedTo (record { work = days w; moving = days m; idle = days i }) u
-          ≡ record { work = days (w + cond (isWork u) 1 0); moving = days (m + cond (isMove u) 1 0); idle = days (i + cond (isIdle u) 1 0) }
+          → addedTo (record { work = days w; moving = days m; idle = days i }) u k
+          ≡ record { work = days (w + cond (isWork u) k 0); moving = days (m + cond (isMove u) k 0); idle = days (i + cond (isIdle u) k 0) }
       added w m i Idle =
           let sw : w ≡ w + 0 = omega arith in
           let sm : m ≡ m + 0 = omega arith in
           rw (← sw, ← sm)
-      added w m i (Work j k) =
+      added w m i (Work j l) =
           let sm : m ≡ m + 0 = omega arith in
           let si : i ≡ i + 0 = omega arith in
           rw (← sm, ← si)
-      added w m i (Move j k) =
+      added w m i (Move j l) =
           let sw : w ≡ w + 0 = omega arith in
           let si : i ≡ i + 0 = omega arith in
           rw (← sw, ← si)

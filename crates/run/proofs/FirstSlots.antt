@@ -1,8 +1,10 @@
 -- The steps of a day in an array, of which the first n slots count.
 use Rattle.base.proofs.Prelude.{ℕ, _≤_, min, _≡_, sym, ap, _∙_, List, arith, length, take, length-take}
 use Rattle.days.specs.declared.Day.{Day}
-use Rattle.rules.specs.{declared.Plan.Plan, declared.Slot.Slot, Demand.movingCost, Run.{slotAt, withJob, holder, payer, stopped, charged, stop, charge, taken, nextUp, seated, given, usedFor, useOf, spentJob, spent}}
-use Rattle.laws.proofs.{Slots.{slotAt-take, change-take}, Steps.{taken-over, given-next, useOf-held, spent-held, holder-le, payer-le, nextUp-le}}
+use Rattle.rules.specs.{declared.Plan.Plan, declared.Slot.Slot, Demand.movingCost, Run.{slotAt, withJob, holder, payer, stopped, charged, stop, charge, taken, nextUp, seated, given, usedFor, useOf}}
+use Rattle.laws.proofs.{Slots.{slotAt-take, change-take}, Steps.{taken-over, given-next, useOf-held, holder-le, payer-le, nextUp-le}}
+use Rattle.stretch.specs.Stretch.{spentBy, daysOff}
+use Rattle.stretch.proofs.Spending.{daysOff-held}
 
 module _ (slots : List Slot) (n : ℕ) where
   pub holder-in : holder (take n slots) ≤ min n (length slots)
@@ -32,12 +34,12 @@ module _ (slots : List Slot) (n : ℕ) where
       let seats = change-take (λ s. seated (s .job)) slots n q (omega arith) (omega (arith, nextUp-in)) in
       seats ∙ rw goes (sym (given-next (take n slots) free (λ z. some (goes ∙ z))))
 
-  -- step 5 in the array: h holds the bank
-  pub spent-take : (h : ℕ) → h ≡ holder (take n slots) → (h ≡ 0 → ⊥)
-      → take n (withJob slots h (spentJob (slotAt slots h .job))) ≡ spent (take n slots)
-  spent-take h holds held =
-      let spends = change-take (λ s. spentJob (s .job)) slots n h (omega arith) (omega (arith, holder-in)) in
-      spends ∙ rw holds (sym (spent-held (take n slots) (λ z. held (holds ∙ z))))
+  -- step 5 on k days in the array: h holds the bank
+  pub daysOff-take : (k h : ℕ) → h ≡ holder (take n slots) → (h ≡ 0 → ⊥)
+      → take n (withJob slots h (spentBy k (slotAt slots h .job))) ≡ daysOff k (take n slots)
+  daysOff-take k h holds held =
+      let spends = change-take (λ s. spentBy k (s .job)) slots n h (omega arith) (omega (arith, holder-in)) in
+      spends ∙ rw holds (sym (daysOff-held k (take n slots) (λ z. held (holds ∙ z))))
 
   pub useOf-take : (h : ℕ) → h ≡ holder (take n slots) → (h ≡ 0 → ⊥)
       → useOf (take n slots) ≡ usedFor h (slotAt slots h .serves) (slotAt slots h .job)

@@ -1,2 +1,3 @@
 -- What the code of the run promises beside the definitions of `rules`.
+pub mod Numbers
 pub mod inner

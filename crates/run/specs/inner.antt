@@ -3,3 +3,5 @@
 pub mod Day
 pub mod Join
 pub mod Tally
+pub mod Book
+pub mod Walk

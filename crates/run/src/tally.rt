@@ -3,6 +3,7 @@ use days::Length;
 use rules::Outcome;
 use rules::Use;
 ghost use mathlib.Core.Path.{_≡_};
+ghost use Prim.Native.Nat.{_≤_};
 ghost use Rattle.run.specs.inner.Tally.{Under, addedTo};
 
 pub(crate) struct Tally {
@@ -11,10 +12,11 @@ pub(crate) struct Tally {
     pub(crate) idle: Length,
 }
 
-// The tally with one day more.
-pub(crate) fn counted(tally: Tally, used: Use) -> Tally
+// The tally with a stretch of days more, all used alike.
+pub(crate) fn counted(tally: Tally, used: Use, length: Length) -> Tally
     requires { ⌜ Under 1000000 tally ⌝ }
-    ensures exact { λ r. ⌜ r ≡ addedTo tally used ⌝ }
+    requires { ⌜ length .0 ≤ 1000000 ⌝ }
+    ensures exact { λ r. ⌜ r ≡ addedTo tally used (length .0) ⌝ }
 {
     let work = tally.work;
     let moving = tally.moving;
@@ -23,13 +25,13 @@ pub(crate) fn counted(tally: Tally, used: Use) -> Tally
         Use::Idle => Tally {
             work,
             moving,
-            idle: Length(idle.0 + 1),
+            idle: Length(idle.0 + length.0),
         },
         Use::Work {
             place: _,
             serves: _,
         } => Tally {
-            work: Length(work.0 + 1),
+            work: Length(work.0 + length.0),
             moving,
             idle,
         },
@@ -38,7 +40,7 @@ pub(crate) fn counted(tally: Tally, used: Use) -> Tally
             serves: _,
         } => Tally {
             work,
-            moving: Length(moving.0 + 1),
+            moving: Length(moving.0 + length.0),
             idle,
         },
     }

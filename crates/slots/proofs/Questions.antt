@@ -1,8 +1,9 @@
--- The choices of a day are answers to questions.
-use Rattle.base.proofs.Prelude.{_≡_, refl, List}
+-- The choices of a day are answers to questions; and which deadline comes first.
+use Rattle.base.proofs.Prelude.{_≡_, refl, List, length}
 use Rattle.days.specs.declared.Day.{Day}
-use Rattle.rules.specs.{declared.Slot.Slot, Run.{slotAt, lateAt, holder, payer, nextUp}}
-use Rattle.slots.specs.{declared.Question.the-variants.{Late, Holding, Taker, Next}, inner.Question.chosenFor}
+use Rattle.rules.specs.{declared.Slot.Slot, Run.{slotAt, lateAt, holder, payer, nextUp, dueBefore}}
+use Rattle.laws.proofs.{Choice.{Choice, chosen-choice}, Choices.dueBefore-order}
+use Rattle.slots.specs.{declared.Question.the-variants.{Late, Holding, Taker, Next, Due}, inner.Question.{okOf, chosenFor}}
 
 module _ (ss : List Slot) where
   pub late-asked : (day : Day) → chosenFor (Late day) ss ≡ lateAt (day .0) ss
@@ -21,3 +22,7 @@ module _ (ss : List Slot) where
   pub payer-asked : (day due : Day) → due .0 ≡ slotAt ss (holder ss) .deadline .0 → chosenFor (Taker day due) ss ≡ payer (day .0) ss
   unfolding chosenFor payer
   payer-asked day due same = rw same
+
+  pub due-choice : (after : Day) → Choice (okOf (Due after)) dueBefore ss (length ss) (chosenFor (Due after) ss)
+  unfolding chosenFor
+  due-choice after = chosen-choice (okOf (Due after)) dueBefore dueBefore-order ss (length ss)

@@ -4,10 +4,11 @@ use rules::Job;
 use rules::Slot;
 use rules::Use;
 ghost use mathlib.Core.Path.{_≡_};
-ghost use Prim.Native.Nat.{_+_};
+ghost use Prim.Native.Nat.{_+_, _-_};
 ghost use lib.Dec.{ltb};
-ghost use Rattle.rules.specs.Run.{left, waits, onBank, stopped, seated, onOrGone, spentJob, usedFor};
-ghost use Rattle.slots.specs.inner.Job.{lessOne};
+ghost use Rattle.days.specs.Days.{days};
+ghost use Rattle.rules.specs.Run.{left, waits, onBank, stopped, seated, onOrGone, usedFor};
+ghost use Rattle.stretch.specs.Stretch.{partDays, spentBy};
 
 // Whether work or moving is left.
 pub(crate) fn unfinished(job: Job) -> bool
@@ -71,18 +72,34 @@ pub fn seated_job(job: Job) -> Job
     }
 }
 
-// Step 5: the job on the bank uses a day, moving days first.
-pub fn spent_job(job: Job) -> Job
-    ensures exact { λ r. ⌜ r ≡ spentJob job ⌝ }
+// The days left of what the job on the bank is at: of moving while there is some, else of work.
+pub fn part_left(job: Job) -> Length
+    ensures exact { λ r. ⌜ r ≡ days (partDays job) ⌝ }
+{
+    match job {
+        Job::Empty => Length(0),
+        Job::Waiting { work: _, moving: _ } => Length(0),
+        Job::OnBank { work, moving } => {
+            if 0 < moving.0 {
+                return moving;
+            }
+            work
+        }
+    }
+}
+
+// Step 5: the job on the bank uses days that all go to what it is at, moving days first.
+pub fn spent_by(job: Job, used: Length) -> Job
+    ensures exact { λ r. ⌜ r ≡ spentBy (used .0) job ⌝ }
 {
     match job {
         Job::Empty => Job::Empty,
         Job::Waiting { work, moving } => Job::Waiting { work, moving },
         Job::OnBank { work, moving } => {
             if 0 < moving.0 {
-                return on_or_gone(work, Length(moving.0 - 1));
+                return on_or_gone(work, less(moving, used));
             }
-            on_or_gone(day_less(work), moving)
+            on_or_gone(less(work, used), moving)
         }
     }
 }
@@ -97,14 +114,14 @@ fn on_or_gone(work: Length, moving: Length) -> Job
     Job::Empty
 }
 
-// A day less; of nothing, nothing.
-fn day_less(length: Length) -> Length
-    ensures exact { λ r. ⌜ r ≡ lessOne length ⌝ }
+// A length less another; nothing where the other is longer.
+fn less(length: Length, other: Length) -> Length
+    ensures exact { λ r. ⌜ r ≡ days (length .0 - other .0) ⌝ }
 {
-    if length.0 == 0 {
-        return length;
+    if length.shorter(other) {
+        return Length(0);
     }
-    Length(length.0 - 1)
+    Length(length.0 - other.0)
 }
 
 // What the bank does for the job in the slot s at a place: moving days first.

@@ -19,6 +19,7 @@ pub(crate) fn passes(q: Question, s: Slot) -> bool
         Question::Holding => is_on_bank(job),
         Question::Taker { day, due } => may_take(day, due, s),
         Question::Next => is_waiting(job),
+        Question::Due { after } => is_due_after(after, s),
     }
 }
 
@@ -28,6 +29,17 @@ fn is_late(day: Day, s: Slot) -> bool
 {
     let job = s.job;
     if s.deadline.0 == day.0 {
+        return unfinished(job);
+    }
+    false
+}
+
+// Due after the day, and something is left.
+fn is_due_after(after: Day, s: Slot) -> bool
+    ensures exact { λ r. ⌜ r ≡ okOf (Question.Due after) s ⌝ }
+{
+    let job = s.job;
+    if after.before(s.deadline) {
         return unfinished(job);
     }
     false
@@ -59,6 +71,7 @@ pub(crate) fn is_ahead(q: Question, s: Slot, r: Slot) -> bool
         Question::Holding => false,
         Question::Taker { day: _, due: _ } => s.deadline.before(r.deadline),
         Question::Next => goes_first(s, r),
+        Question::Due { after: _ } => s.deadline.before(r.deadline),
     }
 }
 

@@ -9,7 +9,8 @@ use Rattle.base.proofs.Prelude.{ℕ, suc, _+_, _*_, _≤_, _<_, _≡_, refl, sy
 use Rattle.rules.specs.{declared.Plan.Plan, declared.Release.Release, declared.Slot.Slot, Plan.stringsOf, Release.firstUnlawful, Demand.holdOf, Run.{onBank, waits, left}}
 use Rattle.base.proofs.{Lists.true-not-false, Sums.{sumTo, sumTo-none, sumTo-part}}
 use Rattle.laws.proofs.{Slots.at, Choice.Choice, ReleaseList.{str, Released, released-apart}}
-use Rattle.sound.proofs.{Places.holder-choice, Orderly.{Live, Orderly, on-held, live-if-on}}
+use Rattle.laws.proofs.Choices.{holder-choice}
+use Rattle.sound.proofs.Orderly.{Live, Orderly, on-held, live-if-on}
 
 -- ---- What is left in near jobs
 

@@ -5,7 +5,8 @@ use Rattle.rules.specs.{declared.Plan.Plan, declared.Release.Release, declared.
 use Rattle.base.proofs.Lists.{true-not-false, all-at}
 use Rattle.laws.proofs.{Lawful.{LawfulPlan, LawfulString}, Slots.{at, newSlot-string, newSlot-job, newSlot-release, newSlot-deadline, newSlot-serves}, ReleaseList.{str, Released, release-lawful, release-string, released-apart}, Demand.{holdOf-work, holdOf-taker}}
 use Rattle.sound.specs.Served.{payerIn}
-use Rattle.sound.proofs.{Places.late-none, Joining.{JoinedSlot, NoneCame, joined-at, joined-length}, Taking.{Taker, taken-taking}, Orderly.{held, Live, Sits, Orderly, live-if-waits, taken-orderly}}
+use Rattle.laws.proofs.Choices.{late-none}
+use Rattle.sound.proofs.{Joining.{JoinedSlot, NoneCame, joined-at, joined-length}, Taking.{Taker, taken-taking}, Orderly.{held, Live, Sits, Orderly, live-if-waits, taken-orderly}}
 
 pub lawful-str : (p : Plan) → LawfulPlan p → (j : ℕ) → j < length (stringsOf p) → LawfulString (str p j)
 lawful-str p lawful j h = all-at LawfulString (stringsOf p) noString (lawful .each) j h

@@ -2,7 +2,8 @@
 use Rattle.base.proofs.Prelude.{ℕ, zero, suc, _≤_, _<_, _≡_, ap, subst, inl, List, arith, decLe, le-refl, length, length-map, List·getD-map}
 use Rattle.rules.specs.{declared.Plan.Plan, declared.Release.Release, declared.Outcome.the-variants.Clean, Plan.{stringsOf, noString}, Release.firstUnlawful, Demand.Passes, Run.{emptySlot, left, morning, stateAt, lateOn, daysOf, isWork, isMove, isIdle, runOf}}
 use Rattle.laws.proofs.{Lawful.LawfulPlan, Slots.at, History.{missDay-none, runOf-clean}, ReleaseList.str}
-use Rattle.sound.proofs.{Places.late-nobody, Orderly.{Orderly, empty-not-on}, Account.{nearLeft, nearLeft-near, nearLeft-some, backlog, Mode, opened}, Keeping.{day-orderly, day-mode}, Closing.account-closes}
+use Rattle.laws.proofs.Choices.{late-nobody}
+use Rattle.sound.proofs.{Orderly.{Orderly, empty-not-on}, Account.{nearLeft, nearLeft-near, nearLeft-some, backlog, Mode, opened}, Keeping.{day-orderly, day-mode}, Closing.account-closes}
 use Rattle.base.proofs.Sums.{sumTo-part, sumTo-none}
 
 -- ---- The first day

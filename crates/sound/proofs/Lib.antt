@@ -1,6 +1,5 @@
 -- A plan that passes never misses a deadline. Modules stand in the order in which they build on each other; the theorems are in
 -- Clean, CleanAnswer and Served.
-pub mod Places
 pub mod Joining
 pub mod Taking
 pub mod Using

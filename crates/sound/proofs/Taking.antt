@@ -4,7 +4,7 @@ use Rattle.rules.specs.{declared.Plan.Plan, declared.Slot.Slot, declared.Job.Jo
 use Rattle.base.proofs.Lists.{true-not-false, and-left, and-right}
 use Rattle.sound.specs.Served.{payerIn}
 use Rattle.laws.proofs.{Slots.{at, slotAt-suc, change-length, change-same, change-other}, Steps.{taken-free, taken-kept, taken-over}, Choice.{Nobody, One, Choice}}
-use Rattle.sound.proofs.Places.{holder-choice, payer-choice}
+use Rattle.laws.proofs.Choices.{holder-choice, payer-choice}
 
 waits-not-on : (job : Job) → waits job ≡ true → onBank job ≡ true → ⊥
 waits-not-on Empty w o = true-not-false (sym o)

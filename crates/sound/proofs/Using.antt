@@ -5,7 +5,7 @@ use Rattle.days.specs.{declared.Length.Length, Days.days}
 use Rattle.rules.specs.{declared.Slot.Slot, declared.Job.Job, declared.Job.the-variants.{Empty, Waiting, OnBank}, declared.Use.Use, declared.Use.the-variants.Idle, Run.{slotAt, noneAhead, onBank, waits, left, holder, nextUp, goesFirst, seated, given, spentJob, onOrGone, spent, usedFor, useOf, withJob, putJob}}
 use Rattle.base.proofs.Lists.{by-bool, true-not-false}
 use Rattle.laws.proofs.{Slots.{at, slotAt-suc, change-length, change-same, change-other}, Steps.{given-held, given-nobody, given-next, useOf-free, useOf-held, spent-free, spent-held}, Choice.{Nobody, One, Choice}}
-use Rattle.sound.proofs.Places.{holder-choice, nextUp-choice, goesFirst-not}
+use Rattle.laws.proofs.Choices.{holder-choice, nextUp-choice, goesFirst-not}
 
 -- ---- Jobs
 

@@ -11,3 +11,4 @@ pub mod Onward
 pub mod Breaking
 pub mod Permit
 pub mod Readiness
+pub mod WorkAlone

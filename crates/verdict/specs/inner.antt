@@ -2,3 +2,4 @@
 -- speaks of it.
 pub mod Asked
 pub mod Steps
+pub mod Unblocked

@@ -21,7 +21,7 @@ ghost use lib.ListN.{getD};
 ghost use Rattle.base.specs.Count.{keep};
 ghost use Rattle.rules.specs.Plan.{multipleOf, dMin, dMax};
 ghost use Rattle.rules.specs.Demand.{demand};
-ghost use Rattle.rules.specs.Verdict.{Pair, allPairs, firstBroken, brokenAt, verdictOf, isPass};
+ghost use Rattle.rules.specs.Verdict.{Pair, allPairs, firstBroken, brokenAt};
 ghost use Rattle.demand.specs.Quick.{grows, quickPairs, quickOf};
 ghost use Rattle.demand.proofs.Pairs.{rowFrom, rows, scanFrom};
 ghost use Rattle.verdict.specs.inner.Asked.{Ready, askedBy};
@@ -230,13 +230,4 @@ pub(crate) fn broken_at(p: Plan, h: u32) -> Broken
         return Broken::Nowhere;
     };
     Broken::At { interval, blocking }
-}
-
-// Whether the plan passes: the full verdict would say the same.
-pub(crate) fn passes(p: Plan, h: u32) -> bool
-    requires { ⌜ Ready p ⌝ }
-    requires { ⌜ h ≡ multipleOf p ⌝ }
-    ensures { λ r. ⌜ r ≡ isPass (verdictOf p) ⌝ }
-{
-    quickly_judged(p, h).passes()
 }

@@ -6,6 +6,7 @@ mod holds;
 mod limits;
 mod pairs;
 mod permissions;
+mod remembering;
 mod steps;
 
 use bounds::multiple;

@@ -1,19 +1,22 @@
 // The search: sets with fewer ones first, among equals the smaller number first; the first that passes is the answer.
-use super::growing::passes;
-use super::steps::advance;
-use super::steps::parts_of;
-use super::steps::steps_after;
+use super::growing::quickly_judged;
+use super::remembering::Remembered;
+use super::remembering::Trial;
+use super::remembering::learnt;
+use super::remembering::nothing;
+use super::remembering::tried;
 use rules::Assign;
 use rules::BatteryString;
 use rules::Plan;
-ghost use Prim.Native.Nat.{ℕ};
+use rules::Verdict;
 ghost use mathlib.Core.Path.{_≡_};
-ghost use mathlib.Core.Bool.{true, false, _&&_};
+ghost use mathlib.Core.Bool.{_&&_};
 ghost use lib.Dec.{eqb};
 ghost use lib.Count.{ones as onesOf};
 ghost use Rattle.rules.specs.Plan.{multipleOf};
 ghost use Rattle.rules.specs.Search.{withSet, setPasses, searchOf};
 ghost use Rattle.verdict.specs.inner.Asked.{Ready};
+ghost use Rattle.verdict.specs.inner.Unblocked.{namesUnblocked};
 
 // The string with permission x.
 fn permitted(s: BatteryString, x: u32) -> BatteryString
@@ -45,46 +48,39 @@ pub(crate) fn with_set(p: Plan, set: u32) -> Plan
     Plan { n, run, strings }
 }
 
-// Whether the work alone, with no moving and no blocking, breaks the rule within h days, from step to step: then no set passes.
-fn too_much_work(p: Plan, h: u32) -> bool
-    requires { ⌜ Ready p ⌝ }
-    requires { ⌜ h ≡ multipleOf p ⌝ }
-    ensures { λ r. ⌜ (r ≡ true → (m : ℕ) → setPasses p m ≡ false) ⌝ }
+// Whether a verdict names a pair with no blocking; an overload breaks the rule at H with none.
+fn unblocked(found: Verdict) -> bool
+    ensures { λ r. ⌜ r ≡ namesUnblocked found ⌝ }
 {
-    let alone = with_set(p, 0);
-    let parts = parts_of(alone);
-    let every = parts.every;
-    let keeps = parts.keeps;
-    let takes = parts.takes;
-    let mut next = steps_after(alone, 0);
-    let end = h + 1;
-    let mut keepers: u32 = 0;
-    let mut l: u32 = 1;
-    while l < end {
-        let step = advance(alone, l, end, &every, &keeps, &takes, &mut next);
-        keepers += step.keepers;
-        if l < keepers {
-            return true;
-        }
-        l = step.soonest;
+    match found {
+        Verdict::Overload => true,
+        Verdict::Fail {
+            interval: _,
+            blocking,
+            demand: _,
+            pairs: _,
+        } => blocking.0 == 0,
+        Verdict::Pass { pairs: _ } => false,
     }
-    false
 }
 
-// Whether the set has so many ones and passes.
-fn candidate(p: Plan, h: u32, ones: u32, set: u32) -> bool
+// The set, tried: whether it has so many ones and passes, and what is remembered afterwards.
+fn candidate(p: Plan, h: u32, ones: u32, set: u32, known: Remembered) -> Trial
     requires { ⌜ Ready p ⌝ }
     requires { ⌜ h ≡ multipleOf p ⌝ }
-    ensures { λ r. ⌜ r ≡ (eqb (onesOf set) ones && setPasses p set) ⌝ }
+    ensures { λ r. ⌜ r .passes ≡ (eqb (onesOf set) ones && setPasses p set) ⌝ }
 {
     if u32::count_ones(set) == ones {
-        return passes(with_set(p, set), h);
+        return tried(with_set(p, set), h, known);
     }
-    false
+    Trial {
+        passes: false,
+        known,
+    }
 }
 
-// The first set that passes. Whether any can is asked once the empty set has failed.
-pub(crate) fn first_set(p: Plan, h: u32) -> Assign
+// The first set that passes, with what is remembered so far.
+fn first_of_all(p: Plan, h: u32, before: Remembered) -> Assign
     requires { ⌜ Ready p ⌝ }
     requires { ⌜ h ≡ multipleOf p ⌝ }
     ensures { λ r. ⌜ r ≡ searchOf p ⌝ }
@@ -92,24 +88,39 @@ pub(crate) fn first_set(p: Plan, h: u32) -> Assign
     let n = p.n;
     let most = n as u32;
     let end = 1u32 << n;
+    let mut known = before;
     let mut ones: u32 = 0;
     let found = 'sets: loop {
         if most < ones {
             break 'sets Assign::Nobody;
         }
-        if ones == 1 {
-            if too_much_work(p, h) {
-                break 'sets Assign::Nobody;
-            }
-        }
         let mut set: u32 = 0;
         while set < end {
-            if candidate(p, h, ones, set) {
+            let tried = candidate(p, h, ones, set, known);
+            if tried.passes {
                 break 'sets Assign::Takers { set };
             }
+            let learnt = tried.known;
+            known = learnt;
             set += 1;
         }
         ones += 1;
     };
     found
+}
+
+// The first set that passes. Where the empty set breaks the rule with no blocking, the work alone is too much, and no set passes.
+pub(crate) fn first_set(p: Plan, h: u32) -> Assign
+    requires { ⌜ Ready p ⌝ }
+    requires { ⌜ h ≡ multipleOf p ⌝ }
+    ensures { λ r. ⌜ r ≡ searchOf p ⌝ }
+{
+    let alone = quickly_judged(with_set(p, 0), h);
+    if alone.passes() {
+        return Assign::Takers { set: 0 };
+    }
+    if unblocked(alone) {
+        return Assign::Nobody;
+    }
+    first_of_all(p, h, learnt(nothing(), alone, h))
 }

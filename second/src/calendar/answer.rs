@@ -6,6 +6,8 @@ use std::collections::HashMap;
 /// The sheets, and where each text and each day stands among them.
 pub struct Calendar {
     pub sheets: Vec<Sheet>,
+    /// The month and the day that each sheet shows.
+    yearly: Vec<String>,
     by_text: HashMap<String, usize>,
     by_day: HashMap<String, usize>,
 }
@@ -19,11 +21,23 @@ impl Calendar {
         let place = |texts: Vec<String>| texts.into_iter().zip(0..).collect();
         let by_text = place(sheets.iter().map(Sheet::text).collect());
         let by_day = place(sheets.iter().map(|sheet| sheet.day.to_string()).collect());
+        let yearly = sheets.iter().map(Sheet::yearly_text).collect();
         Calendar {
             sheets,
+            yearly,
             by_text,
             by_day,
         }
+    }
+
+    /// The day number of the date that a text is.
+    pub fn day_of(&self, text: &str) -> Option<usize> {
+        self.by_text.get(text).copied()
+    }
+
+    /// Whether a month and a day exist in some year.
+    pub fn has_yearly(&self, on: &str) -> bool {
+        self.yearly.iter().any(|shown| shown == on)
     }
 
     /// The answer to the words after `clerk`.
@@ -73,7 +87,9 @@ impl Calendar {
         if edition != "1" && edition != "2" {
             return Some(NO_SUCH_EDITION.to_string());
         }
-        self.sheets.iter().find(|sheet| sheet.yearly_text() == on)?;
+        if !self.has_yearly(on) {
+            return None;
+        }
         let (first, last) = (*self.by_text.get(first)?, *self.by_text.get(last)?);
         let days = first..(last + 1).max(first);
         let falls = days.filter(|day| self.falls(on, edition, *day));
@@ -82,10 +98,8 @@ impl Calendar {
 
     /// Edition 1: the sheet shows the month and the day. Edition 2 does a test of 29 February on a 28 February that the 1st of March follows.
     pub fn falls(&self, on: &str, edition: &str, day: usize) -> bool {
-        let shows = |day: usize, text: &str| match self.sheets.get(day) {
-            Some(sheet) => sheet.yearly_text() == text,
-            None => false,
-        };
+        let shows =
+            |day: usize, text: &str| self.yearly.get(day).map_or(false, |shown| shown == text);
         let moved = edition == "2" && on == "02-29";
         shows(day, on) || moved && shows(day, "02-28") && shows(day + 1, "03-01")
     }

@@ -4,7 +4,7 @@ use super::answer::Calendar;
 use crate::chance::Chance;
 
 /// Texts that are no date, each for another reason.
-const BAD_DATES: [&str; 16] = [
+pub const BAD_DATES: [&str; 16] = [
     "2001-02-29",
     "2100-02-29",
     "2400-01-01",

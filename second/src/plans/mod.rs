@@ -7,6 +7,7 @@ pub mod extreme;
 pub mod far;
 pub mod load;
 pub mod releases;
+pub mod runs;
 pub mod shaped;
 pub mod strings;
 pub mod takings;

@@ -3,28 +3,8 @@
 use super::plans::any_lawful;
 use super::writer::numbers;
 use crate::chance::Chance;
-use crate::rules::plan::{BatteryString, Plan};
-
-/// A line in its parts. A fault changes these, whatever the string was.
-#[derive(Clone)]
-pub struct Row {
-    pub numbers: Vec<String>,
-    pub end: String,
-}
-
-impl Row {
-    pub fn of(string: &BatteryString) -> Row {
-        Row {
-            numbers: numbers(string).map(|number| number.to_string()).to_vec(),
-            end: "\r\n".into(),
-        }
-    }
-
-    /// A line of these numbers, or whatever stands in their place.
-    pub fn text(&self) -> String {
-        self.numbers.join(",") + &self.end
-    }
-}
+use crate::rows::{self, Row};
+use crate::rules::plan::Plan;
 
 pub struct Export {
     pub plan: Plan,
@@ -38,15 +18,13 @@ impl Export {
     }
 
     pub fn of(plan: Plan) -> Export {
-        let rows = plan.strings.iter().map(Row::of).collect();
+        let row = |string| Row::of(&numbers(string));
+        let rows = plan.strings.iter().map(row).collect();
         Export { plan, rows }
     }
 
     pub fn text(&self) -> Vec<u8> {
-        self.rows
-            .iter()
-            .flat_map(|row| row.text().into_bytes())
-            .collect()
+        rows::text(&self.rows)
     }
 
     /// The place of any row, counted from 0.

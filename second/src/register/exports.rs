@@ -1,14 +1,15 @@
 //! Which kind of export comes when, and the making of it.
 
-use super::damage::{self, ENDED, SPELT};
-use super::export::{Export, Row};
+use super::damage;
+use super::export::Export;
 use super::plans;
 use super::writer::table;
 use crate::chance::Chance;
 use crate::mix::{self, kind, Kind, Made};
 use crate::plans::cycles;
+use crate::rows::{self, Row, ENDED, SPELT};
 use crate::rules::plan::Length;
-use crate::writing;
+use crate::{texts, writing};
 
 const EXPORTS: [Kind; 18] = [
     kind!("lawful", 100, lawful),
@@ -112,7 +113,7 @@ fn spelling(chance: &mut Chance, turn: u64) -> Vec<u8> {
     let mut export = Export::draw(chance);
     let at = export.any_row(chance);
     let turn = turn as usize;
-    damage::spell(&mut export.rows[at], turn % 5, turn / 5 % SPELT);
+    rows::spell(&mut export.rows[at], turn % 5, turn / 5 % SPELT);
     export.text()
 }
 
@@ -125,7 +126,7 @@ fn line_end(chance: &mut Chance, turn: u64) -> Vec<u8> {
     } else {
         export.any_row(chance)
     };
-    damage::end(&mut export.rows[at], turn as usize / 2 % ENDED);
+    rows::end(&mut export.rows[at], turn as usize / 2 % ENDED);
     export.text()
 }
 
@@ -134,7 +135,7 @@ fn count_of_numbers(chance: &mut Chance, turn: u64) -> Vec<u8> {
     let mut export = Export::draw(chance);
     let at = export.any_row(chance);
     let row = &mut export.rows[at];
-    damage::set_count(row, COUNTS[turn as usize % COUNTS.len()]);
+    rows::set_count(row, COUNTS[turn as usize % COUNTS.len()]);
     // a number that is missing between its commas is still one of five, but no number
     if chance.one_in(4) {
         let place = chance.index(row.numbers.len() + 1);
@@ -146,28 +147,20 @@ fn count_of_numbers(chance: &mut Chance, turn: u64) -> Vec<u8> {
 fn between_numbers(chance: &mut Chance, _: u64) -> Vec<u8> {
     let mut export = Export::draw(chance);
     let at = export.any_row(chance);
-    damage::join(chance, &mut export.rows[at]);
+    rows::join(chance, &mut export.rows[at]);
     export.text()
 }
 
 /// Every value in turn, anywhere.
 fn one_byte(chance: &mut Chance, turn: u64) -> Vec<u8> {
     let mut text = Export::draw(chance).text();
-    let at = chance.index(text.len());
-    text[at] = (turn % 256) as u8;
+    texts::change_byte(chance, &mut text, (turn % 256) as u8);
     text
 }
 
-/// Most often one that lines are made of.
 fn byte_more_or_less(chance: &mut Chance, turn: u64) -> Vec<u8> {
     let mut text = Export::draw(chance).text();
-    let at = chance.index(text.len());
-    match turn % 4 {
-        0 => drop(text.remove(at)),
-        1 => text.insert(at, chance.byte()),
-        2 => text.insert(at, text[at]),
-        _ => text.insert(at, chance.pick(b"0123456789,\r\n")),
-    }
+    texts::change_length(chance, &mut text, turn);
     text
 }
 
@@ -180,8 +173,7 @@ fn text_cut(chance: &mut Chance, turn: u64) -> Vec<u8> {
 
 /// About as long as a text may be: a lawful table, a spoilt one or none, filled up with something.
 fn long_text(chance: &mut Chance, turn: u64) -> Vec<u8> {
-    const LENGTHS: [usize; 6] = [65_535, 65_536, 65_537, 65_538, 70_000, 131_072];
-    const FILLERS: [&str; 6] = ["0", "\r\n", "\n", ",", "1,1,1,0,0\r\n", "\0"];
+    const FILLINGS: [&str; 6] = ["0", "\r\n", "\n", ",", "1,1,1,0,0\r\n", "\0"];
     let mut export = Export::draw(chance);
     match chance.below(3) {
         0 => spoil_any(chance, &mut export),
@@ -189,12 +181,7 @@ fn long_text(chance: &mut Chance, turn: u64) -> Vec<u8> {
         _ => {}
     }
     let mut text = export.text();
-    let turn = turn as usize;
-    let length = LENGTHS[turn % LENGTHS.len()];
-    let filler = FILLERS[turn / LENGTHS.len() % FILLERS.len()]
-        .bytes()
-        .cycle();
-    text.extend(filler.take(length.saturating_sub(text.len())));
+    texts::fill_up(&mut text, &FILLINGS, turn);
     text
 }
 

@@ -1,6 +1,7 @@
 //! Reading an export of the register: lines of T,C,D,X,moving cost, and what is refused in which order.
 
 use super::run_length::RunLength;
+use crate::decimal::numbers_of;
 use crate::rules::frames::{require, Refusal, MOST_BYTES};
 use crate::rules::plan::{BatteryString, Plan, RUN};
 
@@ -39,22 +40,8 @@ fn read_line(text: &[u8], line: usize) -> Result<BatteryString, Refusal> {
 
 /// The string that a line spells, if it is five numbers between commas, ended by CR LF.
 fn string_of(text: &[u8]) -> Option<BatteryString> {
-    let fields = text.strip_suffix(b"\r\n")?.split(|byte| *byte == b',');
-    let numbers: Vec<u64> = fields.map(number_of).collect::<Option<_>>()?;
-    match numbers[..] {
+    match numbers_of(text, MOST_DIGITS)?[..] {
         [t, c, d, x, moving] => Some(BatteryString { x, t, c, d, moving }),
         _ => None,
     }
-}
-
-/// The number that a field spells, if it is one to four digits without a leading zero. A 0 leads only
-/// where a digit follows it.
-fn number_of(field: &[u8]) -> Option<u64> {
-    let leads = field.len() > 1 && field[0] == b'0';
-    let digits = (1..=MOST_DIGITS).contains(&field.len()) && field.iter().all(u8::is_ascii_digit);
-    if leads || !digits {
-        return None;
-    }
-    let value = |sum, digit: &u8| 10 * sum + u64::from(digit - b'0');
-    Some(field.iter().fold(0, value))
 }

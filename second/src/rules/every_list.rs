@@ -15,6 +15,9 @@ struct Morning {
 /// Every morning is that of this day: the jobs' days are moved instead, so that there are finitely many mornings.
 const TODAY: Day = 1_000_000;
 
+/// Jobs of different lists are the same job here.
+const IN_NO_LIST: usize = 0;
+
 /// Some list of releases misses.
 pub fn can_miss(plan: &Plan) -> bool {
     can_miss_by(Policy::default(), plan)
@@ -64,7 +67,7 @@ fn after(policy: Policy, plan: &Plan, morning: &Morning, joins: &[Length]) -> Mo
             day: TODAY,
             need: *need,
         };
-        next.hall.waiting.push(job(plan, &release));
+        next.hall.waiting.push(job(plan, &release, IN_NO_LIST));
         next.since[at] = 0;
     }
     next.hall.take_and_give(policy, TODAY, plan);

@@ -8,3 +8,4 @@ pub mod quick;
 pub mod rule;
 pub mod run;
 pub mod search;
+pub mod stints;

@@ -64,6 +64,16 @@ impl Plan {
         string.c + string.moving * string.x
     }
 
+    /// The string of a lawful release.
+    pub fn string_of(&self, release: &Release) -> &BatteryString {
+        &self.strings[release.place as usize - 1]
+    }
+
+    /// The day up to which, and not into which, a lawful release may be served.
+    pub fn deadline(&self, release: &Release) -> Day {
+        release.day + self.string_of(release).d
+    }
+
     /// H, or nothing if it is over its bound.
     pub fn cycle(&self) -> Option<Length> {
         let mut cycle = 1;

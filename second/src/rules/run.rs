@@ -20,6 +20,8 @@ pub enum Outcome {
 #[derive(Clone, PartialEq, Eq, Hash)]
 pub struct Job {
     pub place: u64,
+    /// Its release's place in the list, counted from 1; 0 where there is no list.
+    number: usize,
     /// X is 1.
     taker: bool,
     release: Day,
@@ -28,10 +30,11 @@ pub struct Job {
     pub moving: Length,
 }
 
-/// What a day of the bank went into.
+/// What a day of the bank goes into: the place on it, and which release of the list it serves.
+#[derive(Clone, Copy, Debug, PartialEq)]
 pub enum Use {
-    Work,
-    Moving,
+    Work { place: u64, release: usize },
+    Moving { place: u64, release: usize },
     Idle,
 }
 
@@ -65,14 +68,14 @@ pub fn run_by(policy: Policy, plan: &Plan) -> Outcome {
 /// The same; somebody looks on each day at the hall after step 4, before the day is used.
 pub fn run_watched(policy: Policy, plan: &Plan, mut watch: impl FnMut(Day, &Hall)) -> Outcome {
     let mut hall = Hall::empty();
-    let mut releases = plan.releases.iter().peekable();
+    let mut releases = plan.releases.iter().zip(1..).peekable();
     let (mut work, mut moving, mut idle) = (0, 0, 0);
     for day in 0..plan.days {
         if let Some(place) = hall.late(day) {
             return Outcome::Miss { day, place };
         }
-        while let Some(release) = releases.next_if(|release| release.day == day) {
-            hall.waiting.push(job(plan, release));
+        while let Some((release, number)) = releases.next_if(|(release, _)| release.day == day) {
+            hall.waiting.push(job(plan, release, number));
             if policy.starts_early {
                 hall.take_and_give(policy, day, plan);
             }
@@ -80,8 +83,8 @@ pub fn run_watched(policy: Policy, plan: &Plan, mut watch: impl FnMut(Day, &Hall
         hall.take_and_give(policy, day, plan);
         watch(day, &hall);
         match hall.use_day() {
-            Use::Work => work += 1,
-            Use::Moving => moving += 1,
+            Use::Work { .. } => work += 1,
+            Use::Moving { .. } => moving += 1,
             Use::Idle => idle += 1,
         }
     }
@@ -94,13 +97,13 @@ pub fn run_watched(policy: Policy, plan: &Plan, mut watch: impl FnMut(Day, &Hall
     }
 }
 
-pub fn job(plan: &Plan, release: &Release) -> Job {
-    let string = &plan.strings[release.place as usize - 1];
+pub fn job(plan: &Plan, release: &Release, number: usize) -> Job {
     Job {
         place: release.place,
-        taker: string.x == 1,
+        number,
+        taker: plan.string_of(release).x == 1,
         release: release.day,
-        deadline: release.day + string.d,
+        deadline: plan.deadline(release),
         work: release.need,
         moving: 0,
     }
@@ -172,21 +175,32 @@ impl Hall {
         self.bank = next.map(|at| self.waiting.swap_remove(at));
     }
 
-    /// Step 5: the job on the bank uses the day, moving first, and is gone once nothing is left.
+    /// What the day will go into once the bank is given out: moving days come first.
+    pub fn today(&self) -> Use {
+        match &self.bank {
+            None => Use::Idle,
+            Some(job) => {
+                let (place, release) = (job.place, job.number);
+                if job.moving > 0 {
+                    Use::Moving { place, release }
+                } else {
+                    Use::Work { place, release }
+                }
+            }
+        }
+    }
+
+    /// Step 5: the job on the bank uses the day, and is gone once nothing is left.
     pub fn use_day(&mut self) -> Use {
-        let job = match &mut self.bank {
-            Some(job) => job,
-            None => return Use::Idle,
-        };
-        let used = if job.moving > 0 {
-            job.moving -= 1;
-            Use::Moving
-        } else {
-            job.work -= 1;
-            Use::Work
-        };
-        if job.moving == 0 && job.work == 0 {
-            self.bank = None;
+        let used = self.today();
+        if let Some(job) = &mut self.bank {
+            match used {
+                Use::Moving { .. } => job.moving -= 1,
+                _ => job.work -= 1,
+            }
+            if job.moving == 0 && job.work == 0 {
+                self.bank = None;
+            }
         }
         used
     }

@@ -11,7 +11,7 @@ lawful c = sym (c .before .before .run-check .ensures) ∙ c .enum-told .given .
 
 returns : tie.Need-returns
 unfolding runAnswer
-returns c = rw (lawful (c .before)) (ap Given (c .run-days .ensures))
+returns c = rw (lawful (c .before)) (ap Given (c .walk-alone .ensures .outcome))
 
 returns-2 : tie.Need-returns-2
 unfolding runAnswer

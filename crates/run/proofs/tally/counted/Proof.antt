@@ -1,4 +1,4 @@
--- `run::tally::counted` meets its contract: in each arm the day is of the kind that the arm names.
+-- `run::tally::counted` meets its contract: in each arm the days are of the kind that the arm names.
 use Rattle.base.proofs.Prelude.{needs}
 use Rattle.run.proofs.tally.counted.Statement.{statement}
 use Rattle.run.proofs.tally.counted.Tie as tie
@@ -7,5 +7,5 @@ pub counted-spec : {M : Type 1} → statement M
 counted-spec =
     tie.close (tie.spec
     (λ c. search needs) (λ c. search needs) (λ c. search needs) (λ c. search needs) (λ c. search needs)
-    (λ c. search needs) (λ c. rw (c .before .enum-told .given .1)) (λ c. rw (c .before .enum-told2 .given .1))
-    (λ c. rw (c .before .enum-told3 .given .1)))
+    (λ c. search needs) (λ c. rw (c .before .before .enum-told .given .1)) (λ c. rw (c .before .before .enum-told2 .given .1))
+    (λ c. rw (c .before .before .enum-told3 .given .1)))

@@ -1,96 +1,47 @@
--- `verdict::permissions::first_set` meets its contract: the first passing set of those that are left is the first of all.
-use Rattle.base.proofs.Prelude.{ℕ, _+_, _-_, _^_, _≤_, _<_, _≡_, sym, _∙_, false, _&&_, List, _++_, arith, eqb-true, eqb-false, ones, eqb}
-use Rattle.rules.specs.{declared.Plan.Plan, Search.{setPasses, firstPassing, searchOf}}
-use Rattle.base.proofs.Lists.{by-bool, and-left, and-right}
-use Rattle.laws.proofs.Powers.{sets-small, shift-is-sets}
-use Rattle.demand.proofs.{Search.nobody-of-none, SetWalk.{setsFrom, setRows, searchOf-rows, walk-row, walk-other, walk-fails, walk-found, walk-row-end, walk-end}}
-use Rattle.verdict.proofs.permissions.first_set.Statement.{statement}
+-- `verdict::permissions::first_set` meets its contract: the empty set comes first; where it fails without blocking, every set does.
+use Rattle.base.proofs.Prelude.{_^_, _≤_, zero-le, _≡_, refl, sym, ap, _∙_, subst, true, needs, arith}
+use lib.Count.{ones}
+use lib.Pow.{pow-mono}
+use Rattle.rules.specs.{Plan.multipleOf, Verdict.isPass, Search.{setPasses, withSet}}
+use Rattle.demand.proofs.{Agreeing.quick-passes, Sets.{withSet-lawful, withSet-multiple}, Search.nobody-of-none, SetWalk.{searchOf-rows, walk-row, walk-found}}
+use Rattle.demand.specs.Quick.{quickOf}
+use Rattle.verdict.specs.inner.Asked.{Ready}
+use Rattle.verdict.proofs.{Permit.ready-with, WorkAlone.unblocked-none, permissions.first_set.Statement.statement}
 use Rattle.verdict.proofs.permissions.first_set.Tie as tie
 
--- a set that is no candidate is passed by
-passed :
-    (p : Plan) (n k m : ℕ) (ms : List ℕ) → m < 2 ^ n → (eqb (ones m) k && setPasses p m) ≡ false
-    → firstPassing p (setsFrom n k m ++ ms) ≡ firstPassing p (setsFrom n k (m + 1) ++ ms)
-passed p n k m ms h fault =
-    by-bool (eqb (ones m) k)
-    (λ t.
-    let fails : setPasses p m ≡ false = rw t at fault in
-    walk-fails p n k m ms h (eqb-true (ones m) k t) fails)
-    (λ f. walk-other p n k m ms h (eqb-false (ones m) k f))
+quickly-judged-requires : tie.Need-quickly-judged-requires
+quickly-judged-requires c κs =
+    let start = c .before in (
+      subst Ready (sym (c .with-set .ensures)) (ready-with (start .args .p) 0 (start .pre .0)),
+      start .pre .1 ∙ sym (ap multipleOf (c .with-set .ensures) ∙ withSet-multiple (start .args .p) 0),
+    )
 
-abbrev Inv-loop : tie.InvT-loop
-Inv-loop p h n most end ones set₀ set = (set ≤ end) × (firstPassing p (setsFrom n ones set ++ setRows n (ones + 1)) ≡ searchOf p)
+-- the verdict is that of the empty set
+alone : (c : tie.After-quickly-judged) → c .quickly-judged .result ≡ quickOf (withSet (c .before .before .args .p) 0)
+alone c = c .quickly-judged .ensures ∙ ap quickOf (c .before .with-set .ensures)
 
-abbrev μ-loop : tie.MeasureT-loop
-μ-loop p h n most end ones set₀ set = end - set
-
-abbrev Inv-sets : tie.InvT-sets
-Inv-sets p h n most end ones₀ ones = (ones ≤ n + 1) × (n ≤ 10) × (end ≡ 2 ^ n) × (firstPassing p (setRows n ones) ≡ searchOf p)
-
-abbrev μ-sets : tie.MeasureT-sets
-μ-sets p h n most end ones₀ ones = n + 1 - ones
-
-sets-holds : tie.Need-sets-holds Inv-loop μ-loop Inv-sets μ-sets
-sets-holds c =
-    let few = c .pre .0 .lawful .nMax in
-    (omega arith, few, shift-is-sets (c .args .p .n) few, sym (searchOf-rows (c .args .p)))
-
-loop-holds : tie.Need-loop-holds Inv-loop μ-loop Inv-sets μ-sets
-loop-holds c =
-    let at = c .before .before in
-    let p = at .before .args .p in
-    (omega arith, sym (walk-row p (p .n) (at .sets .ones) 0 (omega arith)) ∙ at .sets .inv .3)
-
-add-set : tie.Need-add-set Inv-loop μ-loop Inv-sets μ-sets
-add-set c =
-    let at = c .before .before .before .before .before .before in
-    omega (arith, at .sets .inv .2, sets-small (at .before .args .p .n) (at .sets .inv .1))
-
-loop-again : tie.Need-loop-again Inv-loop μ-loop Inv-sets μ-sets
-loop-again c =
-    let at = c .before .before .before .before .before .before in
-    let p = at .before .args .p in
-    let k = at .sets .ones in
-    let loop = c .before .before .before .loop in
-    let below : loop .set < 2 ^ p .n = omega (arith, at .sets .inv .2) in
-    (omega arith, sym (passed p (p .n) k (loop .set) _ below (sym (c .before .candidate .ensures) ∙ c .if4 .left)) ∙ loop .inv .1)
-
-sets-again : tie.Need-sets-again Inv-loop μ-loop Inv-sets μ-sets
-sets-again c =
-    let at = c .before .before .before .before in
-    let p = at .before .args .p in
-    let loop = c .before .loop in
-    let past : 2 ^ p .n ≤ loop .set = omega (arith, at .sets .inv .2) in
-    (omega arith, at .sets .inv .1, at .sets .inv .2, sym (walk-row-end p (p .n) (at .sets .ones) (loop .set) _ past) ∙ loop .inv .1)
-
-returns : tie.Need-returns Inv-loop μ-loop Inv-sets μ-sets
+returns : tie.Need-returns
+unfolding setPasses ones
 returns c =
-    let at = c .before in
-    let p = at .before .args .p in
-    sym (walk-end p (p .n) (at .sets .ones) 0 (c .if1 .taken)) ∙ at .sets .inv .3
+    let judged = c .before .before in
+    let start = judged .before .before in
+    let p = start .args .p in
+    let ok = start .pre .0 .lawful in
+    let passes : setPasses p 0 ≡ true =
+    sym (quick-passes (withSet p 0) (withSet-lawful p 0 ok .each)) ∙ ap isPass (sym (alone judged))
+    ∙ sym (c .before .passes .ensures) ∙ c .if1 .taken in
+    let some : 2 ^ 0 ≤ 2 ^ p .n = pow-mono zero-le in
+    sym (searchOf-rows p ∙ walk-row p (p .n) 0 0 (omega arith) ∙ walk-found p (p .n) 0 0 _ (omega arith) refl passes)
 
-returns-2 : tie.Need-returns-2 Inv-loop μ-loop Inv-sets μ-sets
+returns-2 : tie.Need-returns-2
 returns-2 c =
-    let start = c .before .before .before .before .before in
-    sym (nobody-of-none (start .args .p) (λ m h. c .before .too-much-work .ensures (c .if3 .taken) m))
-
-returns-3 : tie.Need-returns-3 Inv-loop μ-loop Inv-sets μ-sets
-returns-3 c =
-    let at = c .before .before .before .before .before .before in
-    let p = at .before .args .p in
-    let k = at .sets .ones in
-    let loop = c .before .before .before .loop in
-    let m = loop .set in
-    let found = sym (c .before .candidate .ensures) ∙ c .if4 .taken in
-    let below : m < 2 ^ p .n = omega (arith, at .sets .inv .2) in
-    let counted = eqb-true (ones m) k (and-left (eqb (ones m) k) (setPasses p m) found) in
-    sym (walk-found p (p .n) k m _ below counted (and-right (eqb (ones m) k) (setPasses p m) found))
-    ∙ loop .inv .1
+    let judged = c .before .before .before .before in
+    let start = judged .before .before in
+    sym (nobody-of-none (start .args .p) (λ m h.
+    unblocked-none (start .args .p) (start .pre .0 .lawful) _ (alone judged) (sym (c .before .unblocked .ensures) ∙ c .if2 .taken) m))
 
 pub first-set-spec : {M : Type 1} → statement M
 first-set-spec =
     tie.close (tie.spec
-    Inv-loop μ-loop Inv-sets μ-sets (λ c. omega (arith, c .pre .0 .lawful .nMax))
-    (λ c. omega (arith, c .pre .0 .lawful .nMax)) (λ c. omega (arith, c .pre .0 .lawful .nMax)) sets-holds
-    (λ c κs. c .before .before .before .pre) loop-holds (λ c κs. c .before .before .before .before .before .pre) add-set
-    (λ c. omega arith) loop-again (λ c. omega arith) (λ c. omega arith) sets-again returns returns-2 returns-3)
+    (λ c κs. search needs) quickly-judged-requires (λ c κs. search needs) returns (λ c κs. search needs) returns-2
+    (λ c κs. search needs) (λ c κs. search needs) (λ c κs. search needs) (λ c. search needs))
