@@ -1,6 +1,6 @@
 -- The string whose job blocks: where the blocking limit allows b, some string has D over l and C over b, and the first such is named.
 use Rattle.base.proofs.Prelude.{ℕ, suc, _-_, _≤_, _<_, _≡_, sym, ap, _∙_, true, _&&_, arith, decLe, ltb-true, lt-ltb, leb, ltb, length}
-use Rattle.rules.specs.{declared.BatteryString.BatteryString, declared.Plan.Plan, Plan.{stringsOf, stringAt, noString, dMin, dMax}, Demand.{blockerHold, blockLimit}}
+use Rattle.rules.specs.{declared.BatteryString.BatteryString, declared.Plan.Plan, Plan.{stringsOf, stringAt, noString, leewayMin, dMax}, Demand.{blockerHold, blockLimit}}
 use Rattle.base.specs.Count.{largest}
 use Rattle.base.proofs.{Lists.{Some, by-bool, true-not-false, and-left, and-right, and-both, largest-some}, Least.{leastFrom-low, leastFrom-passes, leastFrom-before}, Adding.largest-mapped}
 use Rattle.laws.proofs.{Demand.{blockerHold-early, blockerHold-late}, ReleaseList.{str, stringAt-suc}}
@@ -11,7 +11,7 @@ use Rattle.exact.proofs.Freely.{freely-strings, freely-hold}
 limit-largest : (p : Plan) (l b : ℕ) → 1 ≤ b → b ≤ blockLimit p l → b ≤ largest (blockerHold p l) (stringsOf p)
 unfolding blockLimit
 limit-largest p l b pos h =
-    by-bool (leb (dMin p) l && ltb l (dMax p))
+    by-bool (leb (leewayMin p) l && ltb l (dMax p))
     (λ t. let limit = rw t at h in omega arith)
     (λ e. let limit = rw e at h in absurd (omega arith))
 

@@ -45,7 +45,7 @@ multiples t (suc m) pos =
     omega arith
 
 -- two multiples of t lie t apart
-multiples-apart : (t i j : ℕ) → i % t ≡ 0 → j % t ≡ 0 → i < j → i + t ≤ j
+pub multiples-apart : (t i j : ℕ) → i % t ≡ 0 → j % t ≡ 0 → i < j → i + t ≤ j
 multiples-apart t i j a b h =
     let whole-i = div-add-mod' i t in
     let whole-j = div-add-mod' j t in
@@ -61,11 +61,13 @@ multiples-apart t i j a b h =
 -- ---- Within a window of w days
 
 -- a job that comes on day j of a window of w days is due in it
-abbrev inWindow : BatteryString → ℕ → ℕ → Bool
+abbrev pub inWindow : BatteryString → ℕ → ℕ → Bool
 inWindow s w j = eqb (j % s .t .0) 0 && leb (j + s .d .0) w
 
-window-count : (s : BatteryString) (w : ℕ) → 1 ≤ s .t .0 → 1 ≤ s .d .0 → sumTo w (λ j. countedIf (inWindow s w j)) ≡ jobs s w
-window-count s w t d =
+-- the window is longer by J: a job may be due so many days earlier
+pub window-count : (s : BatteryString) (w v : ℕ) → 1 ≤ s .t .0 → 1 ≤ s .d .0 → w ≡ v + s .j .0
+    → sumTo w (λ j. countedIf (inWindow s w j)) ≡ jobs s v
+window-count s w v t d late =
     elim (decLe (s .d .0) w) [
       | yes long ↦
           let m = w - s .d .0 in
@@ -75,11 +77,14 @@ window-count s w t d =
           let early = sumTo-eq (suc m) (λ j. countedIf (inWindow s w j)) (multiple (s .t .0)) (λ j h. in-time j (omega arith)) in
           let none = sumTo-none rest (λ j. countedIf (inWindow s w (suc m + j))) (λ j h. too-late (suc m + j) (omega arith)) in
           ap (λ n. sumTo n (λ j. countedIf (inWindow s w j))) size
-          ∙ omega (arith, multiples (s .t .0) m t, jobs-from s w long)
+          ∙ omega (arith, multiples (s .t .0) m t, jobs-from s v (omega arith), ap (λ n. n / s .t .0) (same-days long))
       | no short ↦
-          sumTo-none w (λ j. countedIf (inWindow s w j)) (λ j h. too-late j (omega arith)) ∙ sym (jobs-short s w (omega arith))
+          sumTo-none w (λ j. countedIf (inWindow s w j)) (λ j h. too-late j (omega arith)) ∙ sym (jobs-short s v (omega arith))
     ]
   where
+    same-days : s .d .0 ≤ w → v + s .j .0 - s .d .0 ≡ w - s .d .0
+    same-days long = omega arith
+
     in-time : (j : ℕ) → j + s .d .0 ≤ w → countedIf (inWindow s w j) ≡ multiple (s .t .0) j
     in-time j h = by-bool (eqb (j % s .t .0) 0) (λ t. rw (t, le-leb _ _ h)) (λ e. rw e)
 
@@ -140,10 +145,10 @@ module _ (l b : ℕ) (s : BatteryString) where
   abbrev pub brings : ℕ → ℕ → ℕ
   brings c t = cond (comes l b s t) c 0
 
-  -- as often as it has jobs in the days that are its own
-  pub comes-often : (c : ℕ) → 1 ≤ s .t .0 → 1 ≤ s .d .0 → delayOf b s ≤ l
+  -- as often as it has jobs in the days that are its own, where it has no late days
+  pub comes-often : (c : ℕ) → 1 ≤ s .t .0 → 1 ≤ s .d .0 → s .j .0 ≡ 0 → delayOf b s ≤ l
       → sumOf (brings c) (upFrom (leadOf b) l) ≡ jobs s (l - delayOf b s) * c
-  comes-often c tPos dPos fits =
+  comes-often c tPos dPos on-time fits =
       let own = l - delayOf b s in
       let size : l ≡ delayOf b s + own = omega arith in
       let none = sumTo-none (delayOf b s) (λ j. brings c (leadOf b + j)) (λ j h. rw (comes-before (leadOf b + j) (omega arith))) in
@@ -153,7 +158,7 @@ module _ (l b : ℕ) (s : BatteryString) where
       sumOf-range (brings c) (leadOf b) l
       ∙ ap (λ n. sumTo n (λ j. brings c (leadOf b + j))) size
       ∙ sumTo-split (delayOf b s) own (λ j. brings c (leadOf b + j))
-      ∙ omega (arith, sumTo-weigh own c (inWindow s own), ap (λ n. n * c) (window-count s own tPos dPos))
+      ∙ omega (arith, sumTo-weigh own c (inWindow s own), ap (λ n. n * c) (window-count s own own tPos dPos (omega arith)))
     where
       shift : (j : ℕ) → leadOf b + (delayOf b s + j) ≡ firstDay b s + j
       shift j = omega arith

@@ -1,9 +1,11 @@
--- Where the rule with free moving breaks, a lawful release list misses in the plan as it stands. So where moving is free the rule is
--- exact: the plan passes exactly if no lawful release list misses, whatever the length of the run.
+-- Where the rule with free moving breaks, and no string has late days, a lawful release list misses in the plan as it stands. So where
+-- moving is free and nothing comes late the rule is exact: the plan passes exactly if no lawful release list misses, whatever the length of
+-- the run. With late days it is not: the rule lets a string count a job and block at once.
 use Rattle.base.proofs.Prelude.{ℕ, _+_, _-_, _≤_, _<_, zero-le, _≡_, refl, subst, _↔_, false, arith, decLe}
 use Rattle.days.specs.declared.Length.{Length}
-use Rattle.rules.specs.{declared.Plan.Plan, declared.Verdict.the-variants.{Overload, Fail}, Plan.{multipleOf, dMin, dMax, withRun}, Demand.{movingCost, holdOf, blockerHold, blockLimit, need, demand, Passes, overloaded}, Verdict.verdictOf}
+use Rattle.rules.specs.{declared.Plan.Plan, declared.Verdict.the-variants.{Overload, Fail}, Plan.{multipleOf, leewayMin, dMax, withRun}, Demand.{movingCost, holdOf, blockerHold, blockLimit, need, demand, Passes, overloaded}, Verdict.verdictOf}
 use Rattle.base.proofs.Lists.{by-bool}
+use Rattle.laws.specs.Lawful.{OnTime}
 use Rattle.laws.proofs.Lawful.{LawfulPlan, dMax-le}
 use Rattle.demand.proofs.{Verdict.{fail-names, overload-exactly}, Range.{overload-at-period, range-suffices}}
 use Rattle.sound.proofs.Clean.{run-clean}
@@ -33,7 +35,7 @@ module _ (p : Plan) (n : ℕ) where
   withRun-demand l b = refl
 
   withRun-limit : (l : ℕ) → blockLimit (freely (withRun p n)) l ≡ blockLimit (freely p) l
-  unfolding blockLimit dMin dMax blockerHold holdOf movingCost
+  unfolding blockLimit leewayMin dMax blockerHold holdOf movingCost
   withRun-limit l = refl
 
   -- the list does not depend on it
@@ -42,12 +44,20 @@ module _ (p : Plan) (n : ℕ) where
   withRun-missing l b = refl
 
   withRun-passes : Passes p → Passes (withRun p n)
-  unfolding demand need holdOf movingCost blockLimit dMin dMax blockerHold
+  unfolding demand need holdOf movingCost blockLimit leewayMin dMax blockerHold
   withRun-passes rule = rule
 
 -- ---- The theorems
 
-module _ (p : Plan) (ok : LawfulPlan p) where
+-- a plan that passes never misses
+pub passes-never : (p : Plan) → LawfulPlan p → Passes p → NeverMisses p
+passes-never p ok rule n low high rs m =
+    let clean = run-clean (withRun p n) rs (withRun-lawful p n ok low high) (m .listed) (withRun-passes p n rule) in
+    let missed = m .ends in
+    let z : _≡_ {A = ℕ} 0 1 = cc in
+    omega arith
+
+module _ (p : Plan) (ok : LawfulPlan p) (on-time : OnTime p) where
   -- the rule with free moving breaks at (l, b): the list is lawful, and in the plan as it stands it misses by the interval's end
   module _ (n l b : ℕ) (low : 1 ≤ n) (most : n ≤ 1000000) (room : intervalEnd l b ≤ n) (allowed : b ≤ blockLimit (freely p) l)
       (breaks : l < demand (freely p) l b) where
@@ -63,7 +73,7 @@ module _ (p : Plan) (ok : LawfulPlan p) where
     pub break-misses-by : MissesBy (withRun p n) (missing p l b) (intervalEnd l b)
     break-misses-by =
         subst (λ rs. MissesBy longer rs (intervalEnd l b)) (withRun-missing p n l b)
-        (list-misses longer l b (withRun-lawful p n ok low most) longer-allowed room longer-breaks)
+        (list-misses longer l b (withRun-lawful p n ok low most) on-time longer-allowed room longer-breaks)
 
   -- that is day l + 1 at the latest
   pub break-misses : (n l b : ℕ) → n ≤ 1000000 → l + 1 ≤ n → b ≤ blockLimit (freely p) l → l < demand (freely p) l b
@@ -109,14 +119,6 @@ module _ (p : Plan) (ok : LawfulPlan p) where
         let d = dMax-le (freely p) lawful in
         range-suffices (freely p) lawful light (λ l b pos inside allowed. no-break l b (omega arith) allowed)
 
-  -- a plan that passes never misses
-  pub passes-never : Passes p → NeverMisses p
-  passes-never rule n low high rs m =
-      let clean = run-clean (withRun p n) rs (withRun-lawful p n ok low high) (m .listed) (withRun-passes p n rule) in
-      let missed = m .ends in
-      let z : _≡_ {A = ℕ} 0 1 = cc in
-      omega arith
-
   -- where moving is free the rule is exact
   pub free-exact : FreeMoving p → Passes p ↔ NeverMisses p
-  free-exact free = (passes-never, λ never. free-passes p free (never-rules never))
+  free-exact free = (passes-never p ok, λ never. free-passes p free (never-rules never))

@@ -2,7 +2,7 @@
 -- lawful; and where moving is free already, the rule is the plan's own.
 use Rattle.base.proofs.Prelude.{ℕ, _+_, _-_, _*_, _≤_, min, _≡_, refl, ap, _∙_, sym, fun-ext, map, List, [], _∷_, cond, _&&_, arith, ℕ-discrete, zero-mul, eq-eqb, ne-eqb, leb, ltb}
 use Rattle.days.specs.Days.{days}
-use Rattle.rules.specs.{declared.BatteryString.BatteryString, declared.Plan.Plan, Plan.{stringsOf, commonMultiple, multipleOf, dMin, dMax}, Demand.{movingCost, holdOf, jobs, need, demand, blockerHold, blockLimit, Passes}}
+use Rattle.rules.specs.{declared.BatteryString.BatteryString, declared.Plan.Plan, Plan.{stringsOf, leeway, commonMultiple, multipleOf, leewayMin, dMax}, Demand.{movingCost, holdOf, jobs, need, demand, blockerHold, blockLimit, Passes}}
 use Rattle.base.specs.Count.{sumOf, largest, smallest, every, leastFrom}
 use Rattle.base.proofs.{Lists.{sumOf-eq, All, all-map}, Order.{all-of, take-map, all-mapped}, Adding.sumOf-mapped}
 use Rattle.laws.proofs.{Demand.{need-taker, need-keeper}, Lawful.{LawfulString, LawfulPlan, multipleOf-pos, multipleOf-common, multipleOf-least, commonMultiple-whole}}
@@ -39,7 +39,7 @@ freely-jobs s w = refl
 abbrev pub asksOf : ℕ → ℕ → BatteryString → ℕ
 asksOf l b s = jobs s (l - delayOf b s) * s .c .0
 
-freely-need : (q : Plan) (l b : ℕ) (s : BatteryString) → need q l b (movedFreely s) ≡ asksOf l b s
+pub freely-need : (q : Plan) (l b : ℕ) (s : BatteryString) → need q l b (movedFreely s) ≡ asksOf l b s
 freely-need q l b s =
     elim (ℕ-discrete (s .x) 1) [
       | yes e ↦
@@ -85,6 +85,7 @@ module _ (p : Plan) where
         tMax = ok .tMax;
         dPos = ok .dPos;
         dMax = ok .dMax;
+        jMax = ok .jMax;
         cPos = ok .cPos;
         cMax = ok .cMax;
         xMax = ok .xMax;
@@ -116,11 +117,11 @@ free-strings : (q : Plan) (ss : List BatteryString) → All (λ s. movingCost q 
 unfolding movingCost
 free-strings q [] h = refl
 free-strings q (s ∷ ss) h =
-    let head : movedFreely s ≡ s = ap (λ a. record { t = s .t; c = s .c; d = s .d; x = s .x; a = days a }) (sym (h .0)) in
+    let head : movedFreely s ≡ s = ap (λ a. record { t = s .t; c = s .c; d = s .d; x = s .x; a = days a; j = s .j }) (sym (h .0)) in
     rw (head, free-strings q ss (h .1))
 
 module _ (p : Plan) (free : FreeMoving p) where
-  free-same : stringsOf (freely p) ≡ stringsOf p
+  pub free-same : stringsOf (freely p) ≡ stringsOf p
   free-same = freely-strings p ∙ free-strings p (stringsOf p) free
 
   pub free-demand : (l b : ℕ) → demand (freely p) l b ≡ demand p l b
@@ -128,10 +129,10 @@ module _ (p : Plan) (free : FreeMoving p) where
   free-demand l b = ap (λ ss. b + sumOf (need p l b) ss) free-same
 
   pub free-limit : (l : ℕ) → blockLimit (freely p) l ≡ blockLimit p l
-  unfolding blockLimit dMin dMax blockerHold holdOf movingCost
+  unfolding blockLimit leewayMin dMax blockerHold holdOf movingCost
   free-limit l =
       ap
-      (λ ss. cond (leb (smallest (λ s. s .d .0) ss) l && ltb l (largest (λ s. s .d .0) ss)) (min l (largest (blockerHold p l) ss)) 0)
+      (λ ss. cond (leb (smallest leeway ss) l && ltb l (largest (λ s. s .d .0) ss)) (min l (largest (blockerHold p l) ss)) 0)
       free-same
 
   pub free-passes : Passes (freely p) → Passes p

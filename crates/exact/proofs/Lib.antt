@@ -11,3 +11,8 @@ pub mod Exact
 pub mod Longer
 pub mod AnyRun
 pub mod Worked
+pub mod LateComing
+pub mod LateAsking
+pub mod LateListed
+pub mod LateMisses
+pub mod SharpExact

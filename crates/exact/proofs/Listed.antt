@@ -13,6 +13,7 @@ use Rattle.exact.proofs.{Coming.{Comes, comes-is, comes-apart}, Asking.
 -- r is a release of day t
 pub record Other (p : Plan) (l b t : ℕ) (r : Release) : Type 0 where
   pub day-is : r .day .0 ≡ t
+  pub due-is : r .due .0 ≡ t
   pub low : 1 ≤ r .place
   pub high : r .place ≤ length (stringsOf p)
   pub full : r .need .0 ≡ stringAt p (r .place) .c .0
@@ -26,7 +27,15 @@ module _ (p : Plan) (l b : ℕ) where
       all-mapped (Other p l b t) (fullRelease p t) (keep (λ i. comes l b (stringAt p i) t) places)
       (all-keep (λ i. Other p l b t (fullRelease p t i)) (λ i. comes l b (stringAt p i) t) places
       (all-upFrom (λ i. comes l b (stringAt p i) t ≡ true → Other p l b t (fullRelease p t i)) 1 (length (stringsOf p))
-      (λ i low high e. record { day-is = refl; low = low; high = omega arith; full = refl; when = comes-is l b (stringAt p i) t e })))
+      (λ i low high e.
+      record {
+        day-is = refl;
+        due-is = refl;
+        low = low;
+        high = omega arith;
+        full = refl;
+        when = comes-is l b (stringAt p i) t e;
+      })))
 
   -- the releases of one day are of different places
   day-rises : (t : ℕ) → Rising (Ahead p) (releasesOn p l b t)
@@ -44,7 +53,7 @@ module _ (p : Plan) (l b : ℕ) where
     λ same.
         let s = stringAt p (r .place) in
         let when : Comes l b s t = rw (ap (λ i. stringAt p i) same) at (a .when) in
-        omega (arith, comes-apart l b s t u when (c .when) h, a .day-is, c .day-is),
+        omega (arith, comes-apart l b s t u when (c .when) h, a .due-is, c .due-is),
   )
 
   day-before-day : (t u : ℕ) → t < u → All (λ q. All (Ahead p q) (releasesOn p l b u)) (releasesOn p l b t)
@@ -112,6 +121,8 @@ module _ (p : Plan) (l b : ℕ) (ok : LawfulPlan p) (allowed : b ≤ blockLimit 
         needPos = omega (arith, o .full, string .cPos);
         needMax = omega (arith, o .full);
         early = omega (arith, o .when .due, string .dPos);
+        notBefore = omega (arith, o .due-is);
+        lateMax = omega (arith, o .due-is);
         within = o .high;
       }
 
@@ -125,6 +136,8 @@ module _ (p : Plan) (l b : ℕ) (ok : LawfulPlan p) (allowed : b ≤ blockLimit 
         needPos = omega arith;
         needMax = omega (arith, blocks .long);
         early = omega (arith, ok .runPos);
+        notBefore = le-refl 0;
+        lateMax = omega arith;
         within = high;
       }
 

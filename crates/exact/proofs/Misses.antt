@@ -5,6 +5,7 @@ use Rattle.days.specs.Days.{day, days}
 use Rattle.rules.specs.{declared.Plan.Plan, declared.Release.Release, Plan.stringAt, Demand.{blockLimit, demand}, Release.noRelease, Run.{history, lateOn, missDay}}
 use Rattle.base.specs.Count.{countOf}
 use Rattle.base.proofs.Lists.{all-at}
+use Rattle.laws.specs.Lawful.{OnTime}
 use Rattle.laws.proofs.{Lawful.LawfulPlan, Demand.blockLimit-interval, History.{missDay-before, runOf-miss}}
 use Rattle.sound.specs.Served.{worksFor}
 use Rattle.sound.proofs.{Clean.Punctual, Served.served-punctual}
@@ -23,7 +24,8 @@ module _ (p : Plan) (l b : ℕ) where
   unfolding missing othersIn
   list-blocked e = rw (blockerRelease-one p l b e)
 
-module _ (p : Plan) (l b : ℕ) (ok : LawfulPlan p) (allowed : b ≤ blockLimit (freely p) l) (room : intervalEnd l b ≤ p .run .0) where
+module _ (p : Plan) (l b : ℕ) (ok : LawfulPlan p) (on-time : OnTime p) (allowed : b ≤ blockLimit (freely p) l)
+    (room : intervalEnd l b ≤ p .run .0) where
   abbrev list : List Release
   list = missing p l b
 
@@ -40,7 +42,7 @@ module _ (p : Plan) (l b : ℕ) (ok : LawfulPlan p) (allowed : b ≤ blockLimit 
     index-place : suc index ≡ blockerPlace p l b
     index-place = omega (arith, blocker-low p l b (omega arith) allowed)
 
-    led-by : Led p (blockRelease p l b ∷ others p l b) index b
+    led-by : Led p (blockRelease p l b ∷ others p l b) index 0 b
     led-by =
         record {
           there = omega arith;
@@ -53,7 +55,7 @@ module _ (p : Plan) (l b : ℕ) (ok : LawfulPlan p) (allowed : b ≤ blockLimit 
         }
       where
         later-by : (m : ℕ) → 1 ≤ m → m < length (blockRelease p l b ∷ others p l b)
-            → 1 ≤ getD (blockRelease p l b ∷ others p l b) m noRelease .day .0
+            → 0 < getD (blockRelease p l b ∷ others p l b) m noRelease .day .0
         later-by zero low high = absurd (omega arith)
         later-by (suc i) low high =
             let o = other-at p l b i (le-of-suc-le-suc high) in
@@ -71,13 +73,13 @@ module _ (p : Plan) (l b : ℕ) (ok : LawfulPlan p) (allowed : b ≤ blockLimit 
 
         quiet-by : (m : ℕ) → 1 ≤ m → m < length (blockRelease p l b ∷ others p l b)
             → stringAt p (getD (blockRelease p l b ∷ others p l b) m noRelease .place) .x ≡ 1
-            → b < getD (blockRelease p l b ∷ others p l b) m noRelease .day .0
+            → 0 + b < getD (blockRelease p l b ∷ others p l b) m noRelease .day .0
         quiet-by zero low high may = absurd (omega arith)
         quiet-by (suc i) low high may =
             let o = other-at p l b i (le-of-suc-le-suc high) in
             omega (arith, o .when .from, delayOf-taker b (stringAt p (getD (others p l b) i noRelease .place)) may)
 
-    list-led : Led p list index b
+    list-led : Led p list index 0 b
     list-led = rw (list-blocked p l b some) led-by
 
   -- ---- By the interval's end each has had its need, if nobody was late
@@ -92,7 +94,7 @@ module _ (p : Plan) (l b : ℕ) (ok : LawfulPlan p) (allowed : b ≤ blockLimit 
         let number : suc m - 1 ≡ m = omega arith in
         let served =
         served-punctual p list ok (list-lawful p l b ok allowed room) (suc m) (intervalEnd l b) (omega arith) h so-far
-        (rw number (o .when .due)) in
+        (rw number (omega (arith, o .when .due, o .due-is))) in
         let work : done m ≡ getD list m noRelease .need .0 = rw number at (served .work) in
         omega arith
 
@@ -109,7 +111,7 @@ module _ (p : Plan) (l b : ℕ) (ok : LawfulPlan p) (allowed : b ≤ blockLimit 
         by-index some zero h =
             let led = list-led some in
             let worked =
-            blocker-worked p list ok (list-lawful p l b ok allowed room) (index some) b led (intervalEnd l b) (omega (arith, fits))
+            blocker-worked p list ok (list-lawful p l b ok allowed room) (index some) 0 b led (intervalEnd l b) (omega (arith, fits))
             (λ i k. so-far i (omega (arith, fits))) in
             omega (arith, ap (λ n. n .0) (led .need-is))
         by-index some (suc i) h =
@@ -118,7 +120,7 @@ module _ (p : Plan) (l b : ℕ) (ok : LawfulPlan p) (allowed : b ≤ blockLimit 
             other-done (suc i) h later
 
     enough-days : demand (freely p) l b ≤ l
-    enough-days = omega (arith, needs-fit p list (intervalEnd l b) each-done, list-needs p l b ok fits)
+    enough-days = omega (arith, needs-fit p list (intervalEnd l b) each-done, list-needs p l b ok on-time fits)
 
   -- ---- So somebody is late
 

@@ -1,5 +1,6 @@
 -- The releases that miss. Where the demand rule with free moving breaks at an interval l with blocking b, these releases make the plan miss
--- a deadline: first one job that blocks the bank for b days, then everybody else as early and as often as is lawful.
+-- a deadline: first one job that blocks the bank for b days, then everybody else as early and as often as is lawful. Each comes on its due
+-- day: that is enough where no string has late days.
 --     freely p              the plan p with every moving cost 0
 --     leadOf b              the days before the interval: 1 where a job blocks, released alone on day 0, else 0
 --     endOf l b             the day by which the releases are due: the interval's end
@@ -36,7 +37,7 @@ use Rattle.rules.specs.Run.{runOf}
 -- ---- Plans
 
 abbrev pub movedFreely : BatteryString → BatteryString
-movedFreely s = record { t = s .t; c = s .c; d = s .d; x = s .x; a = days 0 }
+movedFreely s = record { t = s .t; c = s .c; d = s .d; x = s .x; a = days 0; j = s .j }
 
 abbrev pub freely : Plan → Plan
 freely p = record { n = p .n; run = p .run; strings = map movedFreely (p .strings) }
@@ -58,7 +59,7 @@ unfoldable pub blockerPlace : Plan → ℕ → ℕ → ℕ
 blockerPlace p l b = leastFrom (λ i. canBlock l b (stringAt p i)) 1 (length (stringsOf p))
 
 abbrev pub blockRelease : Plan → ℕ → ℕ → Release
-blockRelease p l b = record { day = day 0; place = blockerPlace p l b; need = days (b + 1) }
+blockRelease p l b = record { day = day 0; place = blockerPlace p l b; need = days (b + 1); due = day 0 }
 
 -- none where nothing blocks
 unfoldable pub blockerRelease : Plan → ℕ → ℕ → List Release
@@ -79,7 +80,7 @@ comesIn lead b l s t =
     && leb (t + s .d .0) (lead + l)
 
 abbrev pub fullRelease : Plan → ℕ → ℕ → Release
-fullRelease p t i = record { day = day t; place = i; need = stringAt p i .c }
+fullRelease p t i = record { day = day t; place = i; need = stringAt p i .c; due = day t }
 
 unfoldable pub releasesIn : Plan → ℕ → ℕ → ℕ → ℕ → List Release
 releasesIn p lead b l t = map (fullRelease p t) (keep (λ i. comesIn lead b l (stringAt p i) t) (upFrom 1 (length (stringsOf p))))

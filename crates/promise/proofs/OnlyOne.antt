@@ -6,7 +6,7 @@
 use Rattle.base.proofs.Prelude.{_≡_, sym, _∙_, Bool, ℕ, List}
 use Rattle.days.specs.{declared.Later.Later, declared.Gap.Gap, declared.Length.Length}
 use Rattle.faults.specs.declared.Checked.{Checked}
-use Rattle.rules.specs.{declared.Reading.Reading, declared.AskedVerdict.AskedVerdict, declared.AskedBroken.AskedBroken, declared.AskedAssign.AskedAssign, declared.AskedOutcome.AskedOutcome, declared.Figures.Figures, declared.Answer.Answer, declared.Job.Job, declared.Slot.Slot, declared.Use.Use, declared.Stint.Stint, declared.Stinted.Stinted, declared.Plan.Plan}
+use Rattle.rules.specs.{declared.Reading.Reading, declared.AskedVerdict.AskedVerdict, declared.AskedBroken.AskedBroken, declared.AskedAssign.AskedAssign, declared.AskedOutcome.AskedOutcome, declared.Figures.Figures, declared.Answer.Answer, declared.Job.Job, declared.Slot.Slot, declared.Use.Use, declared.Stint.Stint, declared.Stinted.Stinted, declared.Plan.Plan, declared.Releases.Releases}
 use Rattle.lines.specs.declared.Page.{Page}
 use Rattle.calendar.specs.{declared.Date.Date, declared.WhichDate.WhichDate, declared.WhichDay.WhichDay, declared.WhichWeekday.WhichWeekday, declared.WhichYearly.WhichYearly, declared.WhichEdition.WhichEdition, declared.Listed.Listed, declared.DateText.DateText, declared.YearlyText.YearlyText}
 use Rattle.missed.specs.declared.Missed.{Missed}
@@ -15,6 +15,7 @@ use Rattle.writing.specs.declared.Saved.{Saved}
 use Rattle.tries.specs.declared.Shown.{Shown}
 use Rattle.matching.specs.declared.Matched.{Matched}
 use Rattle.register.specs.{declared.Row.Row, declared.Export.Export, Reader.rowAt}
+use Rattle.visits.specs.{declared.Visit.Visit, Visits.visitsCheck}
 use denote.Ref.{RefT, now}
 use Rattle.days.proofs.Day.plus.Reads as Day-plus
 use Rattle.days.proofs.Day.since.Reads as Day-since
@@ -32,6 +33,16 @@ use Rattle.calendar.proofs.date_text.Reads as date-text
 use Rattle.calendar.proofs.yearly_read.Reads as yearly-read
 use Rattle.calendar.proofs.edition_read.Reads as edition-read
 use Rattle.calendar.proofs.yearly_text.Reads as yearly-text
+use Rattle.calendar.proofs.falls_on.Reads as falls-on
+use Rattle.calendar.proofs.fits.Reads as fits
+use Rattle.lines.proofs.used_line.Reads as used-line
+use Rattle.lines.proofs.missed_line.Reads as missed-line
+use Rattle.lines.proofs.number_line.Reads as number-line
+use Rattle.boards.specs.{declared.Input.Input, declared.Board.Board, declared.Filled.Filled}
+use Rattle.boards.proofs.input_read.Reads as input-read
+use Rattle.boards.proofs.board.Reads as board
+use Rattle.boards.proofs.board_page.Reads as board-page
+use Rattle.boards.proofs.board_end.Reads as board-end
 use Rattle.rules.proofs.Plan.moving_cost.Reads as Plan-moving-cost
 use Rattle.rules.proofs.Plan.with_run.Reads as Plan-with-run
 use Rattle.rules.proofs.Verdict.passes.Reads as Verdict-passes
@@ -169,6 +180,13 @@ one-edition-read κs a e f r s h k = (h .0 ∙ sym (k .0), h .1 ∙ sym (k .1))
 
 pub one-yearly-text : (κs : Lfts 0) (a : _) (e f : _) (r s : YearlyText) → yearly-text.Learnt κs a r e → yearly-text.Learnt κs a s f → r ≡ s
 one-yearly-text κs a e f r s h k = h ∙ sym k
+
+pub one-falls-on : (κs : Lfts 0) (a : _) (e f : _) (r s : Bool) → falls-on.Learnt κs a r e → falls-on.Learnt κs a s f → r ≡ s
+one-falls-on κs a e f r s h k = h ∙ sym k
+
+pub one-fits : (κs : Lfts 2) (a : _) (e f : _) (r s : Bool) → fits.Learnt κs a r e → fits.Learnt κs a s f
+    → (r ≡ s) × (e .0 .now ≡ f .0 .now) × (e .1 .0 .now ≡ f .1 .0 .now)
+one-fits κs a e f r s h k = (h .0 ∙ sym (k .0), h .1 .0 ∙ sym (k .1 .0), h .1 .1 ∙ sym (k .1 .1))
 
 -- rules
 pub one-Plan-moving-cost : (κs : Lfts 0) (a : _) (e f : _) (r s : Length) → Plan-moving-cost.Learnt κs a r e
@@ -419,6 +437,38 @@ one-register κs a e f r s h k = (h .0 ∙ sym (k .0), h .1 ∙ sym (k .1))
 pub one-table : (κs : Lfts 1) (a : _) (e f : _) (r s : Saved) → table.Learnt κs a r e → table.Learnt κs a s f
     → (r ≡ s) × (e .1 .1 .0 .now ≡ f .1 .1 .0 .now)
 one-table κs a e f r s h k = (h .0 ∙ sym (k .0), h .1 ∙ sym (k .1))
+
+-- visits: as above, of a lent slice of structs (visits/src/lib.rt); xs and ys are its records at the two returns
+pub one-check-visits : (p : Plan) (rs : Releases) (vs xs ys : List Visit) (r s : Checked) → (r ≡ visitsCheck p rs vs) × (xs ≡ vs)
+    → (s ≡ visitsCheck p rs vs) × (ys ≡ vs) → (r ≡ s) × (xs ≡ ys)
+one-check-visits p rs vs xs ys r s h k = (h .0 ∙ sym (k .0), h .1 ∙ sym (k .1))
+
+-- the board
+pub one-used-line : (κs : Lfts 0) (a : _) (e f : _) (r s : Page) → used-line.Learnt κs a r e → used-line.Learnt κs a s f → r ≡ s
+one-used-line κs a e f r s h k = h .0 ∙ sym (k .0)
+
+pub one-missed-line : (κs : Lfts 0) (a : _) (e f : _) (r s : Page) → missed-line.Learnt κs a r e → missed-line.Learnt κs a s f → r ≡ s
+one-missed-line κs a e f r s h k = h .0 ∙ sym (k .0)
+
+pub one-number-line : (κs : Lfts 0) (a : _) (e f : _) (r s : Page) → number-line.Learnt κs a r e → number-line.Learnt κs a s f → r ≡ s
+one-number-line κs a e f r s h k = h .0 ∙ sym (k .0)
+
+pub one-input-read : (κs : Lfts 1) (a : _) (e f : _) (r s : Input) → input-read.Learnt κs a r e → input-read.Learnt κs a s f
+    → (r ≡ s) × (e .0 .now ≡ f .0 .now)
+one-input-read κs a e f r s h k = (h .0 ∙ sym (k .0), h .1 ∙ sym (k .1))
+
+pub one-board : (κs : Lfts 3) (a : _) (e f : _) (r s : Board) → board.Learnt κs a r e → board.Learnt κs a s f
+    → (r ≡ s) × (e .1 .1 .0 .now ≡ f .1 .1 .0 .now) × (e .0 .now ≡ f .0 .now) × (e .1 .0 .now ≡ f .1 .0 .now)
+one-board κs a e f r s h k =
+    (h .0 ∙ sym (k .0), h .1 .0 ∙ sym (k .1 .0), h .1 .1 .0 ∙ sym (k .1 .1 .0), h .1 .1 .1 ∙ sym (k .1 .1 .1))
+
+pub one-board-page : (κs : Lfts 2) (a : _) (e f : _) (r s : Filled) → board-page.Learnt κs a r e → board-page.Learnt κs a s f
+    → (r ≡ s) × (e .1 .1 .1 .0 .now ≡ f .1 .1 .1 .0 .now) × (e .1 .0 .now ≡ f .1 .0 .now)
+one-board-page κs a e f r s h k = (h .0 ∙ sym (k .0), h .1 .0 ∙ sym (k .1 .0), h .1 .1 ∙ sym (k .1 .1))
+
+pub one-board-end : (κs : Lfts 1) (a : _) (e f : _) (r s : ℕ) → board-end.Learnt κs a r e → board-end.Learnt κs a s f
+    → (r ≡ s) × (e .1 .0 .now ≡ f .1 .0 .now)
+one-board-end κs a e f r s h k = (h .0 ∙ sym (k .0), h .1 ∙ sym (k .1))
 
 -- entries: what is read and what is written to is lent
 pub one-desk-check : (κs : Lfts 2) (a : _) (e f : _) (r s : ℕ) → desk-check.Learnt κs a r e → desk-check.Learnt κs a s f

@@ -56,14 +56,14 @@ module _ (p : Plan) (lead b l : ℕ) where
 
       -- the release as the code makes it
       abbrev pub releaseAt : Release
-      releaseAt = record { day = day t; place = i + 1; need = getD (p .strings) i noString .c }
+      releaseAt = record { day = day t; place = i + 1; need = getD (p .strings) i noString .c; due = day t }
 
       pub place-comes : comesIn lead b l (getD (p .strings) i noString) t ≡ true → placesFrom t i ≡ releaseAt ∷ placesFrom t (i + 1)
       place-comes e =
           let comes : ℕ → Bool = λ j. comesIn lead b l (stringAt p j) t in
           let here : comes (i + 1) ≡ true = ap (λ s. comesIn lead b l s t) (place-string p ready i h) ∙ e in
           let full : fullRelease p t (i + 1) ≡ releaseAt =
-          ap (λ s. record { day = day t; place = i + 1; need = s .c }) (place-string p ready i h) in
+          ap (λ s. record { day = day t; place = i + 1; need = s .c; due = day t }) (place-string p ready i h) in
           ap (λ js. map (fullRelease p t) (keep comes js)) (after-next i (p .n) h)
           ∙ ap (map (fullRelease p t)) (keep-yes comes (i + 1) (after (i + 1) (p .n)) here)
           ∙ ap (λ r. r ∷ placesFrom t (i + 1)) full

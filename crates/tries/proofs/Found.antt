@@ -1,11 +1,12 @@
--- What the tries find: a try that is found has a list of at most 1,000 releases over which the plan misses; and where the rule with free
--- moving breaks and the list there has at most 1,000 releases, one is found.
+-- What the tries find: a try that is found has a list of at most 1,000 releases over which the plan misses; and where no string has late
+-- days, the rule with free moving breaks and the list there has at most 1,000 releases, one is found.
 use Rattle.base.proofs.Prelude.{ℕ, _-_, _≤_, min, _≡_, refl, sym, ap, _∙_, true, List, _∷_, _++_, none, some, arith, length, replicate, take-all, take-append-seam}
 use Rattle.days.specs.{Days.day, declared.Day.Day}
 use Rattle.base.proofs.{Lists.true-not-false, FirstOf.{firstOf-none, firstOf-passes}}
 use Rattle.faults.specs.declared.Checked.the-variants.{Lawful}
 use Rattle.faults.proofs.Checks.{by-checked, then-lawful}
 use Rattle.rules.specs.{declared.Plan.Plan, declared.Release.Release, declared.Outcome.the-variants.{Miss, Clean}, declared.AskedOutcome.AskedOutcome, declared.AskedOutcome.the-variants.{Refused, Given}, Release.{noRelease, releasesOf, firstUnlawful}, Refusal.{planCheck, releasesCheck, runCheck, runAnswer}, Run.runOf, Verdict.Pair, Plan.withRun}
+use Rattle.laws.specs.Lawful.{OnTime}
 use Rattle.laws.proofs.{Lawful.{LawfulPlan, dMax-le}, LawfulChecked.lawful-checked, Releases.{LawfulRun, runCheck-lawful, releasesCheck-good}, Answers.run-lawful}
 use Rattle.demand.proofs.Verdict.{firstBroken-names, firstBroken-in-range}
 use Rattle.demand.specs.FirstBreak.{FirstBreak}
@@ -97,7 +98,8 @@ module _ (p : Plan) (y : Try) (h : found p ≡ some y) where
 
 -- ---- Where the rule with free moving breaks
 
-module _ (p : Plan) (ok : LawfulPlan p) (q : Pair) (breaks : freeBreak p ≡ some q) (few : length (missing p (q .l) (q .b)) ≤ 1000) where
+module _ (p : Plan) (ok : LawfulPlan p) (on-time : OnTime p) (q : Pair) (breaks : freeBreak p ≡ some q)
+    (few : length (missing p (q .l) (q .b)) ≤ 1000) where
   first : FirstBreak (freely p) (q .l) (q .b)
   first = firstBroken-names (freely p) (q .l) (q .b) breaks
 
@@ -112,7 +114,7 @@ module _ (p : Plan) (ok : LawfulPlan p) (q : Pair) (breaks : freeBreak p ≡ som
   block-misses : MissesBy (withRun p end) (missing p (q .l) (q .b)) end
   block-misses =
       let low : 1 ≤ end = omega (arith, first .pos) in
-      break-misses-by p ok end (q .l) (q .b) low end-bounded (omega arith) (first .allowed) (first .breaks)
+      break-misses-by p ok on-time end (q .l) (q .b) low end-bounded (omega arith) (first .allowed) (first .breaks)
 
   block-found : missesOn p (blockTry p q) ≡ true
   unfolding missesOn listOf missing isMiss

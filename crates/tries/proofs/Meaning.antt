@@ -2,24 +2,53 @@
 --     Refused      as the plan's check refuses
 --     Passes       the plan passes, so no lawful list misses, whatever N
 --     Found        the list that is shown is lawful, and its run misses
---     NoneFound    the plan does not pass; with free moving it would
---     TooMany      the plan does not pass, not even with free moving: there is a list that misses, and it has more than 1,000 releases
-use Rattle.base.proofs.Prelude.{ℕ, _≤_, _<_, _≡_, refl, sym, ap, _∙_, _↔_, true, false, Option, none, some, arith, decLe, length}
+--     NoneFound    the plan does not pass; where no string has late days, with free moving it would
+--     TooMany      no string has late days, and the plan does not pass, not even with free moving: there is a list that misses, and it has
+--                  more than 1,000 releases
+use Rattle.base.proofs.Prelude.{ℕ, _≤_, _<_, _≡_, refl, sym, ap, _∙_, _↔_, true, false, Option, none, some, arith, decLe, length, eq-eqb, eqb-true}
 use Rattle.days.specs.{Days.{day, days}, declared.Day.Day, declared.Length.Length}
-use Rattle.base.proofs.Lists.{by-bool, true-not-false}
+use Rattle.base.specs.Count.{largest}
+use Rattle.base.proofs.Lists.{all-map, largest-le, largest-ge, by-bool, true-not-false}
 use Rattle.faults.specs.declared.Fault.{Fault}
 use Rattle.faults.proofs.Checks.{by-checked}
-use Rattle.rules.specs.{declared.Plan.Plan, declared.Outcome.the-variants.Miss, declared.AskedOutcome.the-variants.Given, Demand.Passes, Verdict.{Pair, verdictOf, isPass}, Release.releasesOf, Run.runOf, Refusal.{planCheck, runAnswer}, Plan.withRun}
+use Rattle.rules.specs.{declared.Plan.Plan, declared.Outcome.the-variants.Miss, declared.AskedOutcome.the-variants.Given, Demand.Passes, Verdict.{Pair, verdictOf, isPass}, Release.releasesOf, Run.runOf, Refusal.{planCheck, runAnswer}, Plan.{stringsOf, withRun}}
+use Rattle.laws.specs.Lawful.{OnTime}
 use Rattle.laws.proofs.{Lawful.{LawfulPlan, dMax-le, planCheck-lawful}, LawfulChecked.lawful-checked}
 use Rattle.demand.proofs.{Unbroken.passes-of-none, Verdict.{firstBroken-names, firstBroken-in-range, passes-of-pass, pass-of-passes}}
 use Rattle.exact.specs.Missing.{freely, missing, NeverMisses, FreeMoving}
 use Rattle.exact.proofs.{Freely.{freely-lawful, free-passes}, Exact.{withRun-lawful, break-misses, passes-never}}
-use Rattle.tries.specs.{declared.Missing.Missing, Tries.{Try, listOf, freeBreak, packed, found, raised, unfound, foundAs, missingOf, missingAnswer}, Shown.{Shows, MissesOverMany}}
+use Rattle.tries.specs.{declared.Missing.Missing, Tries.{Try, listOf, freeBreak, packed, found, raised, noneLate, unfound, foundAs, missingOf, missingAnswer}, Shown.{Shows, MissesOverMany}}
 use Rattle.tries.proofs.Found.{packed-holds, misses-packed, found-bounded, found-few, found-misses, found-where-free}
 use Rattle.faults.specs.declared.Checked.the-variants as checked
 use Rattle.tries.specs.declared.Missing.the-variants as answer
 
+-- ---- Late days
+
+noneLate-of : (p : Plan) → OnTime p → noneLate p ≡ true
+unfolding noneLate
+noneLate-of p on-time =
+    let most = largest (λ s. s .j .0) (stringsOf p) in
+    let none-late : most ≤ 0 =
+    largest-le (λ s. s .j .0) 0 (stringsOf p)
+    (all-map (λ s. s .j .0 ≡ 0) (λ s. s .j .0 ≤ 0) (λ s e. omega arith) (stringsOf p) on-time) in
+    eq-eqb most 0 (omega arith)
+
+on-time-of : (p : Plan) → noneLate p ≡ true → OnTime p
+unfolding noneLate
+on-time-of p prompt =
+    let most : largest (λ s. s .j .0) (stringsOf p) ≡ 0 = eqb-true _ 0 prompt in
+    all-map (λ s. s .j .0 ≤ largest (λ s. s .j .0) (stringsOf p)) (λ s. s .j .0 ≡ 0) (λ s h. omega arith) (stringsOf p)
+    (largest-ge (λ s. s .j .0) (stringsOf p))
+
 -- ---- How an answer comes about
+
+-- where a string has late days nothing is said of a longer list
+pub unfound-late : (p : Plan) (q : Option Pair) → noneLate p ≡ false → unfound p q ≡ answer.NoneFound
+unfound-late p none late = refl
+unfound-late p (some q) late = rw late
+
+pub unfound-many : (p : Plan) (o : Option Pair) (q : Pair) → noneLate p ≡ true → o ≡ some q → unfound p o ≡ answer.TooMany
+unfound-many p o q prompt breaks = ap (unfound p) breaks ∙ rw prompt
 
 -- the five answers, told apart by a number
 abbrev kindOf : Missing → ℕ
@@ -49,15 +78,18 @@ module _ (p : Plan) where
   -- one of five ways
   module _ {B : Type 0} (refused : (f : Fault) (at : ℕ) → planCheck p ≡ checked.Refused f at → B)
       (passes : planCheck p ≡ checked.Lawful → isPass (verdictOf p) ≡ true → B)
-      (nothing : Tried → found p ≡ none → freeBreak p ≡ none → B)
-      (many : Tried → found p ≡ none → (q : Pair) → freeBreak p ≡ some q → B)
+      (nothing : Tried → found p ≡ none → (noneLate p ≡ true → freeBreak p ≡ none) → B)
+      (many : Tried → found p ≡ none → noneLate p ≡ true → (q : Pair) → freeBreak p ≡ some q → B)
       (shown : Tried → (y : Try) → found p ≡ some y → B) where
-    by-free : Tried → found p ≡ none → (o : Option Pair) → freeBreak p ≡ o → B
-    by-free tried e none whole = nothing tried e whole
-    by-free tried e (some q) breaks = many tried e q breaks
+    by-free : Tried → found p ≡ none → noneLate p ≡ true → (o : Option Pair) → freeBreak p ≡ o → B
+    by-free tried e prompt none whole = nothing tried e (λ t. whole)
+    by-free tried e prompt (some q) breaks = many tried e prompt q breaks
 
     by-found : Tried → (o : Option Try) → found p ≡ o → B
-    by-found tried none e = by-free tried e (freeBreak p) refl
+    by-found tried none e =
+        by-bool (noneLate p)
+        (λ prompt. by-free tried e prompt (freeBreak p) refl)
+        (λ late. nothing tried e (λ prompt. absurd (true-not-false (sym prompt ∙ late))))
     by-found tried (some y) e = shown tried y e
 
     by-answer : B
@@ -67,14 +99,16 @@ module _ (p : Plan) where
         by-bool (isPass (verdictOf p)) (λ pass. passes lawful pass) (λ fails. by-found (lawful, fails) (found p) refl))
         refused
 
-  unfound-says : Tried → found p ≡ none → missingAnswer p .missing ≡ unfound (freeBreak p)
+  unfound-says : Tried → found p ≡ none → missingAnswer p .missing ≡ unfound p (freeBreak p)
   unfound-says tried none-is = ap (λ a. a .missing) (tried-says tried ∙ ap (foundAs p) none-is)
 
-  nothing-says : Tried → found p ≡ none → freeBreak p ≡ none → missingAnswer p .missing ≡ answer.NoneFound
-  nothing-says tried none-is whole = unfound-says tried none-is ∙ ap unfound whole
+  nothing-says : Tried → found p ≡ none → (noneLate p ≡ true → freeBreak p ≡ none) → missingAnswer p .missing ≡ answer.NoneFound
+  nothing-says tried none-is whole =
+      unfound-says tried none-is
+      ∙ by-bool (noneLate p) (λ prompt. ap (unfound p) (whole prompt)) (λ late. unfound-late p (freeBreak p) late)
 
-  many-says : Tried → found p ≡ none → (q : Pair) → freeBreak p ≡ some q → missingAnswer p .missing ≡ answer.TooMany
-  many-says tried none-is q breaks = unfound-says tried none-is ∙ ap unfound breaks
+  many-says : Tried → found p ≡ none → noneLate p ≡ true → (q : Pair) → freeBreak p ≡ some q → missingAnswer p .missing ≡ answer.TooMany
+  many-says tried none-is prompt q breaks = unfound-says tried none-is ∙ unfound-many p (freeBreak p) q prompt breaks
 
   shown-is : Tried → (y : Try) → found p ≡ some y → missingAnswer p ≡ foundAs p (some y)
   shown-is tried y is = tried-says tried ∙ ap (foundAs p) is
@@ -100,7 +134,7 @@ module _ (p : Plan) where
           e ∙ ap (λ x. checked.Refused x k) fault ∙ ap (checked.Refused f) place)
           (λ lawful pass. absurd (omega (arith, not-same _ _ (pass-says lawful pass) h)))
           (λ tried none-is whole. absurd (omega (arith, not-same _ _ (nothing-says tried none-is whole) h)))
-          (λ tried none-is q breaks. absurd (omega (arith, not-same _ _ (many-says tried none-is q breaks) h)))
+          (λ tried none-is prompt q breaks. absurd (omega (arith, not-same _ _ (many-says tried none-is prompt q breaks) h)))
           (λ tried y is. absurd (omega (arith, not-same _ _ (shown-says tried y is) h)))
 
   -- ---- Passes
@@ -114,7 +148,7 @@ module _ (p : Plan) where
           (λ f at e. absurd (omega (arith, not-same _ _ (refused-says f at e) h)))
           (λ lawful pass. (lawful, pass))
           (λ tried none-is whole. absurd (omega (arith, not-same _ _ (nothing-says tried none-is whole) h)))
-          (λ tried none-is q breaks. absurd (omega (arith, not-same _ _ (many-says tried none-is q breaks) h)))
+          (λ tried none-is prompt q breaks. absurd (omega (arith, not-same _ _ (many-says tried none-is prompt q breaks) h)))
           (λ tried y is. absurd (omega (arith, not-same _ _ (shown-says tried y is) h)))
 
   -- in the user's words: the plan is lawful and the rule holds at every interval
@@ -162,7 +196,7 @@ module _ (p : Plan) where
         (λ f at e. absurd (omega (arith, not-same _ _ (refused-says f at e) h)))
         (λ lawful pass. absurd (omega (arith, not-same _ _ (pass-says lawful pass) h)))
         (λ tried none-is whole. absurd (omega (arith, not-same _ _ (nothing-says tried none-is whole) h)))
-        (λ tried none-is q breaks. absurd (omega (arith, not-same _ _ (many-says tried none-is q breaks) h)))
+        (λ tried none-is prompt q breaks. absurd (omega (arith, not-same _ _ (many-says tried none-is prompt q breaks) h)))
         (λ tried y is.
         let said = sym (shown-says tried y is) ∙ h in
         let run : days (raised p y) ≡ n = cc in
@@ -195,58 +229,61 @@ module _ (p : Plan) where
   tried-breaks : Tried → Passes p → ⊥
   tried-breaks tried rule = true-not-false (sym (pass-of-passes p (planCheck-lawful p (tried .0)) rule) ∙ tried .1)
 
-  -- none was found: with free moving the rule would hold
+  -- none was found: where no string has late days, with free moving the rule would hold
   module _ (h : missingAnswer p .missing ≡ answer.NoneFound) where
-    none-tried : Tried × (freeBreak p ≡ none)
+    none-tried : Tried × (noneLate p ≡ true → freeBreak p ≡ none)
     none-tried =
         by-answer
         (λ f at e. absurd (omega (arith, not-same _ _ (refused-says f at e) h)))
         (λ lawful pass. absurd (omega (arith, not-same _ _ (pass-says lawful pass) h)))
         (λ tried none-is whole. (tried, whole))
-        (λ tried none-is q breaks. absurd (omega (arith, not-same _ _ (many-says tried none-is q breaks) h)))
+        (λ tried none-is prompt q breaks. absurd (omega (arith, not-same _ _ (many-says tried none-is prompt q breaks) h)))
         (λ tried y is. absurd (omega (arith, not-same _ _ (shown-says tried y is) h)))
 
     pub answer-none-rule : LawfulPlan p × (Passes p → ⊥)
     answer-none-rule = (planCheck-lawful p (none-tried .0 .0), tried-breaks (none-tried .0))
 
-    pub answer-none-free : Passes (freely p)
-    answer-none-free =
-        passes-of-none (freely p) (freely-lawful p (planCheck-lawful p (none-tried .0 .0))) (none-tried .1)
+    pub answer-none-free : OnTime p → Passes (freely p)
+    answer-none-free on-time =
+        passes-of-none (freely p) (freely-lawful p (planCheck-lawful p (none-tried .0 .0))) (none-tried .1 (noneLate-of p on-time))
 
-    -- so where moving is free it is never answered
-    pub answer-none-paid : FreeMoving p → ⊥
-    answer-none-paid free = answer-none-rule .1 (free-passes p free answer-none-free)
+    -- so where moving is free and nothing comes late it is never answered
+    pub answer-none-paid : OnTime p → FreeMoving p → ⊥
+    answer-none-paid on-time free = answer-none-rule .1 (free-passes p free (answer-none-free on-time))
 
-  -- there are too many: the rule breaks with free moving too, and the list that misses there cannot be shown
+  -- there are too many: no string has late days, the rule breaks with free moving too, and the list that misses there cannot be shown
   module _ (h : missingAnswer p .missing ≡ answer.TooMany) where
-    many-tried : Tried × (found p ≡ none) × ((q : Pair) × (freeBreak p ≡ some q))
+    many-tried : Tried × (found p ≡ none) × OnTime p × ((q : Pair) × (freeBreak p ≡ some q))
     many-tried =
         by-answer
         (λ f at e. absurd (omega (arith, not-same _ _ (refused-says f at e) h)))
         (λ lawful pass. absurd (omega (arith, not-same _ _ (pass-says lawful pass) h)))
         (λ tried none-is whole. absurd (omega (arith, not-same _ _ (nothing-says tried none-is whole) h)))
-        (λ tried none-is q breaks. (tried, none-is, (q, breaks)))
+        (λ tried none-is prompt q breaks. (tried, none-is, on-time-of p prompt, (q, breaks)))
         (λ tried y is. absurd (omega (arith, not-same _ _ (shown-says tried y is) h)))
 
     pub answer-many-rule : LawfulPlan p × (Passes p → ⊥)
     answer-many-rule = (planCheck-lawful p (many-tried .0 .0), tried-breaks (many-tried .0))
 
+    pub answer-many-on-time : OnTime p
+    answer-many-on-time = many-tried .2
+
     pub answer-many : MissesOverMany p
     answer-many =
         let ok = planCheck-lawful p (many-tried .0 .0) in
-        let q = many-tried .2 .0 in
-        let breaks = many-tried .2 .1 in
+        let q = many-tried .3 .0 in
+        let breaks = many-tried .3 .1 in
         let first = firstBroken-names (freely p) (q .l) (q .b) breaks in
         record {
           l = q .l;
           b = q .b;
           many =
               elim (decLe (length (missing p (q .l) (q .b))) 1000) [
-                | yes few ↦ absurd (found-where-free p ok q breaks few (many-tried .1))
+                | yes few ↦ absurd (found-where-free p ok answer-many-on-time q breaks few (many-tried .1))
                 | no over ↦ omega arith
               ];
           misses =
-              break-misses p ok 1000000 (q .l) (q .b) (omega arith)
+              break-misses p ok answer-many-on-time 1000000 (q .l) (q .b) (omega arith)
               (omega (
                 arith,
                 firstBroken-in-range (freely p) (q .l) (q .b) breaks,

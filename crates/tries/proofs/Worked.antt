@@ -2,11 +2,11 @@
 use Rattle.base.proofs.Prelude.{ℕ, _≡_, refl, List, [], _∷_, map}
 use mathlib.Core.List.{flatMap}
 use Rattle.days.specs.Days.{days}
-use Rattle.rules.specs.{declared.Plan.Plan, declared.Release.Release, Plan.{stringLawful, commonMultiple, multipleOf, dMin, dMax, withRun}, Demand.{movingCost, holdOf, jobs, blockerHold, blockLimit, need, demand, load, overloaded}, Verdict.{pairsAt, allPairs, broken, compared, judged, verdictOver, isPass}, Search.{permit, withSet}, Release.{tooClose, outOfOrder, releaseLawful, unlawfulFrom, firstUnlawful}, Run.{chosen, lateAt, newSlot, joinFrom, joined, holder, payer, taken, nextUp, given, useOf, spent, morning, stateAt, useOn, lateOn, history, daysOf, missDay, runOf}, Refusal.{countCheck, runLengthCheck, stringsCheck, multipleCheck, planCheck, releasesCheck, runCheck, runAnswer}}
+use Rattle.rules.specs.{declared.Plan.Plan, declared.Release.Release, Plan.{stringLawful, commonMultiple, multipleOf, leewayMin, dMax, withRun}, Demand.{movingCost, holdOf, jobs, blockerHold, blockLimit, need, demand, load, overloaded}, Verdict.{pairsAt, allPairs, broken, compared, judged, verdictOver, isPass}, Search.{permit, withSet}, Release.{tooClose, outOfOrder, releaseLawful, unlawfulFrom, firstUnlawful}, Run.{chosen, lateAt, newSlot, joinFrom, joined, holder, payer, taken, nextUp, given, useOf, spent, morning, stateAt, useOn, lateOn, history, daysOf, missDay, runOf}, Refusal.{countCheck, runLengthCheck, stringsCheck, multipleCheck, planCheck, releasesCheck, runCheck, runAnswer}}
 use Rattle.base.specs.Count.{sumOf, largest, smallest, smallestWith, every, keep, countOf, upFrom, leastFrom, firstOf}
 use Rattle.rules.proofs.Worked.{string, paying, planOf, plan, release, two, five}
 use Rattle.exact.specs.Missing.{blockerPlace, blockerRelease, delayOf, comesIn, releasesIn, othersIn}
-use Rattle.tries.specs.{declared.Missing.the-variants.{Passes, NoneFound, Found}, declared.Shown.Shown, Tries.{listOf, stoppedTries, paidTries, tries, packed, isMiss, missesOn, found, missingOf, missingAnswer, unlisted}}
+use Rattle.tries.specs.{declared.Missing.the-variants.{Passes, NoneFound, Found}, declared.Shown.Shown, Tries.{listOf, stoppedTries, paidTries, tries, packed, isMiss, missesOn, found, noneLate, missingOf, missingAnswer, unlisted}}
 
 -- the first string takes the bank from the second, pays two days and is late
 unfoldable pub dear : Plan
@@ -45,7 +45,7 @@ pub answers : map (λ r. missingAnswer (r .plan)) table ≡ map (λ r. r .said) 
 unfolding
     dear alone later row shown table string paying planOf plan release two five
     flatMap sumOf largest smallest smallestWith every keep countOf upFrom leastFrom firstOf
-    stringLawful commonMultiple multipleOf dMin dMax
+    stringLawful commonMultiple multipleOf leewayMin dMax
     movingCost holdOf jobs blockerHold blockLimit need demand load overloaded
     pairsAt allPairs broken compared judged verdictOver isPass
     permit withSet
@@ -54,5 +54,5 @@ unfolding
     runOf
     countCheck runLengthCheck stringsCheck multipleCheck planCheck releasesCheck runCheck runAnswer
     blockerPlace blockerRelease delayOf comesIn releasesIn othersIn
-    listOf stoppedTries paidTries tries isMiss missesOn found missingOf missingAnswer
+    listOf stoppedTries paidTries tries isMiss missesOn found noneLate missingOf missingAnswer
 answers = refl

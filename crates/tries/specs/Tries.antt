@@ -1,4 +1,6 @@
--- The release lists that are tried on a plan which does not pass, in their order, and which of them is shown.
+-- The release lists that are tried on a plan which does not pass, in their order, and which of them is shown. Each release comes on its due
+-- day. That is enough where no string has late days and the rule breaks with free moving; elsewhere a list is shown only if it was run and
+-- did miss.
 --     Try                   how a list begins, and what comes after it: its first releases; the day on which the interval begins; the days
 --                           of the interval before takers come; and the interval's length
 --     endOf y               the day on which the interval of the try y ends
@@ -17,16 +19,19 @@
 --     found p               the first try that misses
 --     raised p y            N, raised to the interval's end where that lies beyond it
 --     unlisted m            the answer m with an empty list
---     unfound q             what is answered where no list that was tried misses, q being the free break: if there is one, so is a list
---                           that misses, the theorem's, but it has more than 1,000 releases; else none was found
+--     noneLate p            no string of p has late days
+--     unfound p q           what is answered where no list that was tried misses, q being the free break: if there is one and no string
+--                           has late days, there is a list that misses, the theorem's, but it has more than 1,000 releases; else none
+--                           was found
 --     missingAnswer p       what is answered: the refusal, that the plan passes, why no list is shown, or N and the list
 use Prim.Native.Nat.{ℕ, _+_, _-_, min, max}
 use mathlib.Core.Bool.{Bool, true, false, cond}
 use mathlib.Core.List.{List, [], _∷_, _++_, map, flatMap}
 use mathlib.Core.Option.{Option, none, some}
+use lib.Dec.{eqb}
 use lib.ListN.{length, take}
 use Rattle.days.specs.Days.{days}
-use Rattle.base.specs.Count.{upFrom, firstOf, filled}
+use Rattle.base.specs.Count.{largest, upFrom, firstOf, filled}
 use Rattle.faults.specs.declared.Checked.{Checked}
 use Rattle.faults.specs.declared.Checked.the-variants as checked
 use Rattle.rules.specs.declared.Plan.{Plan}
@@ -35,12 +40,11 @@ use Rattle.rules.specs.declared.Releases.{Releases}
 use Rattle.rules.specs.declared.Outcome.the-variants as outcome
 use Rattle.rules.specs.declared.AskedOutcome.{AskedOutcome}
 use Rattle.rules.specs.declared.AskedOutcome.the-variants as asked
-use Rattle.rules.specs.Plan.{stringAt}
+use Rattle.rules.specs.Plan.{stringsOf, stringAt, withRun}
 use Rattle.rules.specs.Demand.{holdOf}
 use Rattle.rules.specs.Verdict.{Pair, allPairs, firstBroken, verdictOf, isPass}
 use Rattle.rules.specs.Release.{noRelease}
 use Rattle.rules.specs.Refusal.{planCheck, runAnswer}
-use Rattle.rules.specs.Plan.{withRun}
 use Rattle.exact.specs.Missing.{freely, leadOf, blockerRelease, fullRelease, othersIn}
 use Rattle.tries.specs.declared.Missing.{Missing}
 use Rattle.tries.specs.declared.Missing.the-variants.{Refused, Passes, NoneFound, TooMany, Found}
@@ -124,12 +128,15 @@ raised p y = max (p .run .0) (endOfTry y)
 abbrev pub unlisted : Missing → Shown
 unlisted m = record { missing = m; releases = packed [] }
 
-abbrev pub unfound : Option Pair → Missing
-unfound none = NoneFound
-unfound (some q) = TooMany
+unfoldable pub noneLate : Plan → Bool
+noneLate p = eqb (largest (λ s. s .j .0) (stringsOf p)) 0
+
+abbrev pub unfound : Plan → Option Pair → Missing
+unfound p none = NoneFound
+unfound p (some q) = cond (noneLate p) TooMany NoneFound
 
 abbrev pub foundAs : Plan → Option Try → Shown
-foundAs p none = unlisted (unfound (freeBreak p))
+foundAs p none = unlisted (unfound p (freeBreak p))
 foundAs p (some y) = record { missing = Found (days (raised p y)); releases = packed (listOf p y) }
 
 abbrev pub onMissing : Checked → Shown → Shown

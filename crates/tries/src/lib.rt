@@ -1,6 +1,7 @@
 // Releases that make a plan miss a deadline: the theorem's list where the rule with free moving breaks, and lists in which a taker pays.
 mod asking;
 mod free;
+mod late;
 mod listing;
 mod openings;
 mod search;
@@ -12,6 +13,7 @@ use days::Length;
 use faults::Checked;
 use faults::Fault;
 use free::with_free_moving;
+use late::none_late;
 use listing::listed;
 use openings::no_release;
 use rules::Broken;
@@ -25,8 +27,8 @@ ghost use Rattle.days.specs.Days.{days};
 ghost use Rattle.verdict.specs.inner.Asked.{Ready};
 ghost use Rattle.tries.specs.Tries.{freeBreak, unlisted, unfound, missingOf, missingAnswer};
 
-// What is found for a plan: N of a run that misses; or that the plan passes, so that none does; or that none of the lists tried does, and
-// whether there is one, of more than 1,000 releases.
+// What is found for a plan: N of a run that misses; or that the plan passes, so that none does; or that none of the lists tried does; or
+// that none does, but there is one, of more than 1,000 releases.
 pub enum Missing {
     Refused { fault: Fault, at: usize },
     Passes,
@@ -62,11 +64,15 @@ fn raised(run: Length, end: u32) -> Length
     if run.0 < end { Length(end) } else { run }
 }
 
-// Why no list is shown: where the rule with free moving breaks there is one that misses, and it has more than 1,000 releases.
+// Why no list is shown: where no string has late days and the rule with free moving breaks there is one that misses, and it has more than
+// 1,000 releases.
 fn not_shown(p: Plan) -> Missing
     requires { ⌜ Ready p ⌝ }
-    ensures { λ r. ⌜ r ≡ unfound (freeBreak p) ⌝ }
+    ensures { λ r. ⌜ r ≡ unfound p (freeBreak p) ⌝ }
 {
+    if !none_late(p) {
+        return Missing::NoneFound;
+    }
     let broken = where_broken(with_free_moving(p));
     let Broken::At {
         interval: _,

@@ -83,10 +83,12 @@ pub(crate) fn listed(p: Plan, o: Opening, l: u32) -> Releases
                 return Releases { count: 1001, list };
             }
             let need = s.c;
+            let day = Day(t);
             list[count] = Release {
-                day: Day(t),
+                day,
                 place,
                 need,
+                due: day,
             };
             count += 1;
         }

@@ -32,10 +32,11 @@ pub(crate) fn no_release() -> Release
         day: Day(0),
         place: 0,
         need: Length(0),
+        due: Day(0),
     }
 }
 
-// A release on day t of the string at a place, with as much work as is lawful.
+// A release on day t, due on that day, of the string at a place, with as much work as is lawful.
 fn full_release(p: Plan, t: u32, place: usize) -> Release
     requires { ⌜ Ready p ⌝ }
     requires { ⌜ (1 ≤ place) × (place ≤ p .n) ⌝ }
@@ -44,10 +45,12 @@ fn full_release(p: Plan, t: u32, place: usize) -> Release
     let strings = p.strings;
     let s = strings[place - 1];
     let need = s.c;
+    let day = Day(t);
     Release {
-        day: Day(t),
+        day,
         place,
         need,
+        due: day,
     }
 }
 
@@ -107,7 +110,12 @@ pub(crate) fn blocking(p: Plan, l: u32, b: u32) -> Opening
     let day = Day(0);
     let place = blocker_place(p, l, b);
     let need = Length(b + 1);
-    let first = Release { day, place, need };
+    let first = Release {
+        day,
+        place,
+        need,
+        due: day,
+    };
     Opening {
         count: 1,
         first,

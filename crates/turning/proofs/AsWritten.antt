@@ -15,7 +15,7 @@ module _ (v w : Version) (text page : List ℕ) (at : ℕ) where
   abbrev rs : Releases
   rs = readingIn v text .releases
 
-  turn-refused : (f : Fault) (k : ℕ) → readingIn v text .checked ≡ checked.Refused f k
+  pub turn-refused : (f : Fault) (k : ℕ) → readingIn v text .checked ≡ checked.Refused f k
       → (Refused f k ≡ turnedAnswer v w text page at) × (page ≡ turnedPage v w text page at)
   unfolding turnedAnswer turnedPage turnCheck
   turn-refused f k h = (rw h, rw h)

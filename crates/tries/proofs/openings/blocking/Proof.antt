@@ -19,10 +19,10 @@ module _ (p : Plan) (l b : ℕ) where
       rw (blockerRelease-none p l b e, lead, e)
 
   blocks : (place : ℕ) → place ≡ blockerPlace p l b → (b ≡ 0 → ⊥)
-      → begins (record { day = day 0; place = place; need = days (b + 1) } ∷ []) 1 b l ≡ blockTry p (pair l b)
+      → begins (record { day = day 0; place = place; need = days (b + 1); due = day 0 } ∷ []) 1 b l ≡ blockTry p (pair l b)
   blocks place e some =
       let lead : 1 ≡ min b 1 = omega arith in
-      ap (λ i. begins (record { day = day 0; place = i; need = days (b + 1) } ∷ []) 1 b l) e
+      ap (λ i. begins (record { day = day 0; place = i; need = days (b + 1); due = day 0 } ∷ []) 1 b l) e
       ∙ ap (λ head. begins head 1 b l) (sym (blockerRelease-one p l b some))
       ∙ ap (λ m. begins (blockerRelease p l b) m b l) lead
 
