@@ -1,4 +1,4 @@
-// A plain C peer of the plan's check, the verdict, the search and the run (document 01, and 02's W-205), and a clock for them and for the desk's entries.
+// A plain C peer of the plan's check, the verdict, the search and the run (document 01, and 02's W-205 and W-213), and a clock for them and for the desk's entries.
 // It declares what it uses of the C library itself: the kit's compiler builds it for x86-64 on any machine, without the library's headers.
 #include "desk.h"
 struct timespec { long tv_sec, tv_nsec; };
@@ -9,12 +9,12 @@ int rand(void);
 void srand(unsigned int);
 int clock_gettime(int, struct timespec *);
 
-// a is the string's own moving cost
-typedef struct { uint32_t t, c, d, x, a; } String;
+// a is the string's own moving cost, j its late days
+typedef struct { uint32_t t, c, d, x, a, j; } String;
 typedef struct { uint32_t n, run; String s[10]; } Plan;
 
 // the plan as an entry takes it
-enum { MOST = 51 };
+enum { MOST = 61 };
 typedef struct { size_t count; uint32_t of[MOST]; } Numbers;
 
 // one number for an answer of either side: 0 refused; 1 overload, else four times the pairs and 2 for a fail, 3 for a pass; of a search 1
@@ -47,13 +47,13 @@ static int lawful(const Plan *p) {
     if (p->n < 1 || p->n > 10 || p->run < 1 || p->run > 1000000) return 0;
     for (uint32_t i = 0; i < p->n; i++) {
         const String *s = &p->s[i];
-        if (s->t < 1 || s->t > 1000 || s->d < 1 || s->d > s->t || s->c < 1 || s->c > s->d || s->x > 1 || s->a > 1000) return 0;
+        if (s->t < 1 || s->t > 1000 || s->d < 1 || s->d > s->t || s->j >= s->d || s->c < 1 || s->c > s->d - s->j || s->x > 1 || s->a > 1000) return 0;
     }
     return multiple(p) <= 100000;
 }
 
 static uint32_t hold(const String *s) { return s->c + s->a * s->x; }
-static uint32_t jobs(const String *s, uint32_t w) { return w < s->d ? 0 : (w - s->d) / s->t + 1; }
+static uint32_t jobs(const String *s, uint32_t w) { return w + s->j < s->d ? 0 : (w + s->j - s->d) / s->t + 1; }
 
 static uint32_t demand(const Plan *p, uint32_t l, uint32_t b) {
     uint32_t sum = b;
@@ -81,11 +81,11 @@ static uint32_t asked(const Plan *p, uint32_t x, uint32_t w) {
 }
 
 static uint64_t judged(const Plan *p, uint32_t h) {
-    uint32_t load = 0, first = p->s[0].d, last = 0, pairs = 0;
+    uint32_t load = 0, first = p->s[0].d - p->s[0].j, last = 0, pairs = 0;
     for (uint32_t i = 0; i < p->n; i++) {
         const String *s = &p->s[i];
         load += hold(s) * (h / s->t);
-        if (s->d < first) first = s->d;
+        if (s->d - s->j < first) first = s->d - s->j;
         if (s->d > last) last = s->d;
     }
     if (h < load) return 1;
@@ -123,7 +123,7 @@ static uint64_t peer_search(const Plan *p) {
 }
 
 static Numbers numbers_of(const Plan *p) {
-    Numbers v = {1 + 5 * p->n, {p->run}};
+    Numbers v = {1 + 6 * p->n, {p->run}};
     memcpy(v.of + 1, p->s, sizeof p->s);
     return v;
 }
@@ -153,11 +153,11 @@ static uint32_t count_at(const String *s, uint32_t l, uint32_t b) { return s->x 
 
 static uint64_t peer_quick(const Plan *p) {
     if (!lawful(p)) return 0;
-    uint32_t h = multiple(p), load = 0, first = p->s[0].d, last = 0, pairs = 0;
+    uint32_t h = multiple(p), load = 0, first = p->s[0].d - p->s[0].j, last = 0, pairs = 0;
     for (uint32_t i = 0; i < p->n; i++) {
         const String *s = &p->s[i];
         load += hold(s) * (h / s->t);
-        if (s->d < first) first = s->d;
+        if (s->d - s->j < first) first = s->d - s->j;
         if (s->d > last) last = s->d;
     }
     if (h < load) return 1;
@@ -192,8 +192,8 @@ enum { CHECKS = 1000 };
 
 static uint64_t __attribute__((noinline)) peer_check(const Numbers *v) {
     Plan p;
-    if (v->count % 5 != 1 || v->count > MOST) return 0;
-    p.n = v->count / 5; p.run = v->of[0];
+    if (v->count % 6 != 1 || v->count > MOST) return 0;
+    p.n = v->count / 6; p.run = v->of[0];
     memcpy(p.s, v->of + 1, (v->count - 1) * sizeof *v->of);
     return lawful(&p);
 }
@@ -202,7 +202,7 @@ static uint64_t our_check(const Numbers *v) { uint64_t out[DESK_PLACES]; return 
 
 static void clocked_check(const char *name, const uint32_t *t) {
     Plan p = {10, 1000, {{0}}};
-    for (int i = 0; i < 10; i++) p.s[i] = (String){t[i], 1, 1, 0, 0};
+    for (int i = 0; i < 10; i++) p.s[i] = (String){t[i], 1, 1, 0, 0, 0};
     Numbers v = numbers_of(&p);
     uint64_t (*check[2])(const Numbers *) = {peer_check, our_check};
     double best[2] = {1e9, 1e9};
@@ -245,7 +245,7 @@ static void random_plans(int count) {
         for (uint32_t i = 0; i < 10; i++) {
             String *s = &p.s[i];
             s->t = 1 + rand() % 24; s->d = 1 + rand() % s->t; s->c = 1 + rand() % (1 + s->d / 3); s->x = rand() % 2;
-            s->a = rand() % 4;
+            s->a = rand() % 4; s->j = rand() % 2 ? rand() % (s->d - s->c + 1) : 0;
         }
         Numbers v = numbers_of(&p);
         uint64_t a = peer_verdict(&p), b = our_verdict(&v);
@@ -257,7 +257,7 @@ static void random_plans(int count) {
 
 // ---- The run, from event to event (document 01, "The day-by-day run"): steps 1 to 4 of a day on which something may happen, and then step 5
 // day after day up to the next release, the end of what the job on the bank is at, the next deadline of a job with something left, or N.
-typedef struct { uint32_t day, place, need; } Release;
+typedef struct { uint32_t day, place, need, due; } Release;
 typedef struct { uint32_t count; Release of[1000]; } List;
 typedef struct { int on; uint32_t work, moving, release, deadline; } Slot;
 
@@ -267,7 +267,7 @@ static uint64_t ended(uint64_t work, uint64_t moving, uint64_t idle) { return ((
 
 static uint64_t our_run(const Numbers *v, const List *l) {
     uint64_t out[DESK_PLACES];
-    switch (desk_run(v->of, v->count, (const uint32_t *)l->of, 3 * l->count, out, DESK_PLACES)) {
+    switch (desk_run(v->of, v->count, (const uint32_t *)l->of, 4 * l->count, out, DESK_PLACES)) {
     case DESK_MISS: return missed(out[0], out[1]);
     case DESK_CLEAN: return ended(out[0], out[1], out[2]);
     default: return 0;
@@ -279,9 +279,10 @@ static int lawful_list(const Plan *p, const List *l) {
     for (uint32_t k = 0; k < l->count; k++) {
         const Release *r = &l->of[k];
         if (r->place < 1 || r->place > p->n || r->need < 1 || r->need > p->s[r->place - 1].c || r->day >= p->run) return 0;
+        if (r->day < r->due || r->day > r->due + p->s[r->place - 1].j) return 0;
         if (k && r->day < l->of[k - 1].day) return 0;
-        if (seen >> r->place & 1 && r->day < last[r->place - 1] + p->s[r->place - 1].t) return 0;
-        last[r->place - 1] = r->day;
+        if (seen >> r->place & 1 && r->due < last[r->place - 1] + p->s[r->place - 1].t) return 0;
+        last[r->place - 1] = r->due;
         seen |= 1u << r->place;
     }
     return 1;
@@ -299,7 +300,7 @@ static uint64_t peer_run(const Plan *p, const List *l) {
         uint32_t from = next;
         for (; next < l->count && l->of[next].day == t; next++) {
             const Release *r = &l->of[next];
-            s[r->place - 1] = (Slot){0, r->need, 0, t, t + p->s[r->place - 1].d};
+            s[r->place - 1] = (Slot){0, r->need, 0, t, r->due + p->s[r->place - 1].d};
         }
         if (holder >= 0 && from < next) {
             int payer = -1;
@@ -337,7 +338,10 @@ static uint64_t daily_run(const Plan *p, const List *l) {
     for (uint32_t t = 0;; t++) {
         for (uint32_t i = 0; i < p->n; i++) if (s[i].deadline == t && s[i].work + s[i].moving) return missed(t, i + 1);
         if (t == p->run) return ended(days[0], days[1], days[2]);
-        for (; next < l->count && l->of[next].day == t; next++) s[l->of[next].place - 1] = (Slot){0, l->of[next].need, 0, t, t + p->s[l->of[next].place - 1].d};
+        for (; next < l->count && l->of[next].day == t; next++) {
+            const Release *r = &l->of[next];
+            s[r->place - 1] = (Slot){0, r->need, 0, t, r->due + p->s[r->place - 1].d};
+        }
         int holder = -1, payer = -1;
         for (uint32_t i = 0; i < p->n; i++) if (s[i].on) holder = i;
         if (holder >= 0)
@@ -383,15 +387,19 @@ static void random_runs(int count) {
         for (uint32_t i = 0; i < 10; i++) {
             String *s = &p.s[i];
             s->t = 1 + rand() % 12; s->d = 1 + rand() % s->t; s->c = 1 + rand() % s->d; s->x = rand() % 2; s->a = rand() % 4;
+            s->j = rand() % 2 ? rand() % (s->d - s->c + 1) : 0;
         }
         uint32_t free[10] = {0};
         l.count = 0;
         for (int r = rand() % 12; r > 0; r--) {
             day += rand() % 4;
             uint32_t i = rand() % p.n;
-            if (day < free[i] && rand() % 50) continue;
-            l.of[l.count++] = (Release){day, i + 1, 1 + rand() % p.s[i].c};
-            free[i] = day + p.s[i].t;
+            // due as early as may be, or on the day
+            uint32_t late = day < p.s[i].j ? day : p.s[i].j, due = rand() % 2 ? day : day - late;
+            if (due < free[i]) due = day;
+            if (due < free[i] && rand() % 50) continue;
+            l.of[l.count++] = (Release){day, i + 1, 1 + rand() % p.s[i].c, due};
+            free[i] = due + p.s[i].t;
         }
         while (l.count && l.of[l.count - 1].day >= p.run && rand() % 50) l.count--;
         Numbers v = numbers_of(&p);
@@ -406,18 +414,21 @@ static void runs(void) {
     static List none, spread, takes, late;
     Plan p = {10, 1000000, {{0}}};
     random_runs(20000);
-    for (int i = 0; i < 10; i++) p.s[i] = (String){1000, 1000, 1000, 0, 0};
-    for (uint32_t k = 0; k < 1000; k++) spread.of[k] = (Release){1000 * k, k % 10 + 1, 90};
+    for (int i = 0; i < 10; i++) p.s[i] = (String){1000, 1000, 1000, 0, 0, 0};
+    for (uint32_t k = 0; k < 1000; k++) spread.of[k] = (Release){1000 * k, k % 10 + 1, 90, 1000 * k};
     spread.count = 1000;
     clocked_run("run, no release", &p, &none);
     clocked_run("run, 1,000 releases", &p, &spread);
     // two jobs of a thousand days at once, at the end
     late = spread;
-    for (uint32_t k = 998; k < 1000; k++) late.of[k] = (Release){998000, k % 10 + 1, 1000};
+    for (uint32_t k = 998; k < 1000; k++) late.of[k] = (Release){998000, k % 10 + 1, 1000, 998000};
     clocked_run("run, a miss at the end", &p, &late);
     // ten jobs, each due before the one on the bank, five days apart; moving a day each
-    for (int i = 0; i < 10; i++) p.s[i] = (String){1000, 50, 1000 - 20 * i, i > 0, 1};
-    for (uint32_t k = 0; k < 1000; k++) takes.of[k] = (Release){10000 * (k / 10) + 5 * (k % 10), k % 10 + 1, 50};
+    for (int i = 0; i < 10; i++) p.s[i] = (String){1000, 50, 1000 - 20 * i, i > 0, 1, 0};
+    for (uint32_t k = 0; k < 1000; k++) {
+        uint32_t day = 10000 * (k / 10) + 5 * (k % 10);
+        takes.of[k] = (Release){day, k % 10 + 1, 50, day};
+    }
     takes.count = 1000;
     clocked_run("run, taken at every release", &p, &takes);
 }

@@ -2,7 +2,7 @@
 // the slowest so far. `bench/run worst [CLIMBS [SEED]]`.
 #include "desk.h"
 struct timespec { long tv_sec, tv_nsec; };
-enum { CLOCK_PROCESS_CPUTIME_ID = 2, STRINGS = 10, NUMBERS = 1 + 5 * STRINGS, STEPS = 3000 };
+enum { CLOCK_PROCESS_CPUTIME_ID = 2, STRINGS = 10, NUMBERS = 1 + 6 * STRINGS, STEPS = 3000 };
 int printf(const char *, ...);
 int atoi(const char *);
 void *memcpy(void *, const void *, size_t);
@@ -10,7 +10,7 @@ int rand(void);
 void srand(unsigned int);
 int clock_gettime(int, struct timespec *);
 
-// a plan as an entry takes it: N, then T, C, D, X and A of each string
+// a plan as an entry takes it: N, then T, C, D, X, A and J of each string; no string has late days
 typedef struct { uint32_t of[NUMBERS]; } Plan;
 
 // numbers with many divisors up to 1,000, so that ten strings find different periods with a large H
@@ -62,7 +62,7 @@ static void changed(uint32_t *s, uint32_t h) {
 static void shown(const Plan *p, double took) {
     printf("%7.3f ms", took * 1e3);
     for (int i = 0; i < STRINGS; i++) {
-        const uint32_t *s = p->of + 1 + 5 * i;
+        const uint32_t *s = p->of + 1 + 6 * i;
         printf(" (%u,%u,%u) %u", s[0], s[1], s[2], s[4]);
     }
     printf("\n");
@@ -75,12 +75,12 @@ int main(int count, char **words) {
     for (int c = 0; c < climbs; c++) {
         uint32_t h = multiples[below(MULTIPLES)];
         Plan p = {{20}};
-        for (int i = 0; i < STRINGS; i++) drawn(p.of + 1 + 5 * i, h);
+        for (int i = 0; i < STRINGS; i++) drawn(p.of + 1 + 6 * i, h);
         double now = seconds(&p);
         for (int k = 0; k < STEPS; k++) {
             Plan q = p;
-            changed(q.of + 1 + 5 * below(STRINGS), h);
-            if (below(3) == 0) changed(q.of + 1 + 5 * below(STRINGS), h);
+            changed(q.of + 1 + 6 * below(STRINGS), h);
+            if (below(3) == 0) changed(q.of + 1 + 6 * below(STRINGS), h);
             double took = seconds(&q);
             if (took >= now) { p = q; now = took; }
         }

@@ -1,17 +1,19 @@
 /* The planning desk for C and C++ programs. `rt staticlib entries` proves the crate entries and writes target/staticlib/libentries.a, for
  * x86-64 Linux; it wants nothing beside it but the C library. c/example.c shows each entry, c/example.rs the same from Rust.
  *
- * A plan is a row of numbers: N, then T, C, D, X and A of each string, by place: 1 + 5 n numbers for n strings.
+ * A plan is a row of numbers: N, then T, C, D, X, A and J of each string, by place: 1 + 6 n numbers for n strings.
  *     N  days of the run                                   1 to 1,000,000
- *     T  least days between two releases of the string     1 to 1,000
- *     C  most working days of a job                        1 to D
- *     D  days from a release to its deadline               1 to T
+ *     T  least days between two due days of the string     1 to 1,000
+ *     C  most working days of a job                        1 to D - J
+ *     D  days from a due day to its deadline               1 to T
  *     X  1: its jobs may take the bank, 0: they may not
  *     A  moving days that a job pays which takes the bank  0 to 1,000
+ *     J  late days: a job may come so many days after it is due   0 to D - 1
  * n is 1 to 10, and the least common multiple of all T is at most 100,000.
  *
- * Releases are a row of numbers too: day, place (of the string, from 1) and need (working days) of each, at most 1,000 releases. Days never
- * fall, a day is below N, a need is 1 to C, and releases of one place are at least T days apart.
+ * Releases are a row of numbers too: day, place (of the string, from 1), need (working days) and due day of each, at most 1,000 releases. Days
+ * never fall, a day is below N and 0 to J days after its due day, a need is 1 to C, and due days of one place are at least T days apart. The
+ * deadline is due day plus D. Where nothing comes late, J is 0 and the due day is the day.
  *
  * Every entry answers for whatever is lent: what lies outside these bounds is refused, with a number and a place.
  *
@@ -54,8 +56,8 @@ enum {
 
 /* The refusal numbers of entries that take numbers, in the order in which they are looked for. */
 enum {
-    DESK_STRING_COUNT = 4,      /* n is not 1 to 10, or the numbers are not 1 + 5 n; with 0 */
-    DESK_OUT_OF_BOUNDS = 5,     /* N, with 0; a set of 2^n or more, with 0; then T, C, D, X or A, with the string's place */
+    DESK_STRING_COUNT = 4,      /* n is not 1 to 10, or the numbers are not 1 + 6 n; with 0 */
+    DESK_OUT_OF_BOUNDS = 5,     /* N, with 0; a set of 2^n or more, with 0; then T, C, D, X, A or J, with the string's place */
     DESK_MULTIPLE_OVER = 6,     /* the least common multiple of all T is over 100,000; with 0 */
     DESK_RELEASE_TOO_MANY = 7,  /* more than 1,000 releases; with 1,001 */
     DESK_RELEASE_UNLAWFUL = 8,  /* with the place in the list, from 1, of the first release that may not stand there; one that lacks a
@@ -86,7 +88,7 @@ uint32_t desk_quick(const uint32_t *plan, size_t count, uint64_t *out, size_t ro
 uint32_t desk_search(const uint32_t *plan, size_t count, uint64_t *out, size_t room);
 
 /* How the run of a plan ends under a list of releases, with the X that the plan carries: DESK_CLEAN, DESK_MISS, or DESK_REFUSED with 4 to
- * 8. listed is 3 for each release. */
+ * 8. listed is 4 for each release. */
 uint32_t desk_run(const uint32_t *plan, size_t count, const uint32_t *releases, size_t listed, uint64_t *out, size_t room);
 
 /* The stints of that run: its days, from the first to the last, in stretches on which the bank did one thing; up to, not into, the day of the

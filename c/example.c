@@ -7,15 +7,20 @@
 #define COUNT(row) (sizeof(row) / sizeof *(row))
 
 static const uint32_t plan[] = {
-    20,              /* N */
-    10, 3, 5, 1, 1,  /* string 1: T, C, D, X, A */
-    10, 5, 10, 0, 1, /* string 2 */
+    20,                 /* N */
+    10, 3, 5, 1, 1, 0,  /* string 1: T, C, D, X, A, J */
+    10, 5, 10, 0, 1, 0, /* string 2 */
 };
 
 static const uint32_t releases[] = {
-    0, 2, 5, /* day, place, need */
-    1, 1, 3,
+    0, 2, 5, 0, /* day, place, need, due day */
+    1, 1, 3, 1,
 };
+
+/* String 1 with two late days, and less work: its job due on day 1 may come on day 3. */
+static const uint32_t late_plan[] = {20, 10, 2, 5, 1, 1, 2, 10, 5, 10, 0, 1, 0};
+
+static const uint32_t late_releases[] = {0, 2, 5, 0, 3, 1, 2, 1};
 
 /* An answer as a line: the desk's words, where the desk has them. */
 static void say(uint32_t kind, const uint64_t out[DESK_PLACES]) {
@@ -71,13 +76,21 @@ int main(int words, char **word) {
     say(desk_verdict_with(plan, COUNT(plan), 0, out, COUNT(out)), out);
     say(desk_verdict_with(plan, COUNT(plan), 3, out, COUNT(out)), out);
 
-    puts("# its check and H; cut short; with a set of no such plan; a release that lacks its need; three places lent");
+    puts("# its check and H; cut short; with a set of no such plan; a release that lacks its due day; three places lent");
     say(desk_check(plan, COUNT(plan), out, COUNT(out)), out);
     printf("H %" PRIu32 "\n", desk_multiple(plan, COUNT(plan)));
     say(desk_check(plan, COUNT(plan) - 1, out, COUNT(out)), out);
     say(desk_verdict_with(plan, COUNT(plan), 4, out, COUNT(out)), out);
     say(desk_run(plan, COUNT(plan), releases, COUNT(releases) - 1, out, COUNT(out)), out);
     say(desk_verdict(plan, COUNT(plan), out, 3), out);
+
+    puts("# string 1 with two late days: the verdict, and the run of a job that comes two days late; three days late");
+    say(desk_verdict(late_plan, COUNT(late_plan), out, COUNT(out)), out);
+    say(desk_run(late_plan, COUNT(late_plan), late_releases, COUNT(late_releases), out, COUNT(out)), out);
+    uint32_t later[COUNT(late_releases)];
+    for (size_t i = 0; i < COUNT(later); i++) later[i] = late_releases[i];
+    later[4] = 4;
+    say(desk_run(late_plan, COUNT(late_plan), later, COUNT(later), out, COUNT(out)), out);
 
     puts("# day 366 and back; 29 February 2001");
     say(desk_date(366, out, COUNT(out)), out);

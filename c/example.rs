@@ -113,11 +113,16 @@ mod desk {
 use desk::Told;
 use std::io::Write;
 
-/// N, then T, C, D, X and A of each string.
-const PLAN: [u32; 11] = [20, 10, 3, 5, 1, 1, 10, 5, 10, 0, 1];
+/// N, then T, C, D, X, A and J of each string.
+const PLAN: [u32; 13] = [20, 10, 3, 5, 1, 1, 0, 10, 5, 10, 0, 1, 0];
 
-/// Day, place and need of each release.
-const RELEASES: [u32; 6] = [0, 2, 5, 1, 1, 3];
+/// Day, place, need and due day of each release.
+const RELEASES: [u32; 8] = [0, 2, 5, 0, 1, 1, 3, 1];
+
+/// String 1 with two late days, and less work: its job due on day 1 may come on day 3.
+const LATE_PLAN: [u32; 13] = [20, 10, 2, 5, 1, 1, 2, 10, 5, 10, 0, 1, 0];
+
+const LATE_RELEASES: [u32; 8] = [0, 2, 5, 0, 3, 1, 2, 1];
 
 /// An answer as a line: the desk's words, where the desk has them.
 fn say(Told(kind, [a, b, c, d]): Told) {
@@ -160,13 +165,20 @@ fn main() -> std::io::Result<()> {
     say(desk::verdict_with(&PLAN, 0));
     say(desk::verdict_with(&PLAN, 3));
 
-    println!("# its check and H; cut short; with a set of no such plan; a release that lacks its need; three places lent");
+    println!("# its check and H; cut short; with a set of no such plan; a release that lacks its due day; three places lent");
     say(desk::check(&PLAN));
     println!("H {}", desk::multiple(&PLAN));
-    say(desk::check(&PLAN[..10]));
+    say(desk::check(&PLAN[..12]));
     say(desk::verdict_with(&PLAN, 4));
-    say(desk::run(&PLAN, &RELEASES[..5]));
+    say(desk::run(&PLAN, &RELEASES[..7]));
     say(Told(desk::verdict_in(&PLAN, &mut [0; 3]), [0; 4]));
+
+    println!("# string 1 with two late days: the verdict, and the run of a job that comes two days late; three days late");
+    say(desk::verdict(&LATE_PLAN));
+    say(desk::run(&LATE_PLAN, &LATE_RELEASES));
+    let mut later = LATE_RELEASES;
+    later[4] = 4;
+    say(desk::run(&LATE_PLAN, &later));
 
     println!("# day 366 and back; 29 February 2001");
     say(desk::date(366));

@@ -12,6 +12,7 @@ mod decimal;
 mod desk;
 mod edges;
 mod faults;
+mod late;
 mod misses;
 mod mix;
 mod options;

@@ -118,7 +118,8 @@ pub fn make_at_the_border(seed: u64, file: u64) -> Made {
 }
 
 /// The file of this number under this seed: every other one of any kind; the rest lawful, with moving
-/// costs that are equal, equal but for one string, or different, and one in eight then damaged.
+/// costs that are equal, equal but for one string, or different, in versions 01 and 02 and now and then in
+/// 03, and one in eight then damaged.
 pub fn make_to_turn(seed: u64, file: u64) -> Made {
     if file % 2 == 0 {
         return make(seed, file);
@@ -126,31 +127,18 @@ pub fn make_to_turn(seed: u64, file: u64) -> Made {
     let mut chance = Chance::new(seed, file);
     let limit = strings::cost_limit(&mut chance, 2_000_000);
     let mut plan = strings::mixed(&mut chance, 8, limit);
+    let turn = file / 2 % 5;
+    if turn < 4 {
+        plan.set_late(0);
+    }
     let most = chance.between(0, 30) as usize;
     releases::fill(&mut chance, &mut plan, most);
-    let moving = chance.between(0, 1_000);
-    let version = match file / 2 % 4 {
-        0 => {
-            plan.set_moving(moving);
-            Version::Old
-        }
-        1 => {
-            plan.set_moving(moving);
-            Version::New
-        }
-        2 => {
-            plan.set_moving(moving);
-            let one = chance.index(plan.strings.len());
-            plan.strings[one].moving = if moving > 0 { moving - 1 } else { 1 };
-            Version::New
-        }
-        _ => {
-            for string in &mut plan.strings {
-                string.moving = chance.between(0, 3);
-            }
-            Version::New
-        }
+    let version = match turn {
+        0 => Version::V01,
+        1..=3 => Version::V02,
+        _ => Version::V03,
     };
+    draw_costs(&mut chance, &mut plan, turn);
     let mut text = writing::lines(&plan, version).concat();
     if chance.one_in(8) {
         let at = chance.index(text.len());
@@ -159,6 +147,24 @@ pub fn make_to_turn(seed: u64, file: u64) -> Made {
     Made {
         kind: "to turn",
         text,
+    }
+}
+
+/// By turns: equal twice, equal but for one string, different.
+fn draw_costs(chance: &mut Chance, plan: &mut Plan, turn: u64) {
+    let moving = chance.between(0, 1_000);
+    match turn % 4 {
+        0 | 1 => plan.set_moving(moving),
+        2 => {
+            plan.set_moving(moving);
+            let one = chance.index(plan.strings.len());
+            plan.strings[one].moving = if moving > 0 { moving - 1 } else { 1 };
+        }
+        _ => {
+            for string in &mut plan.strings {
+                string.moving = chance.between(0, 3);
+            }
+        }
     }
 }
 

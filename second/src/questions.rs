@@ -15,9 +15,8 @@ use crate::rules::rule::verdict;
 use crate::running;
 use crate::saving::{into_page, saved, Saved};
 use crate::showing::shown;
-use crate::turning::turned;
+use crate::turning::{turned, Way};
 use crate::visits;
-use crate::writing::Version;
 
 /// The words of a command about a file of some name, and its answer.
 pub struct Asked {
@@ -73,12 +72,12 @@ pub fn about(
     }
 }
 
-/// Alone and in pages. A lawful file of version 02 is the one text of its plan; the text of any
+/// Alone and in pages. A lawful file of version 03 is the one text of its plan; the text of any
 /// other one reads to its plan.
 fn about_saving(chance: &mut Chance, text: &[u8], name: &str) -> Result<Vec<Asked>, &'static str> {
     let whole = saved(text);
-    let new = text.get(2..4) == Some(b"02");
-    if new && whole.as_ref().map_or(false, |written| written != text) {
+    let late = text.get(2..4) == Some(b"03");
+    if late && whole.as_ref().map_or(false, |written| written != text) {
         return Err("a plan has another text");
     }
     if whole
@@ -139,13 +138,13 @@ fn about_tables(chance: &mut Chance, text: &[u8], name: &str) -> Result<Vec<Aske
 /// Both ways. A file that is turned says the same plan, and turned back it has the bytes that it had.
 fn about_turning(text: &[u8], name: &str) -> Result<Vec<Asked>, &'static str> {
     let mut asked = Vec::new();
-    for (word, from) in [("to-02", Version::Old), ("to-01", Version::New)] {
-        let answer = turned(text, from);
+    for (word, way) in [("to-02", Way::To02), ("to-01", Way::To01)] {
+        let answer = turned(text, way);
         if let Ok(other) = &answer {
             if read(other) != read(text) {
                 return Err("a turned file says another plan");
             }
-            if turned(other, from.other()).as_deref() != Ok(text) {
+            if turned(other, way.back()).as_deref() != Ok(text) {
                 return Err("a file turned and turned back is another");
             }
         }

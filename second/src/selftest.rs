@@ -3,7 +3,8 @@
 use crate::calendar::answer::Calendar;
 use crate::chance::Chance;
 use crate::crew;
-use crate::misses::plans::any_small_plan;
+use crate::late;
+use crate::misses::plans::{any_small_plan, small_late_plan};
 use crate::orders::answer::{matched, Matched};
 use crate::register;
 use crate::rules::answer::Answer;
@@ -17,7 +18,7 @@ use crate::rules::search::search;
 use crate::running::{claim_broken, told};
 use crate::saving::{into_page, saved, written, Page};
 use crate::showing::shown;
-use crate::turning::turned;
+use crate::turning::{turned, Way};
 use crate::visits;
 use crate::writing::{self, Version};
 use crate::wrong::{self, Mistake};
@@ -29,6 +30,7 @@ pub fn wrong_cases() -> Vec<&'static str> {
         quick_verdicts(),
         searches(),
         runs(),
+        late::cases(),
         stints(),
         readings(),
         versions(),
@@ -54,15 +56,12 @@ pub fn wrong_cases() -> Vec<&'static str> {
 pub type Cases = Vec<(&'static str, bool)>;
 
 /// Strings as (T, C, D), without permissions.
-fn plan(strings: &[(u64, u64, u64)], moving: u64) -> Plan {
+pub fn plan(strings: &[(u64, u64, u64)], moving: u64) -> Plan {
     let strings = strings
         .iter()
         .map(|&(t, c, d)| BatteryString {
-            x: 0,
-            t,
-            c,
-            d,
             moving,
+            ..BatteryString::plain(t, c, d)
         })
         .collect();
     Plan {
@@ -180,7 +179,7 @@ fn runs() -> Cases {
 fn missing_plan() -> Plan {
     let mut plan = three_strings().with_set(2);
     plan.releases = [(0, 3, 2), (1, 2, 1), (2, 1, 3)]
-        .map(|(day, place, need)| Release { place, day, need })
+        .map(|(day, place, need)| Release::new(place, day, need))
         .to_vec();
     plan
 }
@@ -202,13 +201,7 @@ fn stints() -> Cases {
     };
     let mut daily = plan(&[(1, 1, 1)], 0);
     daily.days = 3;
-    daily.releases = [0, 1]
-        .map(|day| Release {
-            place: 1,
-            day,
-            need: 1,
-        })
-        .to_vec();
+    daily.releases = [0, 1].map(|day| Release::new(1, day, 1)).to_vec();
     let nothing = |days| Plan {
         days,
         ..plan(&[(10, 3, 5)], 1)
@@ -252,6 +245,10 @@ pub const SAMPLE: &[u8] = b"010102000100000014\n0201000a00030005\n0200000a000500
 /// The same in version 02.
 const SAMPLE_02: &[u8] = b"01020200000014\n0201000a000300050001\n0200000a0005000a0001\n\
     0302000000000005\n0301000000010003\n";
+
+/// The same in version 03: nothing is late.
+const SAMPLE_03: &[u8] = b"01030200000014\n0201000a0003000500010000\n0200000a0005000a00010000\n\
+    030200000000000500000000\n030100000001000300000001\n";
 
 /// A text with its header, and one with its first string line, from the other one.
 fn mixed(text: &[u8], other: &[u8]) -> [Vec<u8>; 2] {
@@ -301,7 +298,23 @@ fn versions() -> Cases {
             "new named old",
             with_byte(SAMPLE_02, 3, b'1') == refused(3, 1),
         ),
-        ("version 03", with_byte(SAMPLE_02, 3, b'3') == refused(3, 1)),
+        (
+            "02 named 03",
+            with_byte(SAMPLE_02, 3, b'3') == refused(3, 2),
+        ),
+        (
+            "03 named 02",
+            with_byte(SAMPLE_03, 3, b'2') == refused(3, 2),
+        ),
+        (
+            "03 named 01",
+            with_byte(SAMPLE_03, 3, b'1') == refused(3, 1),
+        ),
+        ("version 04", with_byte(SAMPLE_03, 3, b'4') == refused(3, 1)),
+        (
+            "one plan in version 03 too",
+            read(SAMPLE) == read(SAMPLE_03),
+        ),
     ]
 }
 
@@ -332,21 +345,25 @@ fn writings() -> Cases {
     let whole = saved(SAMPLE);
     let page = |size, place| written(into_page(&whole, Page { size, place }));
     let no_room = b"refused 9 line 0\n".to_vec();
-    let amid = [b"...", SAMPLE_02, b".."].concat();
+    let amid = [b"...", SAMPLE_03, b".."].concat();
     vec![
         (
-            "the sample written as version 02",
-            whole == Ok(SAMPLE_02.to_vec()),
+            "the sample written as version 03",
+            whole == Ok(SAMPLE_03.to_vec()),
         ),
         (
-            "version 02 written back",
-            saved(SAMPLE_02) == Ok(SAMPLE_02.to_vec()),
+            "version 02 written as version 03",
+            saved(SAMPLE_02) == Ok(SAMPLE_03.to_vec()),
         ),
-        ("a page that fits exactly", page(91, 0) == SAMPLE_02),
-        ("a page one byte too short", page(90, 0) == no_room),
-        ("a text amid its page", page(96, 3) == amid),
-        ("a place at the page's end", page(91, 91) == no_room),
-        ("a place beyond the page's end", page(91, 92) == no_room),
+        (
+            "version 03 written back",
+            saved(SAMPLE_03) == Ok(SAMPLE_03.to_vec()),
+        ),
+        ("a page that fits exactly", page(115, 0) == SAMPLE_03),
+        ("a page one byte too short", page(114, 0) == no_room),
+        ("a text amid its page", page(120, 3) == amid),
+        ("a place at the page's end", page(115, 115) == no_room),
+        ("a place beyond the page's end", page(115, 116) == no_room),
         (
             "a refused file in a page",
             into_page(&saved(b""), Page { size: 0, place: 1 }) == refused(3, 1),
@@ -355,12 +372,13 @@ fn writings() -> Cases {
 }
 
 fn turnings() -> Cases {
-    let (old, new) = (Version::Old, Version::New);
+    let (old, new) = (Way::To02, Way::To01);
+    let text = |plan: &Plan| writing::lines(plan, Version::V02).concat();
     let mut last = two_strings();
     last.strings[1].moving = 2;
     let mut first = three_strings();
     first.strings[0].moving = 4;
-    let late = [&writing::text(&last), b"00\n".as_slice()].concat();
+    let late = [&text(&last), b"00\n".as_slice()].concat();
     vec![
         ("old to new", turned(SAMPLE, old) == Ok(SAMPLE_02.to_vec())),
         ("new to old", turned(SAMPLE_02, new) == Ok(SAMPLE.to_vec())),
@@ -368,13 +386,17 @@ fn turnings() -> Cases {
         ("old is not new", turned(SAMPLE, new) == refused(3, 1)),
         (
             "the last cost differs",
-            turned(&writing::text(&last), new) == refused(12, 3),
+            turned(&text(&last), new) == refused(12, 3),
         ),
         (
             "all differ from the first",
-            turned(&writing::text(&first), new) == refused(12, 3),
+            turned(&text(&first), new) == refused(12, 3),
         ),
         ("a fault before 12", turned(&late, new) == refused(3, 4)),
+        (
+            "version 03 is not turned",
+            [old, new].map(|way| turned(SAMPLE_03, way)) == [refused(3, 1), refused(3, 1)],
+        ),
     ]
 }
 
@@ -422,11 +444,20 @@ fn showings() -> Cases {
         H 10 load 9 of 10\n\
         release 1 day 0 string 2 need 5\n\
         release 2 day 1 string 1 need 3\n";
+    const LATE: &[u8] = b"01030200000014\n0201000a0003000500010002\n0200000a0005000a00010000\n\
+        030200000000000500000000\n030100000003000300000001\n";
+    const LATE_SHOWN: &str = "plan strings 2 run 20\n\
+        string 1 may take T 10 C 3 D 5 late 2 moving 1 E 4\n\
+        string 2 may not take T 10 C 5 D 10 moving 1 E 5\n\
+        H 10 load 9 of 10\n\
+        release 1 day 0 string 2 need 5\n\
+        release 2 day 3 due 1 string 1 need 3\n";
     const ROOF_LOAD: &str = "\nH 40 load 28 of 40\n";
     let text = |file| read(file).map(|plan| plan.cycle().map(|cycle| shown(&plan, cycle)));
     let has_roof_load = |text: String| text.contains(ROOF_LOAD);
     vec![
         ("the sample shown", text(SAMPLE) == Ok(Some(SHOWN.into()))),
+        ("late days shown", text(LATE) == Ok(Some(LATE_SHOWN.into()))),
         (
             "the roof's load",
             text(ROOF).map(|text| text.map_or(false, has_roof_load)) == Ok(true),
@@ -553,12 +584,16 @@ fn mistakes() -> Cases {
 }
 
 /// The rule that follows from reading X as "may be interrupted" is one for the run that follows from it: a small plan that passes so misses so for no
-/// list of releases.
+/// list of releases. Every other plan has late days.
 fn rule_and_run_agree() -> bool {
-    const PLANS: u64 = 300;
+    const PLANS: u64 = 400;
     let mistake = Mistake::WhoIsInterrupted;
     (0..PLANS).all(|number| {
-        let plan = any_small_plan(&mut Chance::new(1, number));
+        let chance = &mut Chance::new(1, number);
+        let plan = match number % 2 {
+            0 => any_small_plan(chance),
+            _ => small_late_plan(chance, false),
+        };
         let does_pass = |cycle| passes_by(&wrong::rule(mistake), &plan, cycle);
         !plan.cycle().map_or(false, does_pass) || !can_miss_by(wrong::policy(mistake), &plan)
     })

@@ -1,18 +1,39 @@
-//! Turning plan files of one version into the other (document 02, W-208).
+//! Turning plan files of version 01 into 02 and back (document 02, W-208). Files of version 03 are not turned.
 
 use crate::rules::frames::{read_version, Refusal};
 use crate::rules::plan::Plan;
 use crate::saving::Saved;
 use crate::writing::{self, Version};
 
-/// A file of this version in the other one. Version 01 has one moving cost for all strings.
-pub fn turned(text: &[u8], from: Version) -> Saved {
-    let plan = read_version(text, from.number())?;
-    let to = from.other();
-    if to == Version::Old {
-        one_cost(&plan)?;
+/// The two ways.
+#[derive(Clone, Copy)]
+pub enum Way {
+    To02,
+    To01,
+}
+
+impl Way {
+    pub fn back(self) -> Way {
+        match self {
+            Way::To02 => Way::To01,
+            Way::To01 => Way::To02,
+        }
     }
-    Ok(writing::lines(&plan, to).concat())
+}
+
+/// A file in the other version. Version 01 has one moving cost for all strings.
+pub fn turned(text: &[u8], way: Way) -> Saved {
+    match way {
+        Way::To02 => {
+            let plan = read_version(text, Version::V01.number())?;
+            Ok(writing::lines(&plan, Version::V02).concat())
+        }
+        Way::To01 => {
+            let plan = read_version(text, Version::V02.number())?;
+            one_cost(&plan)?;
+            Ok(writing::lines(&plan, Version::V01).concat())
+        }
+    }
 }
 
 /// 12 with the line of the first string whose moving cost is another than that of place 1. The first

@@ -1,4 +1,4 @@
-//! Writing plans as lines of frames, in version 01 or 02.
+//! Writing plans as lines of frames, in version 01, 02 or 03.
 
 use crate::chance::Chance;
 use crate::rules::plan::{BatteryString, Plan, Release};
@@ -25,114 +25,129 @@ pub const T: Field = field(2, 2);
 pub const C: Field = field(4, 2);
 pub const D: Field = field(6, 2);
 pub const MOVING: Field = field(8, 2);
+pub const LATE: Field = field(10, 2);
 pub const PLACE: Field = field(1, 1);
 pub const DAY: Field = field(2, 4);
 pub const NEED: Field = field(6, 2);
+pub const DUE: Field = field(8, 4);
 
 #[derive(Clone, Copy, PartialEq)]
 pub enum Version {
-    /// 01: one moving cost in the header.
-    Old,
-    /// 02: each string has its own.
-    New,
+    /// One moving cost, in the header.
+    V01,
+    /// Each string has its own.
+    V02,
+    /// Each string has its late days, and each release its due day.
+    V03,
 }
 
 impl Version {
-    pub fn other(self) -> Version {
-        match self {
-            Version::Old => Version::New,
-            Version::New => Version::Old,
-        }
-    }
+    const ALL: [Version; 3] = [Version::V01, Version::V02, Version::V03];
 
     pub fn number(self) -> u8 {
         match self {
-            Version::Old => 1,
-            Version::New => 2,
+            Version::V01 => 1,
+            Version::V02 => 2,
+            Version::V03 => 3,
         }
     }
 
     /// Where the header says N.
     pub fn days(self) -> Field {
         match self {
-            Version::Old => OLD_DAYS,
-            Version::New => DAYS,
+            Version::V01 => OLD_DAYS,
+            Version::V02 | Version::V03 => DAYS,
         }
+    }
+
+    /// Whether a file of this version can say all of the plan.
+    fn can_say(self, plan: &Plan) -> bool {
+        match self {
+            Version::V01 => plan.is_punctual() && plan.common_moving().is_some(),
+            Version::V02 => plan.is_punctual(),
+            Version::V03 => true,
+        }
+    }
+
+    /// Any other version.
+    pub fn another(self, chance: &mut Chance) -> Version {
+        let others = Version::ALL.into_iter().filter(|version| *version != self);
+        chance.pick(&others.collect::<Vec<_>>())
     }
 }
 
-/// The file that a plan is saved as: version 02.
+/// The file that a plan is saved as: version 03.
 pub fn text(plan: &Plan) -> Vec<u8> {
-    lines(plan, Version::New).concat()
+    lines(plan, Version::V03).concat()
 }
 
-/// A file of a plan in either version; version 01 only where it says all of the plan.
+/// A file of a plan in any version that says all of it.
 pub fn any_text(chance: &mut Chance, plan: &Plan) -> Vec<u8> {
     lines(plan, any_version(chance, plan)).concat()
 }
 
 /// A version that can say all of the plan.
 pub fn any_version(chance: &mut Chance, plan: &Plan) -> Version {
-    if plan.common_moving().is_some() && chance.below(4) > 0 {
-        Version::Old
-    } else {
-        Version::New
-    }
+    let able = Version::ALL
+        .into_iter()
+        .filter(|version| version.can_say(plan));
+    chance.pick(&able.collect::<Vec<_>>())
 }
 
-/// The lines of a plan's file, each with its 0a. Version 01 has the cost of the first string.
+/// The lines of a plan's file, each with its 0a. Version 01 has the cost of the first string; before 03 no line says what is late.
 pub fn lines(plan: &Plan, version: Version) -> Vec<Vec<u8>> {
     let mut lines = vec![header(plan, version)];
     lines.extend(plan.strings.iter().map(|one| string(one, version)));
-    lines.extend(plan.releases.iter().map(release));
+    lines.extend(plan.releases.iter().map(|one| release(one, version)));
     lines
 }
 
 pub fn header(plan: &Plan, version: Version) -> Vec<u8> {
-    let count = (COUNT, plan.strings.len() as u64);
-    let moving = plan.strings.first().map_or(0, |string| string.moving);
+    let mut numbers = vec![
+        (KIND, 1),
+        (VERSION, u64::from(version.number())),
+        (COUNT, plan.strings.len() as u64),
+        (version.days(), plan.days),
+    ];
     match version {
-        Version::Old => line(
-            9,
-            &[
-                (KIND, 1),
-                (VERSION, 1),
-                count,
-                (OLD_MOVING, moving),
-                (OLD_DAYS, plan.days),
-            ],
-        ),
-        Version::New => line(7, &[(KIND, 1), (VERSION, 2), count, (DAYS, plan.days)]),
+        Version::V01 => {
+            let moving = plan.strings.first().map_or(0, |string| string.moving);
+            numbers.push((OLD_MOVING, moving));
+            line(9, &numbers)
+        }
+        Version::V02 | Version::V03 => line(7, &numbers),
     }
 }
 
 pub fn string(string: &BatteryString, version: Version) -> Vec<u8> {
-    let mut numbers = vec![
+    let numbers = [
         (KIND, 2),
         (X, string.x),
         (T, string.t),
         (C, string.c),
         (D, string.d),
+        (MOVING, string.moving),
+        (LATE, string.late),
     ];
     match version {
-        Version::Old => line(8, &numbers),
-        Version::New => {
-            numbers.push((MOVING, string.moving));
-            line(10, &numbers)
-        }
+        Version::V01 => line(8, &numbers[..5]),
+        Version::V02 => line(10, &numbers[..6]),
+        Version::V03 => line(12, &numbers),
     }
 }
 
-pub fn release(release: &Release) -> Vec<u8> {
-    line(
-        8,
-        &[
-            (KIND, 3),
-            (PLACE, release.place),
-            (DAY, release.day),
-            (NEED, release.need),
-        ],
-    )
+pub fn release(release: &Release, version: Version) -> Vec<u8> {
+    let numbers = [
+        (KIND, 3),
+        (PLACE, release.place),
+        (DAY, release.day),
+        (NEED, release.need),
+        (DUE, release.due),
+    ];
+    match version {
+        Version::V01 | Version::V02 => line(8, &numbers[..4]),
+        Version::V03 => line(12, &numbers),
+    }
 }
 
 fn line(length: usize, numbers: &[(Field, u64)]) -> Vec<u8> {

@@ -112,9 +112,11 @@ pub fn rule(mistake: Mistake) -> Rule {
     }
 }
 
-/// E to whoever reads X as "may be interrupted": a string moves where some string that is due later gives way.
+/// E to whoever reads X as "may be interrupted": a string moves where some string that can be due later gives way. One that comes
+/// late has fewer days left.
 fn held_where_others_give_way(plan: &Plan, string: &BatteryString) -> Length {
-    let gives_way = |other: &BatteryString| other.x == 1 && other.d > string.d;
+    let soonest = string.d - string.late;
+    let gives_way = |other: &BatteryString| other.x == 1 && other.d > soonest;
     if plan.strings.iter().any(gives_way) {
         string.c + string.moving
     } else {

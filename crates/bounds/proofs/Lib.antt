@@ -1,4 +1,5 @@
 pub mod ByPlace
 pub mod LeastMultiple
 pub mod Seen
+pub mod InTime
 pub mod ReleaseWalk

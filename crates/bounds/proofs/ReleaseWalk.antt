@@ -59,7 +59,7 @@ module _ {p : Plan} {rs : List Release} {end : ℕ} where
     walk-high t = admitted-few p latest _ (getD rs i noRelease) (w .ten) (admits-facts p latest _ (getD rs i noRelease) t)
 
     pub walk-next : i < end → admits p latest (rememberedOf last (getD rs i noRelease .place)) (getD rs i noRelease) ≡ true
-        → Walk p rs end (set last (getD rs i noRelease .place - 1) (On (getD rs i noRelease .day))) (getD rs i noRelease .day) (i + 1)
+        → Walk p rs end (set last (getD rs i noRelease .place - 1) (On (getD rs i noRelease .due))) (getD rs i noRelease .day) (i + 1)
     unfolding here
     walk-next inside t =
         record {
@@ -82,16 +82,16 @@ module _ {p : Plan} {rs : List Release} {end : ℕ} where
         high : here .place ≤ 10
         high = walk-high t
 
-        written : getD (set last place (On (here .day))) place Never ≡ On (here .day)
-        written = getD-set-same last place (On (here .day)) Never (omega (arith, w .places, low, high))
+        written : getD (set last place (On (here .due))) place Never ≡ On (here .due)
+        written = getD-set-same last place (On (here .due)) Never (omega (arith, w .places, low, high))
 
-        at : (k : ℕ) → k < 10 → k ≡ place → getD (set last place (On (here .day))) k Never ≡ lastOf (k + 1) (seenTo rs (i + 1))
+        at : (k : ℕ) → k < 10 → k ≡ place → getD (set last place (On (here .due))) k Never ≡ lastOf (k + 1) (seenTo rs (i + 1))
         at k h same =
             let next : k + 1 ≡ here .place = omega (arith, low) in
             rw same (written ∙ sym (ap (λ v. lastOf v (seenTo rs (i + 1))) (ap (λ v. v + 1) (sym same) ∙ next) ∙ lastOf-same rs i))
 
-        away : (k : ℕ) → k < 10 → (k ≡ place → ⊥) → getD (set last place (On (here .day))) k Never ≡ lastOf (k + 1) (seenTo rs (i + 1))
+        away : (k : ℕ) → k < 10 → (k ≡ place → ⊥) → getD (set last place (On (here .due))) k Never ≡ lastOf (k + 1) (seenTo rs (i + 1))
         away k h other =
-            getD-set-other last place k (On (here .day)) Never other
+            getD-set-other last place k (On (here .due)) Never other
             ∙ w .kept k h
             ∙ sym (lastOf-other rs i (k + 1) (λ e. other (omega (arith, low))))

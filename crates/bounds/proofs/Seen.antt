@@ -16,7 +16,7 @@ unfolding outOfOrder latestOf
 order-is r [] = sym (le-ltb (r .day .0) 0 (omega arith))
 order-is r (q ∷ seen) = refl
 
-apart-is : (t : Length) (r : Release) (seen : List Release) → tooClose (t .0) r seen ≡ tooSoon (lastOf (r .place) seen) (r .day) t
+apart-is : (t : Length) (r : Release) (seen : List Release) → tooClose (t .0) r seen ≡ tooSoon (lastOf (r .place) seen) (r .due) t
 unfolding tooClose lastOf tooSoon
 apart-is t r [] = refl
 apart-is t r (q ∷ seen) = by-bool (eqb (q .place) (r .place)) (λ e. rw e) (λ e. rw e (apart-is t r seen))
@@ -34,8 +34,10 @@ pub record Admitted (p : Plan) (latest : Day) (last : Last) (r : Release) : Type
   pub needLow : 1 ≤ r .need .0
   pub needHigh : r .need .0 ≤ stringAt p (r .place) .c .0
   pub inRun : r .day .0 < p .run .0
+  pub notBefore : r .due .0 ≤ r .day .0
+  pub lateMost : r .day .0 ≤ r .due .0 + stringAt p (r .place) .j .0
   pub inOrder : latest .0 ≤ r .day .0
-  pub apart : tooSoon last (r .day) (stringAt p (r .place) .t) ≡ false
+  pub apart : tooSoon last (r .due) (stringAt p (r .place) .t) ≡ false
 
 module _ (p : Plan) (latest : Day) (last : Last) (r : Release) where
   P : Bool
@@ -47,17 +49,23 @@ module _ (p : Plan) (latest : Day) (last : Last) (r : Release) where
   R : Bool
   R = ltb (r .day .0) (p .run .0)
 
+  L : Bool
+  L = inBounds (r .due .0) (r .day .0) (r .due .0 + stringAt p (r .place) .j .0)
+
   O : Bool
   O = not (ltb (r .day .0) (latest .0))
 
   pub admits-facts : admits p latest last r ≡ true → Admitted p latest last r
-  unfolding admits P N R O
+  unfolding admits P N R L O
   admits-facts h =
-      let A = not (tooSoon last (r .day) (stringAt p (r .place) .t)) in
-      let a = and-right (P && N && R && O) A h in
-      let pnro = and-left (P && N && R && O) A h in
-      let o = and-right (P && N && R) O pnro in
-      let pnr = and-left (P && N && R) O pnro in
+      let A = not (tooSoon last (r .due) (stringAt p (r .place) .t)) in
+      let latestDay = r .due .0 + stringAt p (r .place) .j .0 in
+      let a = and-right (P && N && R && L && O) A h in
+      let pnrlo = and-left (P && N && R && L && O) A h in
+      let o = and-right (P && N && R && L) O pnrlo in
+      let pnrl = and-left (P && N && R && L) O pnrlo in
+      let late = and-right (P && N && R) L pnrl in
+      let pnr = and-left (P && N && R) L pnrl in
       let run = and-right (P && N) R pnr in
       let pn = and-left (P && N) R pnr in
       let n = and-right P N pn in
@@ -68,6 +76,8 @@ module _ (p : Plan) (latest : Day) (last : Last) (r : Release) where
         needLow = inBounds-low 1 (r .need .0) (stringAt p (r .place) .c .0) n;
         needHigh = inBounds-high 1 (r .need .0) (stringAt p (r .place) .c .0) n;
         inRun = ltb-true (r .day .0) (p .run .0) run;
+        notBefore = inBounds-low (r .due .0) (r .day .0) latestDay late;
+        lateMost = inBounds-high (r .due .0) (r .day .0) latestDay late;
         inOrder = ltb-false (r .day .0) (latest .0) (not-true _ o);
         apart = not-true _ a;
       }
@@ -76,16 +86,18 @@ module _ (p : Plan) (latest : Day) (last : Last) (r : Release) where
   admits-not out = by-bool (admits p latest last r) (λ t. absurd (out (admits-facts t))) (λ e. e)
 
   -- all tests but the last have passed
-  pub admits-apart : 1 ≤ r .place → r .place ≤ p .n → 1 ≤ r .need .0 → r .need .0 ≤ stringAt p (r .place) .c .0
-      → r .day .0 < p .run .0 → latest .0 ≤ r .day .0 → admits p latest last r ≡ not (tooSoon last (r .day) (stringAt p (r .place) .t))
+  pub admits-late : 1 ≤ r .place → r .place ≤ p .n → 1 ≤ r .need .0 → r .need .0 ≤ stringAt p (r .place) .c .0
+      → r .day .0 < p .run .0 → latest .0 ≤ r .day .0 → tooSoon last (r .due) (stringAt p (r .place) .t) ≡ false
+      → admits p latest last r ≡ inBounds (r .due .0) (r .day .0) (r .due .0 + stringAt p (r .place) .j .0)
   unfolding admits
-  admits-apart a b d e f g =
-      rw (
-        inBounds-yes 1 (r .place) (p .n) a b,
-        inBounds-yes 1 (r .need .0) (stringAt p (r .place) .c .0) d e,
-        lt-ltb (r .day .0) (p .run .0) f,
-        le-ltb (r .day .0) (latest .0) g,
-      )
+  admits-late a b d e f g i =
+      let place = inBounds-yes 1 (r .place) (p .n) a b in
+      let need = inBounds-yes 1 (r .need .0) (stringAt p (r .place) .c .0) d e in
+      let run = lt-ltb (r .day .0) (p .run .0) f in
+      let order = le-ltb (r .day .0) (latest .0) g in
+      by-bool (inBounds (r .due .0) (r .day .0) (r .due .0 + stringAt p (r .place) .j .0))
+      (λ t. rw (place, need, run, t, order, i))
+      (λ no. rw (place, need, run, no))
 
 -- ---- A list walked from its head: what is seen before place i, the latest first
 
@@ -105,7 +117,7 @@ pub latestOf-next : (rs : List Release) (i : ℕ) → latestOf (seenTo rs (i + 1
 unfolding latestOf
 latestOf-next rs i = rw (seenTo-next rs i)
 
-pub lastOf-same : (rs : List Release) (i : ℕ) → lastOf (getD rs i noRelease .place) (seenTo rs (i + 1)) ≡ On (getD rs i noRelease .day)
+pub lastOf-same : (rs : List Release) (i : ℕ) → lastOf (getD rs i noRelease .place) (seenTo rs (i + 1)) ≡ On (getD rs i noRelease .due)
 unfolding lastOf
 lastOf-same rs i = rw (seenTo-next rs i, eq-eqb (getD rs i noRelease .place) (getD rs i noRelease .place) refl)
 

@@ -6,30 +6,41 @@ use rules::Plan;
 use rules::Release;
 use rules::Releases;
 ghost use mathlib.Core.Path.{_≡_};
-ghost use Prim.Native.Nat.{min};
+ghost use Prim.Native.Nat.{_+_, min};
+ghost use Rattle.faults.specs.Checks.{inBounds};
 ghost use Rattle.rules.specs.Release.{releasesOf, firstUnlawful};
 ghost use Rattle.bounds.specs.inner.Seen.{tooSoon, admits, rememberedOf};
 
-// The last release of a place, where there was one.
+// The due day of the last release of a place, where there was one.
 pub(crate) enum Last {
     Never,
     On(Day),
 }
 
-// Whether a release on `day` comes fewer than t days after the last of its place.
-fn too_soon(last: Last, day: Day, t: Length) -> bool
-    ensures exact { λ v. ⌜ v ≡ tooSoon last day t ⌝ }
+// Whether a due day comes fewer than t days after the last of its place.
+fn too_soon(last: Last, due: Day, t: Length) -> bool
+    ensures exact { λ v. ⌜ v ≡ tooSoon last due t ⌝ }
 {
     match last {
         Last::Never => false,
-        Last::On(earlier) => match day.since(earlier) {
+        Last::On(earlier) => match due.since(earlier) {
             Gap::Of(length) => length.shorter(t),
             Gap::Backwards => true,
         },
     }
 }
 
-// Whether r may follow releases of which the latest was on the day `latest`; `last` is the last of r's place.
+// Whether a release on `day` comes 0 to `late` days after its due day.
+fn in_time(day: Day, due: Day, late: Length) -> bool
+    ensures exact { λ v. ⌜ v ≡ inBounds (due .0) (day .0) (due .0 + late .0) ⌝ }
+{
+    match day.since(due) {
+        Gap::Of(length) => !late.shorter(length),
+        Gap::Backwards => false,
+    }
+}
+
+// Whether r may follow releases of which the latest was on the day `latest`; `last` is the last due day of r's place.
 fn admitted(p: Plan, latest: Day, last: Last, r: Release) -> bool
     ensures exact { λ v. ⌜ v ≡ admits p latest last r ⌝ }
 {
@@ -58,7 +69,10 @@ fn admitted(p: Plan, latest: Day, last: Last, r: Release) -> bool
     if r.day.before(latest) {
         return false;
     }
-    !too_soon(last, r.day, s.t)
+    if too_soon(last, r.due, s.t) {
+        return false;
+    }
+    in_time(r.day, r.due, s.j)
 }
 
 fn smaller(a: usize, b: usize) -> usize
@@ -67,7 +81,7 @@ fn smaller(a: usize, b: usize) -> usize
     if a < b { a } else { b }
 }
 
-// What is remembered of the last release of a place; nothing of a place that no plan has.
+// What is remembered of the last due day of a place; nothing of a place that no plan has.
 fn remembered(last: [Last; 10], place: usize) -> Last
     ensures exact { λ r. ⌜ r ≡ rememberedOf last place ⌝ }
 {
@@ -95,11 +109,12 @@ pub fn first_unlawful(p: Plan, rs: Releases) -> usize
         let r = list[i];
         let place = r.place;
         let day = r.day;
+        let due = r.due;
         let before = remembered(last, place);
         if !admitted(p, latest, before, r) {
             return i + 1;
         }
-        last[place - 1] = Last::On(day);
+        last[place - 1] = Last::On(due);
         latest = day;
         i += 1;
     }

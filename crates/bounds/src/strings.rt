@@ -8,7 +8,7 @@ ghost use Prim.Native.Nat.{min};
 ghost use Rattle.rules.specs.Plan.{stringsOf, stringLawful};
 ghost use Rattle.rules.specs.Refusal.{stringsCheck};
 
-// Whether T, D, C, X and the moving cost are within their bounds.
+// Whether T, D, J, C, X and the moving cost are within their bounds.
 pub fn string_lawful(s: BatteryString) -> bool
     ensures exact { λ r. ⌜ r ≡ stringLawful s ⌝ }
 {
@@ -17,6 +17,7 @@ pub fn string_lawful(s: BatteryString) -> bool
     let c = s.c.0;
     let x = s.x;
     let a = s.a.0;
+    let j = s.j.0;
     if t < 1 {
         return false;
     }
@@ -29,10 +30,13 @@ pub fn string_lawful(s: BatteryString) -> bool
     if t < d {
         return false;
     }
+    if d <= j {
+        return false;
+    }
     if c < 1 {
         return false;
     }
-    if d < c {
+    if d - j < c {
         return false;
     }
     if 1 < x {

@@ -9,6 +9,8 @@
 --     inNoYear t               its month and day exist in no year
 --     movedIn ed t y           edition ed moves t to 28 February in year y
 --     inYear ed t y            the date of the test t in year y
+--     sameDate d e             d and e are one date
+--     fallsOn ed t d           the test t falls on the date d
 --     datesIn ed t ys          the dates on which t falls in the years ys
 --     daysIn ed t a e ys       the days on which t falls in the years ys, from day a to day e, both counted
 --     yearlyDays ed t a e      the days on which t falls from day a to day e
@@ -54,6 +56,12 @@ movedIn ed t y = eqb ed 2 && onLeapDay t && not (leapYear y)
 
 unfoldable pub inYear : ℕ → YearlyDate → ℕ → Date
 inYear ed t y = cond (movedIn ed t y) (date y 2 28) (setOn t y)
+
+unfoldable pub sameDate : Date → Date → Bool
+sameDate d e = eqb (d .year) (e .year) && eqb (d .month) (e .month) && eqb (d .day) (e .day)
+
+unfoldable pub fallsOn : ℕ → YearlyDate → Date → Bool
+fallsOn ed t d = sameDate d (inYear ed t (d .year))
 
 unfoldable pub datesIn : ℕ → YearlyDate → List ℕ → List Date
 datesIn ed t ys = keep dateExists (map (inYear ed t) ys)

@@ -17,7 +17,7 @@ ghost use lib.ListN.{length};
 ghost use Rattle.base.specs.Count.{keep, putAt};
 ghost use Rattle.faults.specs.Checks.{inBounds};
 ghost use Rattle.calendar.specs.Numbers.{lastDay};
-ghost use Rattle.calendar.specs.Yearly.{noEdition, inNoYear, movedIn, inYear, daysIn, yearlyDays};
+ghost use Rattle.calendar.specs.Yearly.{noEdition, inNoYear, movedIn, inYear, sameDate, fallsOn, daysIn, yearlyDays};
 ghost use Rattle.calendar.specs.Refusals.{yearlyAnswer, yearlyListed};
 ghost use Rattle.calendar.specs.inner.Places.{fallDays, atFront};
 
@@ -80,6 +80,26 @@ fn date_in(on: YearlyDate, edition: u32, year: u32) -> Date
         month: on.month,
         day: on.day,
     }
+}
+
+// Whether two dates are one.
+fn same_date(d: Date, e: Date) -> bool
+    ensures exact { λ r. ⌜ r ≡ sameDate d e ⌝ }
+{
+    if d.year != e.year {
+        return false;
+    }
+    if d.month != e.month {
+        return false;
+    }
+    d.day == e.day
+}
+
+// Whether a test falls on a date, by its edition.
+pub fn falls_on(on: YearlyDate, edition: u32, d: Date) -> bool
+    ensures exact { λ r. ⌜ r ≡ fallsOn edition on d ⌝ }
+{
+    same_date(d, date_in(on, edition, d.year))
 }
 
 // A day, if it lies between two days.

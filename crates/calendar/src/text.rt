@@ -37,8 +37,9 @@ fn fits_at(c: u8, b: u8) -> bool
 }
 
 // Whether a text has a form.
-fn fits(form: &[u8], text: &[u8]) -> bool
+pub fn fits(form: &[u8], text: &[u8]) -> bool
     ensures exact { λ r. ⌜ r ≡ fitsForm (now (form .entry)) (now (text .entry)) ⌝ }
+    ensures kept { λ r. ⌜ (now (form .exit) ≡ now (form .entry)) × (now (text .exit) ≡ now (text .entry)) ⌝ }
 {
     if form.len() < text.len() {
         return false;

@@ -1,7 +1,7 @@
 -- The quick verdict agrees with the full one apart from its count of pairs: the first pair that is broken is one at which a count grows, so
 -- both find it. Only that each string is lawful is used: the strings may be any number, H and N any numbers.
 use Rattle.base.proofs.Prelude.{ℕ, _≡_, refl, sym, ap, _∙_, true, List, Option, none, some, length}
-use Rattle.rules.specs.{declared.Plan.Plan, declared.Verdict.Verdict, declared.Verdict.the-variants.{Overload, Fail, Pass}, declared.AskedVerdict.the-variants.Given, Plan.{stringsOf, dMin}, Demand.{blockLimit, overloaded}, Verdict.{Pair, allPairs, broken, firstBroken, compared, judged, verdictOf, verdictOver, isPass}, Search.withSet, Refusal.{planCheck, setCheck, onVerdict, verdictAnswer, setAnswer}}
+use Rattle.rules.specs.{declared.Plan.Plan, declared.Verdict.Verdict, declared.Verdict.the-variants.{Overload, Fail, Pass}, declared.AskedVerdict.the-variants.Given, Plan.{stringsOf, leewayMin}, Demand.{blockLimit, overloaded}, Verdict.{Pair, allPairs, broken, firstBroken, compared, judged, verdictOf, verdictOver, isPass}, Search.withSet, Refusal.{planCheck, setCheck, onVerdict, verdictAnswer, setAnswer}}
 use Rattle.faults.specs.declared.Checked.{Checked}
 use Rattle.base.proofs.{Lists.{All, by-bool}, FirstOf.firstOf-keep}
 use Rattle.laws.proofs.{Lawful.{LawfulString, planCheck-lawful}, Answers.set-plan}
@@ -18,7 +18,7 @@ same-break p each = firstOf-keep (broken p) (grows p) (allPairs p) kept
   where
     kept : (q : Pair) → firstBroken p (allPairs p) ≡ some q → grows p q ≡ true
     kept q h =
-        first-grows p each (blockLimit p) (dMin p) (early-no-jobs p) (limit-fits p) (q .l) (q .b)
+        first-grows p each (blockLimit p) (leewayMin p) (early-no-jobs p) (limit-fits p) (q .l) (q .b)
         (firstBroken-names p (q .l) (q .b) h)
 
 -- ---- The same verdict

@@ -1,6 +1,6 @@
--- The blocking limit rises only by its cap: past the smallest D, a longer interval has no longer blocker.
+-- The blocking limit rises only by its cap: past the smallest D − J, a longer interval has no longer blocker.
 use Rattle.base.proofs.Prelude.{ℕ, suc, _≤_, _<_, _≡_, _⊎_, inl, inr, arith, decLe}
-use Rattle.rules.specs.{declared.Plan.Plan, Plan.{stringsOf, dMin, dMax}, Demand.{blockerHold, blockLimit}}
+use Rattle.rules.specs.{declared.Plan.Plan, Plan.{stringsOf, leewayMin, dMax}, Demand.{blockerHold, blockLimit}}
 use Rattle.base.specs.Count.{largest}
 use Rattle.base.proofs.{Lists.largest-mono, Order.all-of}
 use Rattle.laws.proofs.Demand.{blockLimit-late, blockLimit-interval, blockLimit-between, blockerHold-falls}
@@ -16,7 +16,7 @@ module _ (p : Plan) where
       (all-of (λ s. blockerHold p (suc l) s ≤ blockerHold p l s) (blockerHold-falls p l) (stringsOf p))
 
   -- below the largest D the longest blocker decides, and the cap
-  between-falls : (l : ℕ) → dMin p ≤ l → suc l < dMax p → (blockLimit p (suc l) ≤ blockLimit p l) ⊎ (blockLimit p l ≡ l)
+  between-falls : (l : ℕ) → leewayMin p ≤ l → suc l < dMax p → (blockLimit p (suc l) ≤ blockLimit p l) ⊎ (blockLimit p l ≡ l)
   between-falls l low high =
       let here = blockLimit-between p l low (omega arith) in
       let next = blockLimit-between p (suc l) (omega arith) high in
@@ -25,12 +25,12 @@ module _ (p : Plan) where
         | no under ↦ inl (omega (arith, longest-falls l))
       ]
 
-  limit-falls : (l : ℕ) → dMin p ≤ l → (blockLimit p (suc l) ≤ blockLimit p l) ⊎ (blockLimit p l ≡ l)
+  limit-falls : (l : ℕ) → leewayMin p ≤ l → (blockLimit p (suc l) ≤ blockLimit p l) ⊎ (blockLimit p l ≡ l)
   limit-falls l low =
       elim (decLe (dMax p) (suc l)) [
         | yes late ↦ inl (omega (arith, blockLimit-late p (suc l) late))
         | no before ↦ between-falls l low (omega arith)
       ]
 
-  pub limit-fits : Rises (blockLimit p) (dMin p)
+  pub limit-fits : Rises (blockLimit p) (leewayMin p)
   limit-fits = record { capped = blockLimit-interval p; falls = limit-falls }

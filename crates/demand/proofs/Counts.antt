@@ -2,7 +2,7 @@
 -- grows; so where none grows, the demand is that of the interval before.
 --     NoJobs p l            no string of p has a job in l days
 use Rattle.base.proofs.Prelude.{ℕ, suc, _-_, _*_, _≤_, _<_, _≡_, sym, ap, _∙_, false, arith, decLe, ℕ-discrete, le-antisymm, zero-mul, ltb-false, lt-ltb, le-ltb, eq-eqb, ne-eqb, ltb}
-use Rattle.rules.specs.{declared.BatteryString.BatteryString, declared.Plan.Plan, Plan.{stringsOf, dMin}, Demand.{holdOf, jobs, need, demand}}
+use Rattle.rules.specs.{declared.BatteryString.BatteryString, declared.Plan.Plan, Plan.{stringsOf, leeway, leewayMin}, Demand.{holdOf, jobs, need, demand}}
 use Rattle.base.proofs.{Lists.{All, all-map, any-none, sumOf-eq, smallest-le}, Order.{all-both, all-of, sumOf-zero}}
 use Rattle.laws.proofs.{Jobs.{jobs-short, jobs-zero, jobs-mono}, Lawful.LawfulString, Demand.{holdOf-other, need-taker, need-keeper}}
 use Rattle.demand.proofs.Pairs.{pair}
@@ -19,7 +19,7 @@ jobsLeft-window s l b ok =
       | no over ↦
           let short : l < b = omega arith in
           let no-days : l - b ≡ 0 = omega arith in
-          rw (lt-ltb l b short, no-days) (sym (jobs-zero s (ok .dPos)))
+          rw (lt-ltb l b short, no-days) (sym (jobs-zero s (ok .jMax)))
     ]
 
 pub countAt-taker : (s : BatteryString) (l b : ℕ) → LawfulString s → s .x ≡ 1 → countAt s l b ≡ jobs s (l - b)
@@ -72,16 +72,16 @@ demand-all-blocked p l =
 abbrev pub NoJobs : Plan → ℕ → Type 0
 NoJobs p l = All (λ s. jobs s l ≡ 0) (stringsOf p)
 
--- below the smallest D no job fits
-pub early-no-jobs : (p : Plan) (l : ℕ) → l < dMin p → NoJobs p l
-unfolding dMin
+-- below the smallest D − J no job fits
+pub early-no-jobs : (p : Plan) (l : ℕ) → l < leewayMin p → NoJobs p l
+unfolding leewayMin
 early-no-jobs p l h =
-    all-map (λ s. dMin p ≤ s .d .0) (λ s. jobs s l ≡ 0) (λ s low. jobs-short s l (omega arith)) (stringsOf p)
-    (smallest-le (λ s. s .d .0) (stringsOf p))
+    all-map (λ s. leewayMin p ≤ leeway s) (λ s. jobs s l ≡ 0) (λ s low. jobs-short s l (omega arith)) (stringsOf p)
+    (smallest-le leeway (stringsOf p))
 
 module _ (p : Plan) (each : All LawfulString (stringsOf p)) where
   pub start-no-jobs : NoJobs p 0
-  start-no-jobs = all-map LawfulString (λ s. jobs s 0 ≡ 0) (λ s lawful. jobs-zero s (lawful .dPos)) (stringsOf p) each
+  start-no-jobs = all-map LawfulString (λ s. jobs s 0 ≡ 0) (λ s lawful. jobs-zero s (lawful .jMax)) (stringsOf p) each
 
   -- where no job fits, the blocking is all that is asked for
   pub demand-no-jobs : (l b : ℕ) → NoJobs p l → demand p l b ≡ b

@@ -1,4 +1,4 @@
--- What one period H adds to the demand. D ≤ T and T divides H, so a string has H / T jobs in H days exactly, and H more days
+-- What one period H adds to the demand. D − J ≤ T and T divides H, so a string has H / T jobs in H days exactly, and H more days
 -- add at most that many to any count; summed over the strings, H more days add at most the load.
 use Rattle.base.proofs.Prelude.{ℕ, zero, suc, _+_, _-_, _*_, _/_, _%_, _≤_, _<_, _≡_, ap, _∙_, arith, decLe, div-add-mod', div-lt-iff-lt-mul, add-mul, zero-mul, mul-le-mul-right}
 use native.Mathlib.Nat.{mul-comm}
@@ -16,13 +16,13 @@ period-parts s h whole = omega (arith, div-add-mod' h (s .t .0))
 -- H more days add at most H / T jobs, also where none fitted before
 jobs-period-le : (s : BatteryString) (h w : ℕ) → LawfulString s → h % s .t .0 ≡ 0 → jobs s (w + h) ≤ jobs s w + h / s .t .0
 jobs-period-le s h w ok whole =
-    elim (decLe (s .d .0) w) [
+    elim (decLe (s .d .0) (w + s .j .0)) [
       | yes long ↦ omega (arith, jobs-period s h w (ok .tPos) whole long)
       | no short ↦
-          elim (decLe (s .d .0) (w + h)) [
+          elim (decLe (s .d .0) (w + h + s .j .0)) [
             | yes fits ↦
-                let under : w + h - s .d .0 < h / s .t .0 * s .t .0 = omega (arith, period-parts s h whole) in
-                let few : (w + h - s .d .0) / s .t .0 < h / s .t .0 = div-lt-iff-lt-mul (ok .tPos) .1 under in
+                let under : w + h + s .j .0 - s .d .0 < h / s .t .0 * s .t .0 = omega (arith, period-parts s h whole) in
+                let few : (w + h + s .j .0 - s .d .0) / s .t .0 < h / s .t .0 = div-lt-iff-lt-mul (ok .tPos) .1 under in
                 omega (arith, jobs-from s (w + h) fits)
             | no shorter ↦ omega (arith, jobs-short s (w + h) (omega arith))
           ]
@@ -37,7 +37,7 @@ jobs-in-period s h ok pos whole = go (h / s .t .0) (period-parts s h whole) most
     most : jobs s h ≤ h / s .t .0
     most =
         let start : 0 + h ≡ h = omega arith in
-        omega (arith, rw start at from-none, jobs-zero s (ok .dPos))
+        omega (arith, rw start at from-none, jobs-zero s (ok .jMax))
 
     go : (k : ℕ) → k * s .t .0 ≡ h → jobs s h ≤ k → jobs s h ≡ k
     go zero e m = omega arith
@@ -63,7 +63,7 @@ module _ (p : Plan) (ok : LawfulPlan p) where
       let nothing : sumOf (need p 0 0) (stringsOf p) ≡ 0 =
       sumOf-zero (need p 0 0) (stringsOf p)
       (all-map LawfulString (λ s. need p 0 0 s ≡ 0) (λ s lawful.
-      need-unblocked p 0 s (lawful .xMax) ∙ ap (λ k. k * holdOf p s) (jobs-zero s (lawful .dPos)) ∙ zero-mul (holdOf p s))
+      need-unblocked p 0 s (lawful .xMax) ∙ ap (λ k. k * holdOf p s) (jobs-zero s (lawful .jMax)) ∙ zero-mul (holdOf p s))
       (stringsOf p) (ok .each)) in
       omega arith
 

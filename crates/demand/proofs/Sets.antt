@@ -7,7 +7,7 @@ use Rattle.base.proofs.Lists.{All}
 use Rattle.laws.proofs.Lawful.{LawfulString, LawfulPlan, multipleOf-pos, multipleOf-common, multipleOf-least, commonMultiple-whole}
 
 abbrev pub permitted : BatteryString → ℕ → BatteryString
-permitted s x = record { t = s .t; c = s .c; d = s .d; x = x; a = s .a }
+permitted s x = record { t = s .t; c = s .c; d = s .d; x = x; a = s .a; j = s .j }
 
 -- ---- Strings with permissions
 
@@ -63,6 +63,7 @@ module _ (p : Plan) (m : ℕ) where
         tMax = ok .tMax;
         dPos = ok .dPos;
         dMax = ok .dMax;
+        jMax = ok .jMax;
         cPos = ok .cPos;
         cMax = ok .cMax;
         xMax = h;

@@ -2,7 +2,7 @@
 -- only those at which a job count grows are left.
 use Rattle.base.proofs.Prelude.{ℕ, _≡_, refl, List, [], _∷_, map}
 use mathlib.Core.List.{flatMap}
-use Rattle.rules.specs.{declared.Plan.Plan, Plan.{stringLawful, commonMultiple, multipleOf, dMin, dMax}, Demand.{movingCost, holdOf, jobs, blockerHold, blockLimit, need, demand, load, overloaded}, Verdict.{pairsAt, allPairs, broken, compared, judged, verdictOver}, Search.{permit, withSet}, Refusal.{countCheck, runLengthCheck, stringsCheck, multipleCheck, setCheck}, Said.{Said, refused, overload, fail, pass, askedVerdictSays}}
+use Rattle.rules.specs.{declared.Plan.Plan, Plan.{stringLawful, commonMultiple, multipleOf, leewayMin, dMax}, Demand.{movingCost, holdOf, jobs, blockerHold, blockLimit, need, demand, load, overloaded}, Verdict.{pairsAt, allPairs, broken, compared, judged, verdictOver}, Search.{permit, withSet}, Refusal.{countCheck, runLengthCheck, stringsCheck, multipleCheck, setCheck}, Said.{Said, refused, overload, fail, pass, askedVerdictSays}}
 use Rattle.base.specs.Count.{sumOf, largest, smallest, smallestWith, every, any, keep, upFrom, leastFrom, firstOf}
 use Rattle.rules.proofs.Worked.{string, paying, planOf, plan, two, five, nine, ten}
 use Rattle.demand.specs.Quick.{jobsLeft, countAt, grows, quickPairs, quickSetAnswer}
@@ -31,7 +31,7 @@ pub worked : map (λ r. askedVerdictSays (quickSetAnswer (r .plan) (r .set))) ta
 unfolding
     row table string paying planOf plan two five nine ten flatMap
     sumOf largest smallest smallestWith every any keep upFrom leastFrom firstOf
-    stringLawful commonMultiple multipleOf dMin dMax
+    stringLawful commonMultiple multipleOf leewayMin dMax
     movingCost holdOf jobs blockerHold blockLimit need demand load overloaded
     pairsAt allPairs broken compared judged verdictOver
     permit withSet countCheck runLengthCheck stringsCheck multipleCheck setCheck

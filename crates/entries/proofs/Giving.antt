@@ -37,27 +37,27 @@ given-more room z f i list x h e same =
 -- ---- How many strings
 
 module _ (ns : List ℕ) where
-  pub no-fives : (length ns % 5 ≡ 1 → ⊥) → 0 ≡ stringCount ns
+  pub no-sixes : (length ns % 6 ≡ 1 → ⊥) → 0 ≡ stringCount ns
   unfolding stringCount
-  no-fives h = rw (ne-eqb (length ns % 5) 1 h)
+  no-sixes h = rw (ne-eqb (length ns % 6) 1 h)
 
-  module _ (fives : length ns % 5 ≡ 1) where
-    pub too-many : 10 < length ns / 5 → 0 ≡ stringCount ns
+  module _ (sixes : length ns % 6 ≡ 1) where
+    pub too-many : 10 < length ns / 6 → 0 ≡ stringCount ns
     unfolding stringCount
-    too-many h = rw (eq-eqb (length ns % 5) 1 fives, lt-leb (length ns / 5) 10 h)
+    too-many h = rw (eq-eqb (length ns % 6) 1 sixes, lt-leb (length ns / 6) 10 h)
 
-    pub as-many : length ns / 5 ≤ 10 → length ns / 5 ≡ stringCount ns
+    pub as-many : length ns / 6 ≤ 10 → length ns / 6 ≡ stringCount ns
     unfolding stringCount
-    as-many h = rw (eq-eqb (length ns % 5) 1 fives, le-leb (length ns / 5) 10 h)
+    as-many h = rw (eq-eqb (length ns % 6) 1 sixes, le-leb (length ns / 6) 10 h)
 
-  -- ten at most, and each has its five numbers behind N
-  pub strings-fit : (n : ℕ) → n ≡ stringCount ns → (n ≤ 10) × (n * 5 ≤ length ns - 1)
+  -- ten at most, and each has its six numbers behind N
+  pub strings-fit : (n : ℕ) → n ≡ stringCount ns → (n ≤ 10) × (n * 6 ≤ length ns - 1)
   strings-fit n e =
-      elim (ℕ-discrete (length ns % 5) 1) [
-        | yes fives ↦
-            elim (decLe (length ns / 5) 10) [
-              | yes few ↦ (omega (arith, as-many fives few), omega (arith, as-many fives few))
-              | no many ↦ (omega (arith, too-many fives (omega arith)), omega (arith, too-many fives (omega arith)))
+      elim (ℕ-discrete (length ns % 6) 1) [
+        | yes sixes ↦
+            elim (decLe (length ns / 6) 10) [
+              | yes few ↦ (omega (arith, as-many sixes few), omega (arith, as-many sixes few))
+              | no many ↦ (omega (arith, too-many sixes (omega arith)), omega (arith, too-many sixes (omega arith)))
             ]
-        | no other ↦ (omega (arith, no-fives other), omega (arith, no-fives other))
+        | no other ↦ (omega (arith, no-sixes other), omega (arith, no-sixes other))
       ]

@@ -10,7 +10,7 @@ use rules::Releases;
 ghost use mathlib.Core.Path.{_≡_};
 ghost use Prim.Native.Nat.{_+_, _≤_, min};
 ghost use lib.ListN.{length, getD};
-ghost use Rattle.entries.specs.Given.{stringCount, stringFrom, planGiven, releaseCount, releaseFrom, releasesGiven};
+ghost use Rattle.entries.specs.Given.{stringCount, stringFrom, planGiven, releaseCount, needFrom, releaseFrom, releasesGiven};
 
 // The number at a place; 0 where the numbers have ended.
 fn number_at(numbers: &[u32], at: usize) -> u32
@@ -27,19 +27,19 @@ fn string_count(numbers: &[u32]) -> usize
     ensures exact { λ r. ⌜ r ≡ stringCount (now (numbers .entry)) ⌝ }
 {
     let count = numbers.len();
-    if count % 5 != 1 {
+    if count % 6 != 1 {
         return 0;
     }
-    let n = count / 5;
+    let n = count / 6;
     if 10 < n {
         return 0;
     }
     n
 }
 
-// The string whose five numbers start at `at`.
+// The string whose six numbers start at `at`.
 fn string_from(numbers: &[u32], at: usize) -> BatteryString
-    requires { ⌜ at + 5 ≤ length (now numbers) ⌝ }
+    requires { ⌜ at + 6 ≤ length (now numbers) ⌝ }
     ensures exact { λ r. ⌜ r ≡ stringFrom (now (numbers .entry)) at ⌝ }
 {
     let t = Length(numbers[at]);
@@ -47,7 +47,8 @@ fn string_from(numbers: &[u32], at: usize) -> BatteryString
     let d = Length(numbers[at + 2]);
     let x = numbers[at + 3];
     let a = Length(numbers[at + 4]);
-    BatteryString { t, c, d, x, a }
+    let j = Length(numbers[at + 5]);
+    BatteryString { t, c, d, x, a, j }
 }
 
 // The plan that the numbers say.
@@ -59,7 +60,7 @@ pub(crate) fn plan_given(numbers: &[u32]) -> Plan
     let mut strings = [NO_STRING; 10];
     let mut i: usize = 0;
     while i < n {
-        strings[i] = string_from(numbers, 1 + i * 5);
+        strings[i] = string_from(numbers, 1 + i * 6);
         i += 1;
     }
     Plan { n, run, strings }
@@ -70,10 +71,10 @@ fn release_count(numbers: &[u32]) -> usize
     ensures exact { λ r. ⌜ r ≡ releaseCount (now (numbers .entry)) ⌝ }
 {
     let count = numbers.len();
-    if count % 3 == 0 {
-        return count / 3;
+    if count % 4 == 0 {
+        return count / 4;
     }
-    count / 3 + 1
+    count / 4 + 1
 }
 
 // How many of them a list holds.
@@ -86,15 +87,32 @@ fn held(count: usize) -> usize
     count
 }
 
-// The release whose three numbers start at `at`.
+// The need of the release whose four numbers start at `at`: none where one of them is lacking.
+fn need_from(numbers: &[u32], at: usize) -> u32
+    requires { ⌜ at ≤ 4000 ⌝ }
+    ensures exact { λ r. ⌜ r ≡ needFrom (now (numbers .entry)) at ⌝ }
+{
+    if at + 3 < numbers.len() {
+        return numbers[at + 2];
+    }
+    0
+}
+
+// The release whose four numbers start at `at`.
 fn release_from(numbers: &[u32], at: usize) -> Release
-    requires { ⌜ at ≤ 3000 ⌝ }
+    requires { ⌜ at ≤ 4000 ⌝ }
     ensures exact { λ r. ⌜ r ≡ releaseFrom (now (numbers .entry)) at ⌝ }
 {
     let day = Day(number_at(numbers, at));
     let place = number_at(numbers, at + 1) as usize;
-    let need = Length(number_at(numbers, at + 2));
-    Release { day, place, need }
+    let need = Length(need_from(numbers, at));
+    let due = Day(number_at(numbers, at + 3));
+    Release {
+        day,
+        place,
+        need,
+        due,
+    }
 }
 
 // The releases that the numbers say.
@@ -106,7 +124,7 @@ pub(crate) fn releases_given(numbers: &[u32]) -> Releases
     let mut list = [NO_RELEASE; 1000];
     let mut i: usize = 0;
     while i < end {
-        list[i] = release_from(numbers, i * 3);
+        list[i] = release_from(numbers, i * 4);
         i += 1;
     }
     Releases { count, list }

@@ -1,7 +1,7 @@
 -- The verdict and the search do not look at N.
 use Rattle.base.proofs.Prelude.{ℕ, _≡_, refl, ap, _∙_, fun-ext, cond, List, [], _∷_, Option, none, some, length}
 use Rattle.base.specs.Count.{firstOf}
-use Rattle.rules.specs.{declared.Plan.Plan, declared.Verdict.the-variants.Overload, Plan.{multipleOf, dMin, dMax, withRun}, Demand.{movingCost, holdOf, blockerHold, blockLimit, need, demand, load, overloaded}, Verdict.{Pair, pairsAt, allPairs, broken, firstBroken, compared, judged, verdictOver, verdictOf, isPass}, Search.{withSet, setPasses, ordered, assigned, searchOf}}
+use Rattle.rules.specs.{declared.Plan.Plan, declared.Verdict.the-variants.Overload, Plan.{multipleOf, leewayMin, dMax, withRun}, Demand.{movingCost, holdOf, blockerHold, blockLimit, need, demand, load, overloaded}, Verdict.{Pair, pairsAt, allPairs, broken, firstBroken, compared, judged, verdictOver, verdictOf, isPass}, Search.{withSet, setPasses, ordered, assigned, searchOf}}
 
 module _ (p : Plan) (n : ℕ) where
   judged-run : (o : Option Pair) (k : ℕ) → judged (withRun p n) o k ≡ judged p o k
@@ -15,7 +15,8 @@ module _ (p : Plan) (n : ℕ) where
   compared-run (q ∷ qs) = rw (compared-run qs)
 
   pub verdict-run : verdictOf (withRun p n) ≡ verdictOf p
-  unfolding verdictOver overloaded load multipleOf allPairs pairsAt blockLimit dMin dMax blockerHold broken demand need holdOf movingCost
+  unfolding
+      verdictOver overloaded load multipleOf allPairs pairsAt blockLimit leewayMin dMax blockerHold broken demand need holdOf movingCost
   verdict-run =
       let qs = allPairs p in
       ap (λ v. cond (overloaded p) Overload v)

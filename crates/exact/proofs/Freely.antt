@@ -1,8 +1,8 @@
 -- The plan with free moving. Its demand: the blocking, and of each string C for every job in the days that are its own. A lawful plan stays
 -- lawful; and where moving is free already, the rule is the plan's own.
-use Rattle.base.proofs.Prelude.{ℕ, _+_, _-_, _*_, _≤_, min, _≡_, refl, ap, _∙_, sym, fun-ext, map, List, [], _∷_, cond, _&&_, arith, ℕ-discrete, zero-mul, eq-eqb, ne-eqb, leb, ltb}
+use Rattle.base.proofs.Prelude.{ℕ, zero, suc, _+_, _-_, _*_, _≤_, min, _≡_, refl, ap, _∙_, sym, fun-ext, map, List, [], _∷_, cond, _&&_, arith, ℕ-discrete, zero-mul, eq-eqb, ne-eqb, leb, ltb, length, getD, length-map}
 use Rattle.days.specs.Days.{days}
-use Rattle.rules.specs.{declared.BatteryString.BatteryString, declared.Plan.Plan, Plan.{stringsOf, commonMultiple, multipleOf, dMin, dMax}, Demand.{movingCost, holdOf, jobs, need, demand, blockerHold, blockLimit, Passes}}
+use Rattle.rules.specs.{declared.BatteryString.BatteryString, declared.Plan.Plan, Plan.{stringsOf, stringAt, noString, leeway, commonMultiple, multipleOf, leewayMin, dMax}, Demand.{movingCost, holdOf, jobs, need, demand, blockerHold, blockLimit, Passes}}
 use Rattle.base.specs.Count.{sumOf, largest, smallest, every, leastFrom}
 use Rattle.base.proofs.{Lists.{sumOf-eq, All, all-map}, Order.{all-of, take-map, all-mapped}, Adding.sumOf-mapped}
 use Rattle.laws.proofs.{Demand.{need-taker, need-keeper}, Lawful.{LawfulString, LawfulPlan, multipleOf-pos, multipleOf-common, multipleOf-least, commonMultiple-whole}}
@@ -27,6 +27,18 @@ delayOf-le b s =
 pub freely-strings : (p : Plan) → stringsOf (freely p) ≡ map movedFreely (stringsOf p)
 freely-strings p = take-map movedFreely (p .n) (p .strings)
 
+pub freely-many : (p : Plan) → length (stringsOf (freely p)) ≡ length (stringsOf p)
+freely-many p = ap length (freely-strings p) ∙ length-map (stringsOf p) movedFreely
+
+-- by place
+pub freely-string : (p : Plan) (i : ℕ) → stringAt (freely p) i ≡ movedFreely (stringAt p i)
+freely-string p i = ap (λ ss. getD ss (i - 1) noString) (freely-strings p) ∙ mapped (stringsOf p) (i - 1)
+  where
+    mapped : (ss : List BatteryString) (k : ℕ) → getD (map movedFreely ss) k noString ≡ movedFreely (getD ss k noString)
+    mapped [] k = refl
+    mapped (s ∷ ss) zero = refl
+    mapped (s ∷ ss) (suc k) = mapped ss k
+
 pub freely-hold : (q : Plan) (s : BatteryString) → holdOf q (movedFreely s) ≡ s .c .0
 unfolding holdOf movingCost
 freely-hold q s = omega (arith, zero-mul (s .x))
@@ -39,7 +51,7 @@ freely-jobs s w = refl
 abbrev pub asksOf : ℕ → ℕ → BatteryString → ℕ
 asksOf l b s = jobs s (l - delayOf b s) * s .c .0
 
-freely-need : (q : Plan) (l b : ℕ) (s : BatteryString) → need q l b (movedFreely s) ≡ asksOf l b s
+pub freely-need : (q : Plan) (l b : ℕ) (s : BatteryString) → need q l b (movedFreely s) ≡ asksOf l b s
 freely-need q l b s =
     elim (ℕ-discrete (s .x) 1) [
       | yes e ↦
@@ -85,6 +97,7 @@ module _ (p : Plan) where
         tMax = ok .tMax;
         dPos = ok .dPos;
         dMax = ok .dMax;
+        jMax = ok .jMax;
         cPos = ok .cPos;
         cMax = ok .cMax;
         xMax = ok .xMax;
@@ -116,11 +129,11 @@ free-strings : (q : Plan) (ss : List BatteryString) → All (λ s. movingCost q 
 unfolding movingCost
 free-strings q [] h = refl
 free-strings q (s ∷ ss) h =
-    let head : movedFreely s ≡ s = ap (λ a. record { t = s .t; c = s .c; d = s .d; x = s .x; a = days a }) (sym (h .0)) in
+    let head : movedFreely s ≡ s = ap (λ a. record { t = s .t; c = s .c; d = s .d; x = s .x; a = days a; j = s .j }) (sym (h .0)) in
     rw (head, free-strings q ss (h .1))
 
 module _ (p : Plan) (free : FreeMoving p) where
-  free-same : stringsOf (freely p) ≡ stringsOf p
+  pub free-same : stringsOf (freely p) ≡ stringsOf p
   free-same = freely-strings p ∙ free-strings p (stringsOf p) free
 
   pub free-demand : (l b : ℕ) → demand (freely p) l b ≡ demand p l b
@@ -128,10 +141,10 @@ module _ (p : Plan) (free : FreeMoving p) where
   free-demand l b = ap (λ ss. b + sumOf (need p l b) ss) free-same
 
   pub free-limit : (l : ℕ) → blockLimit (freely p) l ≡ blockLimit p l
-  unfolding blockLimit dMin dMax blockerHold holdOf movingCost
+  unfolding blockLimit leewayMin dMax blockerHold holdOf movingCost
   free-limit l =
       ap
-      (λ ss. cond (leb (smallest (λ s. s .d .0) ss) l && ltb l (largest (λ s. s .d .0) ss)) (min l (largest (blockerHold p l) ss)) 0)
+      (λ ss. cond (leb (smallest leeway ss) l && ltb l (largest (λ s. s .d .0) ss)) (min l (largest (blockerHold p l) ss)) 0)
       free-same
 
   pub free-passes : Passes (freely p) → Passes p

@@ -1,5 +1,5 @@
--- The job that blocks: released alone on day 0 with need b + 1, and nobody who may take the bank comes up to day b. It has the bank on
--- the days 0 to b.
+-- The job that blocks: released alone on the first day of all, z, with need b + 1, and nobody who may take the bank comes up to day z + b.
+-- It has the bank on the days z to z + b.
 use Rattle.base.proofs.Prelude.{ℕ, zero, suc, _+_, _-_, _≤_, _<_, _≡_, refl, sym, ap, _∙_, subst, inl, inr, _≢_, true, List, arith, decLe, ℕ-discrete, le-refl, ne-eqb, length, getD}
 use Rattle.days.specs.Days.{days}
 use Rattle.rules.specs.{declared.Plan.Plan, declared.Release.Release, declared.Slot.Slot, declared.Job.Job, declared.Job.the-variants.{Empty, OnBank}, declared.Use.Use, declared.Use.the-variants.Work, Plan.{stringsOf, stringAt}, Release.{noRelease, firstUnlawful}, Run.{onBank, waits, seated, spentJob, newSlot, joined, taken, given, spent, useOf, morning, stateAt, useOn, lateAt, lateOn, history}}
@@ -7,7 +7,7 @@ use Rattle.base.specs.Count.{countOf}
 use Rattle.base.proofs.Lists.{true-not-false}
 use Rattle.laws.proofs.{Lawful.LawfulPlan, History.history-next, Slots.{at, newSlot-job, newSlot-serves, newSlot-string}, ReleaseList.release-lawful}
 use Rattle.sound.specs.Served.{worksFor, payerIn}
-use Rattle.sound.proofs.{Parts.countedIf, Joining.joined-length, Taking.{Taking, bankFree, bankKept, bankTaken, Taker, taken-taking}, Using.{Using, idleDay, keptDay, givenDay, Used, spent-using}, Orderly.{Orderly, Sits, live-if-waits, empty-not-on, empty-not-waits}, Arriving.{Arrival, arrived, stayed, arrival, joined-on, joined-orderly}, Clean.{Punctual, orderly-at}}
+use Rattle.sound.proofs.{Parts.countedIf, Joining.joined-length, Taking.{Taking, bankFree, bankKept, bankTaken, Taker, taken-taking}, Using.{Using, idleDay, keptDay, givenDay, Used, spent-using}, Orderly.{Orderly, Sits, live-if-waits, empty-not-on, empty-not-waits}, Arriving.{Arrival, arrived, stayed, arrival, joined-on, joined-orderly}, Clean.{Punctual, orderly-at}, Served.untouched}
 
 -- ---- A day for the one that blocks
 
@@ -37,18 +37,18 @@ day-worked ks es u j n k serves job =
 
 -- ---- A list that begins with the one that blocks
 
--- the first release is of the place with index j; the others come later, are of other places, and those that may take the bank come
--- after day b
-pub record Led (p : Plan) (rs : List Release) (j b : ℕ) : Type 0 where
+-- the first release is of the place with index j and of day z; the others come later, are of other places, and those that may take the
+-- bank come after day z + b
+pub record Led (p : Plan) (rs : List Release) (j z b : ℕ) : Type 0 where
   pub there : 0 < length rs
   pub place-is : getD rs 0 noRelease .place ≡ suc j
-  pub day-is : getD rs 0 noRelease .day .0 ≡ 0
+  pub day-is : getD rs 0 noRelease .day .0 ≡ z
   pub need-is : getD rs 0 noRelease .need ≡ days (suc b)
-  pub later : (m : ℕ) → 1 ≤ m → m < length rs → 1 ≤ getD rs m noRelease .day .0
+  pub later : (m : ℕ) → 1 ≤ m → m < length rs → z < getD rs m noRelease .day .0
   pub once : (m : ℕ) → 1 ≤ m → m < length rs → getD rs m noRelease .place ≢ suc j
-  pub quiet : (m : ℕ) → 1 ≤ m → m < length rs → stringAt p (getD rs m noRelease .place) .x ≡ 1 → b < getD rs m noRelease .day .0
+  pub quiet : (m : ℕ) → 1 ≤ m → m < length rs → stringAt p (getD rs m noRelease .place) .x ≡ 1 → z + b < getD rs m noRelease .day .0
 
-module _ (p : Plan) (rs : List Release) (lawful : LawfulPlan p) (listed : firstUnlawful p rs ≡ 0) (j b : ℕ) (led : Led p rs j b) where
+module _ (p : Plan) (rs : List Release) (lawful : LawfulPlan p) (listed : firstUnlawful p rs ≡ 0) (j z b : ℕ) (led : Led p rs j z b) where
   place-in : j < length (stringsOf p)
   place-in = omega (arith, release-lawful p rs listed 0 (led .there) .within, led .place-is)
 
@@ -56,9 +56,14 @@ module _ (p : Plan) (rs : List Release) (lawful : LawfulPlan p) (listed : firstU
   own-first : (m : ℕ) → m < length rs → getD rs m noRelease .place ≡ suc j → m ≡ 0
   own-first m h there = elim (decLe 1 m) [ yes other ↦ absurd (led .once m other h there) | no first ↦ omega arith ]
 
-  -- so is a release of day 0
-  day-first-only : (m : ℕ) → m < length rs → getD rs m noRelease .day .0 ≡ 0 → m ≡ 0
+  -- so is a release of day z
+  day-first-only : (m : ℕ) → m < length rs → getD rs m noRelease .day .0 ≡ z → m ≡ 0
   day-first-only m h today = elim (decLe 1 m) [ yes other ↦ absurd (omega (arith, led .later m other h)) | no first ↦ omega arith ]
+
+  -- and none is of an earlier day
+  from-first : (m : ℕ) → m < length rs → z ≤ getD rs m noRelease .day .0
+  from-first zero h = omega (arith, led .day-is)
+  from-first (suc m) h = omega (arith, led .later (suc m) (omega arith) h)
 
   module _ (t : ℕ) (ss : List Slot) (o : Orderly p rs t ss) (punctual : lateAt t ss ≡ 0) where
     abbrev js : List Slot
@@ -70,15 +75,17 @@ module _ (p : Plan) (rs : List Release) (lawful : LawfulPlan p) (listed : firstU
     joined-of-place : (i : ℕ) → i < length (stringsOf p) → i < length js
     joined-of-place i h = omega (arith, joined-length p rs t ss, o .size)
 
-    -- ---- Day 0
+    -- ---- Day z
 
-    module _ (start : t ≡ 0) where
+    module _ (start : t ≡ z) where
       start-empty : (i : ℕ) → i < length (stringsOf p) → at ss i .job ≡ Empty
       start-empty i h = go (o .sits i h)
         where
           go : Sits p rs t i (at ss i) → at ss i .job ≡ Empty
           go (inl e) = e
-          go (inr l) = absurd (omega (arith, l .before))
+          go (inr l) =
+              let when = l .released in
+              absurd (omega (arith, l .before, from-first (when .0) (when .1), when .3))
 
       start-own : at js j ≡ newSlot p (getD rs 0 noRelease) 1
       start-own = go (arrival p rs lawful listed t ss o punctual j place-in)
@@ -132,13 +139,13 @@ module _ (p : Plan) (rs : List Release) (lawful : LawfulPlan p) (listed : firstU
 
     -- ---- The days after
 
-    module _ (n : ℕ) (from : 1 ≤ t) (until : t ≤ b) (serves : at ss j .serves ≡ 1) (job : at ss j .job ≡ works-on (suc n)) where
+    module _ (n : ℕ) (from : z < t) (until : t ≤ z + b) (serves : at ss j .serves ≡ 1) (job : at ss j .job ≡ works-on (suc n)) where
       still-own : at js j ≡ at ss j
       still-own = go (arrival p rs lawful listed t ss o punctual j place-in)
         where
           go : Arrival p rs t j (at ss j) (at js j) → at js j ≡ at ss j
           go (arrived m h there day empty is) =
-              let first : getD rs m noRelease .day .0 ≡ 0 = ap (λ i. getD rs i noRelease .day .0) (own-first m h there) ∙ led .day-is in
+              let first : getD rs m noRelease .day .0 ≡ z = ap (λ i. getD rs i noRelease .day .0) (own-first m h there) ∙ led .day-is in
               absurd (omega arith)
           go (stayed none is) = is
 
@@ -158,7 +165,7 @@ module _ (p : Plan) (rs : List Release) (lawful : LawfulPlan p) (listed : firstU
                 | yes other ↦ omega (arith, led .quiet m other c may)
                 | no first ↦
                     let zero-th : m ≡ 0 = omega arith in
-                    let start : r .day .0 ≡ 0 = ap (λ i. getD rs i noRelease .day .0) zero-th ∙ led .day-is in
+                    let start : r .day .0 ≡ z = ap (λ i. getD rs i noRelease .day .0) zero-th ∙ led .day-is in
                     omega arith
               ]
           go (stayed none is) =
@@ -189,41 +196,52 @@ module _ (p : Plan) (rs : List Release) (lawful : LawfulPlan p) (listed : firstU
           (sym (still-kept (taken p t js) (payerIn t js) (taken-taking p t js)))
           (still-used (spent (given js)) (useOf (given js)) (spent-using js))
 
-  -- ---- The days 0 to b
+  -- ---- The days z to z + b
 
-  day-zero : Punctual p rs 1 → Worked j b (stateAt p rs 1) (useOn p rs 0)
+  day-zero : Punctual p rs (suc z) → Worked j b (stateAt p rs (suc z)) (useOn p rs z)
   unfolding stateAt morning useOn lateOn
   day-zero so-far =
-      start-day 0 (stateAt p rs 0) (orderly-at p rs lawful listed 0 (λ i h. so-far i (omega arith))) (so-far 0 (omega arith)) refl
+      start-day z (stateAt p rs z) (orderly-at p rs lawful listed z (λ i h. so-far i (omega arith))) (so-far z (omega arith)) refl
 
-  day-next : (t n : ℕ) → 1 ≤ t → t ≤ b → Punctual p rs (suc t) → at (stateAt p rs t) j .serves ≡ 1
+  day-next : (t n : ℕ) → z < t → t ≤ z + b → Punctual p rs (suc t) → at (stateAt p rs t) j .serves ≡ 1
       → at (stateAt p rs t) j .job ≡ works-on (suc n) → Worked j n (stateAt p rs (suc t)) (useOn p rs t)
   unfolding stateAt morning useOn lateOn
   day-next t n from until so-far serves job =
       still-day t (stateAt p rs t) (orderly-at p rs lawful listed t (λ i h. so-far i (omega arith))) (so-far t (omega arith))
       n from until serves job
 
-  holds-bank : (t : ℕ) → t ≤ b → Punctual p rs (suc t) → Worked j (b - t) (stateAt p rs (suc t)) (useOn p rs t)
+  holds-bank : (t : ℕ) → t ≤ b → Punctual p rs (suc (z + t)) → Worked j (b - t) (stateAt p rs (suc (z + t))) (useOn p rs (z + t))
   holds-bank zero h so-far =
       let all : b - 0 ≡ b = omega arith in
-      rw all (day-zero so-far)
+      let now : z + 0 ≡ z = omega arith in
+      rw (all, now) (day-zero (λ i k. so-far i (omega arith)))
   holds-bank (suc t) h so-far =
       let before = holds-bank t (omega arith) (λ i k. so-far i (omega arith)) in
       let more : b - t ≡ suc (b - suc t) = omega arith in
-      day-next (suc t) (b - suc t) (omega arith) h so-far (before .serves-is)
-      (before .job-is (omega arith) ∙ ap works-on more)
+      let next : z + suc t ≡ suc (z + t) = omega arith in
+      rw next
+      (day-next (suc (z + t)) (b - suc t) (omega arith) (omega arith) (λ i k. so-far i (omega arith)) (before .serves-is)
+      (before .job-is (omega arith) ∙ ap works-on more))
 
   -- the days on which the bank worked for it
   abbrev worked : ℕ → ℕ
   worked t = countOf (worksFor 1) (history p rs t)
 
-  worked-all : (t : ℕ) → t ≤ suc b → Punctual p rs t → worked t ≡ t
-  worked-all zero h so-far = unfold history countOf in refl
+  -- none before its release
+  worked-none : Punctual p rs z → worked z ≡ 0
+  worked-none so-far =
+      untouched p rs lawful listed 1 z (omega arith) (led .there) so-far (omega (arith, led .day-is)) .work
+
+  worked-all : (t : ℕ) → t ≤ suc b → Punctual p rs (z + t) → worked (z + t) ≡ t
+  worked-all zero h so-far =
+      let now : z + 0 ≡ z = omega arith in
+      rw now (worked-none (λ i k. so-far i (omega arith)))
   worked-all (suc t) h so-far =
+      let next : z + suc t ≡ suc (z + t) = omega arith in
       let before = worked-all t (omega arith) (λ i k. so-far i (omega arith)) in
-      let uses = holds-bank t (omega arith) so-far .use-is in
-      let today : countedIf (worksFor 1 (useOn p rs t)) ≡ 1 = ap (λ u. countedIf (worksFor 1 u)) uses in
-      omega (arith, history-next p rs t (worksFor 1))
+      let uses = holds-bank t (omega arith) (λ i k. so-far i (omega arith)) .use-is in
+      let today : countedIf (worksFor 1 (useOn p rs (z + t))) ≡ 1 = ap (λ u. countedIf (worksFor 1 u)) uses in
+      rw next (omega (arith, history-next p rs (z + t) (worksFor 1)))
 
   worked-grows : (t k : ℕ) → worked t ≤ worked (t + k)
   worked-grows t zero =
@@ -234,9 +252,9 @@ module _ (p : Plan) (rs : List Release) (lawful : LawfulPlan p) (listed : firstU
       let next : t + suc k ≡ suc (t + k) = omega arith in
       rw next (omega (arith, history-next p rs (t + k) (worksFor 1)))
 
-  -- by any day after b it has had its need
-  pub blocker-worked : (e : ℕ) → suc b ≤ e → Punctual p rs (suc b) → suc b ≤ worked e
+  -- by any day after z + b it has had its need
+  pub blocker-worked : (e : ℕ) → z + suc b ≤ e → Punctual p rs (z + suc b) → suc b ≤ worked e
   blocker-worked e h so-far =
-      let split : e ≡ suc b + (e - suc b) = omega arith in
-      let most : worked e ≡ worked (suc b + (e - suc b)) = ap worked split in
-      omega (arith, worked-all (suc b) (le-refl (suc b)) so-far, worked-grows (suc b) (e - suc b))
+      let split : e ≡ z + suc b + (e - (z + suc b)) = omega arith in
+      let most : worked e ≡ worked (z + suc b + (e - (z + suc b))) = ap worked split in
+      omega (arith, worked-all (suc b) (le-refl (suc b)) so-far, worked-grows (z + suc b) (e - (z + suc b)))

@@ -2,12 +2,12 @@
 pub mod Coming
 pub mod Freely
 pub mod Asking
-pub mod Blocker
 pub mod Listed
 pub mod Sharing
 pub mod Holding
 pub mod Misses
 pub mod Exact
+pub mod NoLateDays
 pub mod Longer
 pub mod AnyRun
 pub mod Worked

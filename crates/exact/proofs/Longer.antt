@@ -1,9 +1,9 @@
 -- A run made longer: what happens on a day does not depend on N, so a list that misses in a run misses in every longer one, on the same day
 -- and at the same place.
-use Rattle.base.proofs.Prelude.{ℕ, zero, suc, _≤_, _≡_, refl, sym, ap, _∙_, true, not, _&&_, List, [], _∷_, arith, leb-true, ltb-true, lt-ltb, leb, ltb}
+use Rattle.base.proofs.Prelude.{ℕ, zero, suc, _+_, _≤_, _≡_, refl, sym, ap, _∙_, true, not, _&&_, List, [], _∷_, arith, leb-true, ltb-true, lt-ltb, leb, ltb}
 use Rattle.days.specs.{Days.day, declared.Day.Day}
 use Rattle.faults.specs.Checks.{inBounds}
-use Rattle.rules.specs.{declared.Plan.Plan, declared.Release.Release, declared.Slot.Slot, declared.Outcome.the-variants.Miss, Plan.{stringAt, withRun}, Demand.movingCost, Release.{tooClose, outOfOrder, releaseLawful, unlawfulFrom, firstUnlawful}, Run.{newSlot, joinFrom, joined, taken, morning, stateAt, lateOn, missDay, runOf}}
+use Rattle.rules.specs.{declared.Plan.Plan, declared.Release.Release, declared.Slot.Slot, declared.Outcome.the-variants.Miss, Plan.{stringAt, withRun}, Demand.movingCost, Release.{dueDay, tooClose, outOfOrder, releaseLawful, unlawfulFrom, firstUnlawful}, Run.{newSlot, joinFrom, joined, taken, morning, stateAt, lateOn, missDay, runOf}}
 use Rattle.base.proofs.{Lists.{by-bool, and-left, and-right}, Least.leastFrom-passes}
 use Rattle.laws.proofs.History.{missDay-before, missDay-is, runOf-miss}
 use Rattle.exact.specs.Missing.{MissesBy}
@@ -69,9 +69,11 @@ module _ (p : Plan) (rs : List Release) (n m : ℕ) (more : n ≤ m) where
       let P = inBounds 1 (r .place) (p .n) in
       let N = inBounds 1 (r .need .0) (stringAt p (r .place) .c .0) in
       let D = ltb (r .day .0) n in
+      let L = inBounds (dueDay r) (r .day .0) (dueDay r + stringAt p (r .place) .j .0) in
       let O = not (outOfOrder r seen) in
       let A = not (tooClose (stringAt p (r .place) .t .0) r seen) in
-      let early : ltb (r .day .0) n ≡ true = and-right (P && N) D (and-left (P && N && D) O (and-left (P && N && D && O) A h)) in
+      let early : ltb (r .day .0) n ≡ true =
+      and-right (P && N) D (and-left (P && N && D) L (and-left (P && N && D && L) O (and-left (P && N && D && L && O) A h))) in
       let still : ltb (r .day .0) m ≡ true = lt-ltb (r .day .0) m (omega (arith, ltb-true (r .day .0) n early)) in
       rw still (rw early at h)
 

@@ -1,46 +1,51 @@
 -- The list misses: its jobs need more days by the interval's end than there are. No word of the policy is used beyond this, that nobody
 -- takes the bank from the job that blocks.
-use Rattle.base.proofs.Prelude.{ℕ, zero, suc, _-_, _≤_, _<_, _≡_, refl, sym, ap, _∙_, _≢_, List, _∷_, arith, decLe, ℕ-discrete, le-of-suc-le-suc, add-one, length, getD}
+use Rattle.base.proofs.Prelude.{ℕ, zero, suc, _+_, _-_, _≤_, _<_, _≡_, refl, sym, ap, _∙_, _≢_, List, _∷_, arith, decLe, ℕ-discrete, le-of-suc-le-suc, add-one, length, getD}
 use Rattle.days.specs.Days.{day, days}
-use Rattle.rules.specs.{declared.Plan.Plan, declared.Release.Release, Plan.stringAt, Demand.{blockLimit, demand}, Release.noRelease, Run.{history, lateOn, missDay}}
+use Rattle.rules.specs.{declared.Plan.Plan, declared.Release.Release, Plan.stringAt, Release.{noRelease, firstUnlawful}, Run.{history, lateOn, missDay}}
 use Rattle.base.specs.Count.{countOf}
 use Rattle.base.proofs.Lists.{all-at}
-use Rattle.laws.proofs.{Lawful.LawfulPlan, Demand.blockLimit-interval, History.{missDay-before, runOf-miss}}
-use Rattle.sound.specs.Served.{worksFor}
-use Rattle.sound.proofs.{Clean.Punctual, Served.served-punctual}
-use Rattle.exact.specs.Missing.{freely, intervalEnd, blockerPlace, blockRelease, missing, MissesBy, othersIn}
-use Rattle.exact.proofs.{Freely.delayOf-taker, Asking.{others, list-needs}, Blocker.{Blocks, blocker-low, blocker-blocks}, Listed.{ComesLater, others-all, blockerRelease-none, blockerRelease-one, list-lawful}, Sharing.needs-fit, Holding.{Led, blocker-worked}}
+use Rattle.laws.specs.Lawful.{LawfulPlan}
+use Rattle.laws.proofs.History.{missDay-before, runOf-miss}
+use Rattle.sound.specs.{Served.worksFor, Sharp.demandBut}
+use Rattle.sound.proofs.{Clean.Punctual, Served.{served-punctual, untouched}}
+use Rattle.exact.specs.Missing.{freely, mostLate, leadOf, intervalStart, intervalEnd, blockRelease, blockerRelease, missing, MissesBy}
+use Rattle.exact.proofs.{Freely.delayOf-taker, Asking.list-needs, Listed.{Blocks, ComesBehind, others, behind-other, others-all, blockerRelease-none, blockerRelease-one, list-lawful}, Sharing.needs-fit-from, Holding.{Led, blocker-worked}}
 
-module _ (p : Plan) (l b : ℕ) where
-  other-at : (i : ℕ) → i < length (others p l b) → ComesLater p l b (getD (others p l b) i noRelease)
-  other-at i h = all-at (ComesLater p l b) (others p l b) noRelease (others-all p l b) i h
+module _ (p : Plan) (l b q : ℕ) where
+  other-at : (i : ℕ) → i < length (others p l b q) → ComesBehind p l b q (getD (others p l b q) i noRelease)
+  other-at i h = all-at (ComesBehind p l b q) (others p l b q) noRelease (others-all p (blockerRelease p b q) (intervalStart p b) b l) i h
 
-  list-free : b ≡ 0 → missing p l b ≡ others p l b
-  unfolding missing othersIn
-  list-free e = rw (blockerRelease-none p l b e)
+  list-free : b ≡ 0 → missing p l b q ≡ others p l b q
+  unfolding missing
+  list-free e = rw (blockerRelease-none p b q e)
 
-  list-blocked : (b ≡ 0 → ⊥) → missing p l b ≡ blockRelease p l b ∷ others p l b
-  unfolding missing othersIn
-  list-blocked e = rw (blockerRelease-one p l b e)
+  list-blocked : (b ≡ 0 → ⊥) → missing p l b q ≡ blockRelease p b q ∷ others p l b q
+  unfolding missing
+  list-blocked e = rw (blockerRelease-one p b q e)
 
-module _ (p : Plan) (l b : ℕ) (ok : LawfulPlan p) (allowed : b ≤ blockLimit (freely p) l) (room : intervalEnd l b ≤ p .run .0) where
+module _ (p : Plan) (l b q : ℕ) (ok : LawfulPlan p) (blocks : 1 ≤ b → Blocks p b q) (nobody : b ≡ 0 → q ≡ 0) (pos : 1 ≤ l) (fits : b ≤ l)
+    (room : intervalEnd p l b ≤ p .run .0) where
   abbrev list : List Release
-  list = missing p l b
+  list = missing p l b q
 
-  fits : b ≤ l
-  fits = omega (arith, blockLimit-interval (freely p) l)
+  listed : firstUnlawful p list ≡ 0
+  listed = list-lawful p l b q ok blocks pos room
 
   -- ---- The list begins with the one that blocks
 
   module _ (some : b ≢ 0) where
     -- the index of its place
     abbrev index : ℕ
-    index = blockerPlace p l b - 1
+    index = q - 1
 
-    index-place : suc index ≡ blockerPlace p l b
-    index-place = omega (arith, blocker-low p l b (omega arith) allowed)
+    index-place : suc index ≡ q
+    index-place = omega (arith, blocks (omega arith) .low)
 
-    led-by : Led p (blockRelease p l b ∷ others p l b) index b
+    abbrev whole : List Release
+    whole = blockRelease p b q ∷ others p l b q
+
+    led-by : Led p whole index (mostLate p) b
     led-by =
         record {
           there = omega arith;
@@ -52,88 +57,101 @@ module _ (p : Plan) (l b : ℕ) (ok : LawfulPlan p) (allowed : b ≤ blockLimit 
           quiet = quiet-by;
         }
       where
-        later-by : (m : ℕ) → 1 ≤ m → m < length (blockRelease p l b ∷ others p l b)
-            → 1 ≤ getD (blockRelease p l b ∷ others p l b) m noRelease .day .0
+        later-by : (m : ℕ) → 1 ≤ m → m < length whole → mostLate p < getD whole m noRelease .day .0
         later-by zero low high = absurd (omega arith)
         later-by (suc i) low high =
-            let o = other-at p l b i (le-of-suc-le-suc high) in
+            let o = other-at p l b q i (le-of-suc-le-suc high) in
             omega (arith, o .when .from)
 
-        once-by : (m : ℕ) → 1 ≤ m → m < length (blockRelease p l b ∷ others p l b)
-            → getD (blockRelease p l b ∷ others p l b) m noRelease .place ≢ suc index
+        once-by : (m : ℕ) → 1 ≤ m → m < length whole → getD whole m noRelease .place ≢ suc index
         once-by zero low high same = absurd (omega arith)
         once-by (suc i) low high same =
-            let o = other-at p l b i (le-of-suc-le-suc high) in
-            let r = getD (others p l b) i noRelease in
-            let place : r .place ≡ blockerPlace p l b = same ∙ index-place in
-            let blocks : Blocks l b (stringAt p (r .place)) = rw (sym place) at (blocker-blocks p l b (omega arith) allowed) in
-            omega (arith, blocks .far, o .when .from, o .when .due)
+            behind-other p l b q (omega arith) _ (other-at p l b q i (le-of-suc-le-suc high)) (same ∙ index-place)
 
-        quiet-by : (m : ℕ) → 1 ≤ m → m < length (blockRelease p l b ∷ others p l b)
-            → stringAt p (getD (blockRelease p l b ∷ others p l b) m noRelease .place) .x ≡ 1
-            → b < getD (blockRelease p l b ∷ others p l b) m noRelease .day .0
+        quiet-by : (m : ℕ) → 1 ≤ m → m < length whole → stringAt p (getD whole m noRelease .place) .x ≡ 1
+            → mostLate p + b < getD whole m noRelease .day .0
         quiet-by zero low high may = absurd (omega arith)
         quiet-by (suc i) low high may =
-            let o = other-at p l b i (le-of-suc-le-suc high) in
-            omega (arith, o .when .from, delayOf-taker b (stringAt p (getD (others p l b) i noRelease .place)) may)
+            let o = other-at p l b q i (le-of-suc-le-suc high) in
+            omega (arith, o .when .from, delayOf-taker b (stringAt p (getD (others p l b q) i noRelease .place)) may)
 
-    list-led : Led p list index b
-    list-led = rw (list-blocked p l b some) led-by
+    list-led : Led p list index (mostLate p) b
+    list-led = rw (list-blocked p l b q some) led-by
 
   -- ---- By the interval's end each has had its need, if nobody was late
 
-  module _ (so-far : Punctual p list (suc (intervalEnd l b))) where
+  module _ (so-far : Punctual p list (suc (intervalEnd p l b))) where
     -- the days on which the bank worked for the release with index m
     abbrev done : ℕ → ℕ
-    done m = countOf (worksFor (suc m)) (history p list (intervalEnd l b))
+    done m = countOf (worksFor (suc m)) (history p list (intervalEnd p l b))
 
-    other-done : (m : ℕ) → m < length list → ComesLater p l b (getD list m noRelease) → getD list m noRelease .need .0 ≤ done m
+    other-done : (m : ℕ) → m < length list → ComesBehind p l b q (getD list m noRelease) → getD list m noRelease .need .0 ≤ done m
     other-done m h o =
         let number : suc m - 1 ≡ m = omega arith in
         let served =
-        served-punctual p list ok (list-lawful p l b ok allowed room) (suc m) (intervalEnd l b) (omega arith) h so-far
-        (rw number (o .when .due)) in
+        served-punctual p list ok listed (suc m) (intervalEnd p l b) (omega arith) h so-far
+        (rw number (omega (arith, o .when .due, o .due-is))) in
         let work : done m ≡ getD list m noRelease .need .0 = rw number at (served .work) in
         omega arith
 
-    each-done : (m : ℕ) → m < length list → getD list m noRelease .need .0 ≤ done m
-    each-done m h =
+    -- what holds of each release: of the one that blocks, and of the others
+    by-release : (P : ℕ → Type 0) → (b ≢ 0 → P 0) → ((m : ℕ) → m < length list → ComesBehind p l b q (getD list m noRelease) → P m)
+        → (m : ℕ) → m < length list → P m
+    by-release P first other m h =
         elim (ℕ-discrete b 0) [
           | yes none ↦
-              let whole = list-free p l b none in
-              other-done m h (rw whole (other-at p l b m (rw whole at h)))
+              let same = list-free p l b q none in
+              other m h (rw same (other-at p l b q m (rw same at h)))
           | no some ↦ by-index some m h
         ]
       where
-        by-index : b ≢ 0 → (m : ℕ) → m < length list → getD list m noRelease .need .0 ≤ done m
-        by-index some zero h =
-            let led = list-led some in
-            let worked =
-            blocker-worked p list ok (list-lawful p l b ok allowed room) (index some) b led (intervalEnd l b) (omega (arith, fits))
-            (λ i k. so-far i (omega (arith, fits))) in
-            omega (arith, ap (λ n. n .0) (led .need-is))
+        by-index : b ≢ 0 → (m : ℕ) → m < length list → P m
+        by-index some zero h = first some
         by-index some (suc i) h =
-            let whole = list-blocked p l b some in
-            let later : ComesLater p l b (getD list (suc i) noRelease) = rw whole (other-at p l b i (le-of-suc-le-suc (rw whole at h))) in
-            other-done (suc i) h later
+            let same = list-blocked p l b q some in
+            other (suc i) h (rw same (other-at p l b q i (le-of-suc-le-suc (rw same at h))))
 
-    enough-days : demand (freely p) l b ≤ l
-    enough-days = omega (arith, needs-fit p list (intervalEnd l b) each-done, list-needs p l b ok fits)
+    each-done : (m : ℕ) → m < length list → getD list m noRelease .need .0 ≤ done m
+    each-done = by-release (λ m. getD list m noRelease .need .0 ≤ done m) first-done other-done
+      where
+        first-done : b ≢ 0 → getD list 0 noRelease .need .0 ≤ done 0
+        first-done some =
+            let led = list-led some in
+            let worked = blocker-worked p list ok listed (index some) (mostLate p) b led (intervalEnd p l b) (omega arith)
+            (λ i k. so-far i (omega arith)) in
+            omega (arith, ap (λ n. n .0) (led .need-is))
+
+    -- nothing is released before the largest J is over
+    late-enough : (m : ℕ) → m < length list → mostLate p ≤ getD list m noRelease .day .0
+    late-enough =
+        by-release (λ m. mostLate p ≤ getD list m noRelease .day .0) (λ some. omega (arith, list-led some .day-is))
+        (λ m h o. omega (arith, o .when .from))
+
+    none-before : (m : ℕ) → m < length list → countOf (worksFor (suc m)) (history p list (mostLate p)) ≡ 0
+    none-before m h =
+        let number : suc m - 1 ≡ m = omega arith in
+        untouched p list ok listed (suc m) (mostLate p) (omega arith) h (λ i k. so-far i (omega arith)) (rw number (late-enough m h)) .work
+
+    enough-days : demandBut (freely p) l b q ≤ l
+    enough-days =
+        let all : mostLate p + (leadOf b + l) ≡ intervalEnd p l b = omega arith in
+        let fit = needs-fit-from p list (mostLate p) none-before (leadOf b + l) (rw all each-done) in
+        omega (arith, list-needs p l b q ok fits nobody)
 
   -- ---- So somebody is late
 
-  module _ (breaks : l < demand (freely p) l b) where
-    misses-day : missDay p list ≤ intervalEnd l b
+  module _ (breaks : l < demandBut (freely p) l b q) where
+    misses-day : missDay p list ≤ intervalEnd p l b
     misses-day =
-        elim (decLe (missDay p list) (intervalEnd l b)) [
+        elim (decLe (missDay p list) (intervalEnd p l b)) [
           | yes h ↦ h
           | no h ↦ absurd (omega (arith, enough-days (λ i k. missDay-before p list i (omega arith))))
         ]
 
-    pub list-misses : MissesBy p list (intervalEnd l b)
+    pub list-misses : MissesBy p list (intervalEnd p l b)
     list-misses =
         record {
-          listed = list-lawful p l b ok allowed room;
+          listed = listed;
           t = missDay p list;
           place = lateOn p list (missDay p list);
           soon = misses-day;

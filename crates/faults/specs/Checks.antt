@@ -11,6 +11,7 @@ use Rattle.faults.specs.declared.Fault.{Fault}
 use Rattle.faults.specs.declared.Fault.the-variants.{TextTooLong, LineMalformed, FrameWrong, StringCount}
 use Rattle.faults.specs.declared.Fault.the-variants.{OutOfBounds, MultipleOver, ReleaseTooMany, ReleaseUnlawful}
 use Rattle.faults.specs.declared.Fault.the-variants.{NoRoom, NoSuchDate, NoSuchEdition, CostsDiffer, RowMalformed}
+use Rattle.faults.specs.declared.Fault.the-variants.{VisitUnlawful, SumDiffers}
 use Rattle.faults.specs.declared.Checked.{Checked}
 use Rattle.faults.specs.declared.Checked.the-variants.{Lawful, Refused}
 
@@ -28,6 +29,8 @@ faultNumber NoSuchDate = 10
 faultNumber NoSuchEdition = 11
 faultNumber CostsDiffer = 12
 faultNumber RowMalformed = 13
+faultNumber VisitUnlawful = 14
+faultNumber SumDiffers = 15
 
 abbrev pub then : Checked → Checked → Checked
 then Lawful next = next

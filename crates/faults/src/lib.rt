@@ -17,6 +17,8 @@ pub enum Fault {
     NoSuchEdition,
     CostsDiffer,
     RowMalformed,
+    VisitUnlawful,
+    SumDiffers,
 }
 
 // Whether all rules were met; if not, the first fault, and where: a line, a place, or 0 for the whole.
@@ -43,5 +45,7 @@ pub fn fault_number(f: Fault) -> u32
         Fault::NoSuchEdition => 11,
         Fault::CostsDiffer => 12,
         Fault::RowMalformed => 13,
+        Fault::VisitUnlawful => 14,
+        Fault::SumDiffers => 15,
     }
 }

@@ -1,7 +1,7 @@
 -- Laws of E, of what a string asks, and of the blocking limit. Everything above cites these and not the definitions.
 use Rattle.base.proofs.Prelude.{ℕ, suc, _+_, _-_, _*_, _≤_, _<_, min, _≡_, sym, ap, _∙_, _&&_, arith, decLe, ℕ-discrete, mul-zero, mul-le-mul, lt-ltb, le-ltb, le-leb, lt-leb, eq-eqb, ne-eqb, leb, ltb}
 use native.Mathlib.Nat.{mul-one}
-use Rattle.rules.specs.{declared.BatteryString.BatteryString, declared.Plan.Plan, Plan.{stringsOf, dMin, dMax}, Demand.{movingCost, holdOf, jobs, blockerHold, blockLimit, need}}
+use Rattle.rules.specs.{declared.BatteryString.BatteryString, declared.Plan.Plan, Plan.{stringsOf, leewayMin, dMax}, Demand.{movingCost, holdOf, jobs, blockerHold, blockLimit, need}}
 use Rattle.base.specs.Count.{largest}
 use Rattle.base.proofs.Lists.{by-bool}
 use Rattle.laws.proofs.Lawful.{PlanString}
@@ -50,27 +50,28 @@ need-unblocked p l s h =
 
 -- ---- The blocking limit
 
--- before the smallest D nothing blocks
-pub blockLimit-early : (p : Plan) (l : ℕ) → l < dMin p → blockLimit p l ≡ 0
+-- before the smallest D − J nothing blocks
+pub blockLimit-early : (p : Plan) (l : ℕ) → l < leewayMin p → blockLimit p l ≡ 0
 unfolding blockLimit
-blockLimit-early p l h = rw (lt-leb (dMin p) l h)
+blockLimit-early p l h = rw (lt-leb (leewayMin p) l h)
 
 -- from the largest D on nothing blocks
 pub blockLimit-late : (p : Plan) (l : ℕ) → dMax p ≤ l → blockLimit p l ≡ 0
 unfolding blockLimit
 blockLimit-late p l h =
     let late = le-ltb l (dMax p) h in
-    by-bool (leb (dMin p) l) (λ t. rw (t, late)) (λ e. rw e)
+    by-bool (leb (leewayMin p) l) (λ t. rw (t, late)) (λ e. rw e)
 
 -- it is never above the interval
 pub blockLimit-interval : (p : Plan) (l : ℕ) → blockLimit p l ≤ l
 unfolding blockLimit
-blockLimit-interval p l = by-bool (leb (dMin p) l && ltb l (dMax p)) (λ t. rw t (omega arith)) (λ e. rw e (omega arith))
+blockLimit-interval p l = by-bool (leb (leewayMin p) l && ltb l (dMax p)) (λ t. rw t (omega arith)) (λ e. rw e (omega arith))
 
--- and between the smallest D and the largest the longest blocker decides
-pub blockLimit-between : (p : Plan) (l : ℕ) → dMin p ≤ l → l < dMax p → blockLimit p l ≡ min l (largest (blockerHold p l) (stringsOf p))
+-- and between the smallest D − J and the largest D the longest blocker decides
+pub blockLimit-between : (p : Plan) (l : ℕ) → leewayMin p ≤ l → l < dMax p
+    → blockLimit p l ≡ min l (largest (blockerHold p l) (stringsOf p))
 unfolding blockLimit
-blockLimit-between p l h k = rw (le-leb (dMin p) l h, lt-ltb l (dMax p) k)
+blockLimit-between p l h k = rw (le-leb (leewayMin p) l h, lt-ltb l (dMax p) k)
 
 pub blockerHold-early : (p : Plan) (l : ℕ) (s : BatteryString) → l < s .d .0 → blockerHold p l s ≡ holdOf p s - 1
 unfolding blockerHold

@@ -1,6 +1,6 @@
 -- What the checks of a plan give where they find no fault.
-use Rattle.base.proofs.Prelude.{ℕ, suc, _%_, _≤_, _<_, zero-le, _≡_, true, false, not, _&&_, List, [], _∷_, arith, ltb-false, eqb-true, not-false, lt-ltb, le-ltb, eqb}
-use Rattle.rules.specs.{declared.BatteryString.BatteryString, declared.Plan.Plan, Plan.{stringsOf, noString, costLawful, stringLawful, commonMultiple, multipleOf, dMax}, Demand.movingCost, Refusal.{countCheck, runLengthCheck, headCheck, costCheck, stringsCheck, multipleCheck, planCheck}}
+use Rattle.base.proofs.Prelude.{ℕ, suc, _-_, _%_, _≤_, _<_, zero-le, _≡_, true, false, not, _&&_, List, [], _∷_, arith, ltb-false, eqb-true, not-false, lt-ltb, le-ltb, eqb}
+use Rattle.rules.specs.{declared.BatteryString.BatteryString, declared.Plan.Plan, Plan.{stringsOf, noString, leeway, costLawful, stringLawful, commonMultiple, multipleOf, dMax}, Demand.movingCost, Refusal.{countCheck, runLengthCheck, headCheck, costCheck, stringsCheck, multipleCheck, planCheck}}
 use Rattle.faults.specs.{declared.Fault.the-variants.{StringCount, OutOfBounds, MultipleOver}, declared.Checked.the-variants.{Lawful, Refused}, Checks.{inBounds, then}}
 use Rattle.faults.proofs.Checks.{refused-not-lawful, then-first, then-second, refuseIf-not, inBounds-low, inBounds-high, inBounds-yes, inBounds-not}
 use Rattle.base.proofs.{Lists.{All, all-map, all-of-every, largest-le, by-bool, and-left, and-right}, Least.{leastFrom-low, leastFrom-passes, leastFrom-before, leastFrom-unique, leastFrom-none}}
@@ -62,24 +62,30 @@ unfolding stringLawful
 stringLawful-is s h =
     let T = inBounds 1 (s .t .0) 1000 in
     let D = inBounds 1 (s .d .0) (s .t .0) in
-    let C = inBounds 1 (s .c .0) (s .d .0) in
+    let J = inBounds 0 (s .j .0) (s .d .0 - 1) in
+    let C = inBounds 1 (s .c .0) (leeway s) in
     let X = inBounds 0 (s .x) 1 in
     let A = costLawful (s .a .0) in
-    let a = and-right (T && D && C && X) A h in
-    let tdcx = and-left (T && D && C && X) A h in
-    let x = and-right (T && D && C) X tdcx in
-    let tdc = and-left (T && D && C) X tdcx in
-    let c = and-right (T && D) C tdc in
-    let td = and-left (T && D) C tdc in
+    let a = and-right (T && D && J && C && X) A h in
+    let tdjcx = and-left (T && D && J && C && X) A h in
+    let x = and-right (T && D && J && C) X tdjcx in
+    let tdjc = and-left (T && D && J && C) X tdjcx in
+    let c = and-right (T && D && J) C tdjc in
+    let tdj = and-left (T && D && J) C tdjc in
+    let j = and-right (T && D) J tdj in
+    let td = and-left (T && D) J tdj in
     let d = and-right T D td in
     let t = and-left T D td in
+    let low : 1 ≤ s .d .0 = inBounds-low 1 (s .d .0) (s .t .0) d in
+    let late : s .j .0 ≤ s .d .0 - 1 = inBounds-high 0 (s .j .0) (s .d .0 - 1) j in
     record {
       tPos = inBounds-low 1 (s .t .0) 1000 t;
       tMax = inBounds-high 1 (s .t .0) 1000 t;
-      dPos = inBounds-low 1 (s .d .0) (s .t .0) d;
+      dPos = low;
       dMax = inBounds-high 1 (s .d .0) (s .t .0) d;
-      cPos = inBounds-low 1 (s .c .0) (s .d .0) c;
-      cMax = inBounds-high 1 (s .c .0) (s .d .0) c;
+      jMax = omega arith;
+      cPos = inBounds-low 1 (s .c .0) (leeway s) c;
+      cMax = inBounds-high 1 (s .c .0) (leeway s) c;
       xMax = inBounds-high 0 (s .x) 1 x;
       aMax = inBounds-high 0 (s .a .0) 1000 a;
     }
@@ -87,10 +93,13 @@ stringLawful-is s h =
 pub stringLawful-yes : (s : BatteryString) → LawfulString s → stringLawful s ≡ true
 unfolding stringLawful
 stringLawful-yes s h =
+    let below = h .jMax in
+    let late : s .j .0 ≤ s .d .0 - 1 = omega arith in
     rw (
       inBounds-yes 1 (s .t .0) 1000 (h .tPos) (h .tMax),
       inBounds-yes 1 (s .d .0) (s .t .0) (h .dPos) (h .dMax),
-      inBounds-yes 1 (s .c .0) (s .d .0) (h .cPos) (h .cMax),
+      inBounds-yes 0 (s .j .0) (s .d .0 - 1) zero-le late,
+      inBounds-yes 1 (s .c .0) (leeway s) (h .cPos) (h .cMax),
       inBounds-yes 0 (s .x) 1 zero-le (h .xMax),
       inBounds-yes 0 (s .a .0) 1000 zero-le (h .aMax),
     )

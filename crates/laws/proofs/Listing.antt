@@ -1,7 +1,7 @@
 -- A list in which each release is within the bounds, and keeps its distance to every one before it, is lawful.
 use Rattle.base.proofs.Prelude.{ℕ, suc, _+_, _≡_, refl, true, false, List, [], _∷_, lt-ltb, le-ltb, eqb-true, eqb}
 use Rattle.faults.proofs.Checks.{inBounds-yes}
-use Rattle.rules.specs.{declared.Plan.Plan, declared.Release.Release, Plan.stringAt, Release.{tooClose, outOfOrder, releaseLawful, unlawfulFrom, firstUnlawful}}
+use Rattle.rules.specs.{declared.Plan.Plan, declared.Release.Release, Plan.stringAt, Release.{dueDay, tooClose, outOfOrder, releaseLawful, unlawfulFrom, firstUnlawful}}
 use Rattle.base.proofs.{Lists.{All, by-bool}, Order.{Rising, all-both, all-of}}
 use Rattle.laws.proofs.ReleaseList.{LawfulRelease, Keeps, Spaced}
 
@@ -16,7 +16,7 @@ module _ (p : Plan) where
   far-enough r [] k = refl
   far-enough r (q ∷ seen) k =
       by-bool (eqb (q .place) (r .place))
-      (λ e. rw e (le-ltb (r .day .0) (q .day .0 + stringAt p (r .place) .t .0) (k .0 .1 (eqb-true _ _ e))))
+      (λ e. rw e (le-ltb (dueDay r) (dueDay q + stringAt p (r .place) .t .0) (k .0 .1 (eqb-true _ _ e))))
       (λ e. rw e (far-enough r seen (k .1)))
 
   releaseLawful-yes : (seen : List Release) (r : Release) → LawfulRelease p r → All (Keeps p r) seen → releaseLawful p seen r ≡ true
@@ -26,6 +26,7 @@ module _ (p : Plan) where
         inBounds-yes 1 (r .place) (p .n) (good .placePos) (good .placeMax),
         inBounds-yes 1 (r .need .0) (stringAt p (r .place) .c .0) (good .needPos) (good .needMax),
         lt-ltb (r .day .0) (p .run .0) (good .early),
+        inBounds-yes (dueDay r) (r .day .0) (dueDay r + stringAt p (r .place) .j .0) (good .notBefore) (good .lateMax),
         in-order r seen k,
         far-enough r seen k,
       )

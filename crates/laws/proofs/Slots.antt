@@ -3,7 +3,7 @@
 use Rattle.base.proofs.Prelude.{ℕ, suc, _+_, _-_, _≤_, _<_, _≡_, refl, ap, _≢_, List, arith, length, getD, take, set, length-set, getD-set-same, getD-set-other, getD-take}
 use lib.Seq.{take-set-lt}
 use Rattle.days.specs.Days.{day, days}
-use Rattle.rules.specs.{declared.Plan.Plan, declared.Release.Release, declared.Slot.Slot, declared.Job.Job, declared.Job.the-variants.Waiting, Plan.stringAt, Run.{noSlot, slotAt, putJob, withJob, newSlot, charged}}
+use Rattle.rules.specs.{declared.Plan.Plan, declared.Release.Release, declared.Slot.Slot, declared.Job.Job, declared.Job.the-variants.Waiting, Plan.stringAt, Release.deadlineOf, Run.{noSlot, slotAt, putJob, withJob, newSlot, charged}}
 
 abbrev pub at : List Slot → ℕ → Slot
 at ss j = getD ss j noSlot
@@ -46,7 +46,7 @@ module _ (p : Plan) (r : Release) (k : ℕ) where
   unfolding newSlot
   newSlot-release = refl
 
-  pub newSlot-deadline : newSlot p r k .deadline ≡ day (r .day .0 + stringAt p (r .place) .d .0)
+  pub newSlot-deadline : newSlot p r k .deadline ≡ day (deadlineOf p r)
   unfolding newSlot
   newSlot-deadline = refl
 

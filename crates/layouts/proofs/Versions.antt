@@ -3,7 +3,7 @@
 use Rattle.base.proofs.Prelude.{ℕ, _+_, _*_, _%_, _≤_, _<_, _≡_, refl, ap, _∙_, List, [], _∷_, arith, mul-le-mul, lt-ltb, le-ltb, eqb}
 use Rattle.base.specs.Count.{All}
 use Rattle.base.proofs.Lists.{by-bool}
-use Rattle.rules.specs.{Layout.{Version, lineSize, hasField, versions, laterVersions, version01, versionAmong, heldTo, headerFrame, stringFrame, releaseFrame, Number, Count, Common, Run, X, T, C, D, Own, Place, Day, Need}, Text.{Line, aIn, fieldOf, costOf}}
+use Rattle.rules.specs.{Layout.{Version, lineSize, hasField, versions, laterVersions, version01, versionAmong, heldTo, headerFrame, stringFrame, releaseFrame, Number, Count, Common, Run, X, T, C, D, Own, Late, Place, Day, Need, Due}, Text.{Line, aIn, fieldOf, costOf, dueIn}}
 use Rattle.layouts.specs.{declared.Field.Field, declared.Layout.Layout, inner.Versions.{fieldFor, layoutFor, codeOf, meantBy, Known, Sound}}
 use Rattle.layouts.specs.declared.Version as code
 
@@ -19,10 +19,10 @@ by-version P all k = among laterVersions (all .1)
 -- a version is the one that its own number is held to
 pub number-again : (k : ℕ) → heldTo (heldTo k .number) ≡ heldTo k
 unfolding heldTo
-number-again k = by-version (λ v. heldTo (v .number) ≡ v) (refl, (refl, tt)) k
+number-again k = by-version (λ v. heldTo (v .number) ≡ v) (refl, (refl, (refl, tt))) k
 
 all-sound : All Sound versions
-all-sound = (omega arith, (omega arith, tt))
+all-sound = (omega arith, (omega arith, (omega arith, tt)))
 
 module _ (k : ℕ) where
   sound : Sound (heldTo k)
@@ -98,14 +98,21 @@ module _ (k : ℕ) where
   pub cost-sizes : (heldTo k .header Common + heldTo k .string Own ≡ 2) × (heldTo k .header Common % 2 ≡ 0)
   cost-sizes = (sound .11, sound .12)
 
+  -- late days and the due day have a number's bytes, or none
+  pub late-sizes : (heldTo k .string Late ≤ 2) × (heldTo k .string Late % 2 ≡ 0)
+  late-sizes = (sound .13, sound .14)
+
+  pub due-sizes : (heldTo k .release Due ≤ 4) × (heldTo k .release Due % 4 ≡ 0)
+  due-sizes = (sound .15, sound .16)
+
   pub header-short : lineSize (headerFrame (heldTo k)) ≤ 60
-  header-short = sound .13
+  header-short = sound .17
 
   pub string-short : lineSize (stringFrame (heldTo k)) ≤ 60
-  string-short = sound .14
+  string-short = sound .18
 
   pub release-short : lineSize (releaseFrame (heldTo k)) ≤ 60
-  release-short = sound .15
+  release-short = sound .19
 
 -- ---- Which frame says the moving cost
 
@@ -117,6 +124,17 @@ module _ (v : Version) (header line : Line) where
   pub cost-own : v .header Common ≤ 0 → costOf v header line ≡ fieldOf (stringFrame v) Own line
   unfolding costOf hasField
   cost-own h = rw (le-ltb 0 (v .header Common) h)
+
+-- ---- Whether a release line says its due day
+
+module _ (v : Version) (line : Line) where
+  pub due-said : 0 < v .release Due → dueIn v line ≡ fieldOf (releaseFrame v) Due line
+  unfolding dueIn hasField
+  due-said h = rw (lt-ltb 0 (v .release Due) h)
+
+  pub due-unsaid : v .release Due ≤ 0 → dueIn v line ≡ fieldOf (releaseFrame v) Day line
+  unfolding dueIn hasField
+  due-unsaid h = rw (le-ltb 0 (v .release Due) h)
 
 -- at most ten lines of at most 60 bytes, and a thousand
 pub ten-short : (i step : ℕ) → i ≤ 10 → step ≤ 60 → i * step ≤ 600
@@ -149,6 +167,12 @@ module _ (version : code.Version) (known : Known version) where
   pub own-known : version .own ≡ fieldFor (stringFrame (meantBy version)) Own
   own-known = ap (λ (w : code.Version). w .own) known
 
+  pub late-known : version .late ≡ fieldFor (stringFrame (meantBy version)) Late
+  late-known = ap (λ (w : code.Version). w .late) known
+
+  pub due-known : version .due ≡ fieldFor (releaseFrame (meantBy version)) Due
+  due-known = ap (λ (w : code.Version). w .due) known
+
   pub common-size : version .common .size ≡ meantBy version .header Common
   common-size = ap (λ (f : Field). f .size) common-known
 
@@ -160,6 +184,15 @@ module _ (version : code.Version) (known : Known version) where
 
   pub own-small : version .own .size ≤ 4
   own-small = omega (arith, ap (λ (f : Field). f .size) own-known, cost-sizes (version .number))
+
+  pub late-small : version .late .size ≤ 4
+  late-small = omega (arith, ap (λ (f : Field). f .size) late-known, late-sizes (version .number))
+
+  pub due-size : version .due .size ≡ meantBy version .release Due
+  due-size = ap (λ (f : Field). f .size) due-known
+
+  pub due-small : version .due .size ≤ 4
+  due-small = omega (arith, due-size, due-sizes (version .number))
 
   -- the lines' lengths
   pub header-line : version .header .line ≡ lineSize (headerFrame (meantBy version))

@@ -1,5 +1,5 @@
-// The layouts of the plan file, in bytes: version 01, document 01's, and version 02 (document 02, W-207). A frame starts with its kind,
-// and a field starts where the one before it ends. In the text two digits write a byte, and a line ends by its 0a.
+// The layouts of the plan file, in bytes: version 01, document 01's, and versions 02 and 03 (document 02, W-207 and W-213). A frame starts
+// with its kind, and a field starts where the one before it ends. In the text two digits write a byte, and a line ends by its 0a.
 ghost use mathlib.Core.Path.{_≡_};
 ghost use Rattle.rules.specs.Layout.{heldTo};
 ghost use Rattle.layouts.specs.inner.Versions.{codeOf};
@@ -18,7 +18,8 @@ pub struct Layout {
 }
 
 // A version: its number, its three frames, and the fields that other versions have in another place. `common` is the moving cost that
-// the header says for every string, `own` the one that a string frame says. A field that a frame does not have takes no byte.
+// the header says for every string, `own` the one that a string frame says, `late` its late days, `due` the due day that a release frame
+// says. A field that a frame does not have takes no byte.
 pub struct Version {
     pub number: u32,
     pub header: Layout,
@@ -26,7 +27,9 @@ pub struct Version {
     pub run: Field,
     pub string: Layout,
     pub own: Field,
+    pub late: Field,
     pub release: Layout,
+    pub due: Field,
 }
 
 pub const KIND: Field = Field { at: 0, size: 1 };
@@ -85,7 +88,7 @@ pub const RELEASE_NEED: Field = Field {
 
 const RELEASE_KIND: u32 = 3;
 
-// Version 01: the header goes on with A, N. Its string frames say no moving cost.
+// Version 01: the header goes on with A, N. Its string frames say no moving cost and no late days, its release frames no due day.
 const COMMON_01: Field = Field {
     at: HEADER_COUNT.at + HEADER_COUNT.size,
     size: 2,
@@ -103,9 +106,19 @@ const OWN_01: Field = Field {
     size: 0,
 };
 
-const STRING_SIZE_01: usize = OWN_01.at + OWN_01.size;
+const LATE_01: Field = Field {
+    at: OWN_01.at + OWN_01.size,
+    size: 0,
+};
 
-const RELEASE_SIZE_01: usize = RELEASE_NEED.at + RELEASE_NEED.size;
+const STRING_SIZE_01: usize = LATE_01.at + LATE_01.size;
+
+const DUE_01: Field = Field {
+    at: RELEASE_NEED.at + RELEASE_NEED.size,
+    size: 0,
+};
+
+const RELEASE_SIZE_01: usize = DUE_01.at + DUE_01.size;
 
 const RELEASE_FRAME_01: Layout = Layout {
     kind: RELEASE_KIND,
@@ -128,7 +141,9 @@ pub const VERSION_01: Version = Version {
         line: STRING_SIZE_01 * 2 + 1,
     },
     own: OWN_01,
+    late: LATE_01,
     release: RELEASE_FRAME_01,
+    due: DUE_01,
 };
 
 // Version 02: the header goes on with N and says no moving cost. A string frame says its own after D.
@@ -149,7 +164,12 @@ const OWN_02: Field = Field {
     size: 2,
 };
 
-const STRING_SIZE_02: usize = OWN_02.at + OWN_02.size;
+const LATE_02: Field = Field {
+    at: OWN_02.at + OWN_02.size,
+    size: 0,
+};
+
+const STRING_SIZE_02: usize = LATE_02.at + LATE_02.size;
 
 pub const VERSION_02: Version = Version {
     number: 2,
@@ -166,7 +186,48 @@ pub const VERSION_02: Version = Version {
         line: STRING_SIZE_02 * 2 + 1,
     },
     own: OWN_02,
+    late: LATE_02,
     release: RELEASE_FRAME_01,
+    due: DUE_01,
+};
+
+// Version 03: the header is that of 02. A string frame says its late days last, a release frame its due day.
+const LATE_03: Field = Field {
+    at: OWN_02.at + OWN_02.size,
+    size: 2,
+};
+
+const STRING_SIZE_03: usize = LATE_03.at + LATE_03.size;
+
+const DUE_03: Field = Field {
+    at: RELEASE_NEED.at + RELEASE_NEED.size,
+    size: 4,
+};
+
+const RELEASE_SIZE_03: usize = DUE_03.at + DUE_03.size;
+
+pub const VERSION_03: Version = Version {
+    number: 3,
+    header: Layout {
+        kind: HEADER_KIND,
+        size: HEADER_SIZE_02,
+        line: HEADER_SIZE_02 * 2 + 1,
+    },
+    common: COMMON_02,
+    run: RUN_02,
+    string: Layout {
+        kind: STRING_KIND,
+        size: STRING_SIZE_03,
+        line: STRING_SIZE_03 * 2 + 1,
+    },
+    own: OWN_02,
+    late: LATE_03,
+    release: Layout {
+        kind: RELEASE_KIND,
+        size: RELEASE_SIZE_03,
+        line: RELEASE_SIZE_03 * 2 + 1,
+    },
+    due: DUE_03,
 };
 
 // The version that a header which names the number is held to: 01 where none has it, which refuses it.
@@ -175,6 +236,9 @@ pub fn held_to(number: u32) -> Version
 {
     if number == VERSION_02.number {
         return VERSION_02;
+    }
+    if number == VERSION_03.number {
+        return VERSION_03;
     }
     VERSION_01
 }

@@ -3,4 +3,5 @@ pub mod Dates
 pub mod Shown
 pub mod Stints
 pub mod Same
+pub mod Board
 pub mod inner

@@ -1,4 +1,5 @@
 // The lines that are written for an answer (document 01, "Frames of the plan file"), on a page of text.
+mod board;
 mod dates;
 mod pages;
 mod parts;
@@ -8,6 +9,9 @@ mod shown;
 mod stints;
 mod templates;
 
+pub use board::missed_line;
+pub use board::number_line;
+pub use board::used_line;
 pub use dates::date_line;
 pub use dates::day_line;
 use dates::refused;

@@ -13,13 +13,14 @@ pub fn row_line(s: BatteryString) -> Page
     ensures within { λ r. ⌜ r .len ≤ length (r .bytes) ⌝ }
 {
     lone_line(
-        b"#,#,#,#,#\r\n",
+        b"#,#,#,#,#,#\r\n",
         &[
             s.t.0 as u64,
             s.c.0 as u64,
             s.d.0 as u64,
             s.x as u64,
             s.a.0 as u64,
+            s.j.0 as u64,
         ],
     )
 }

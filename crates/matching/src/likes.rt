@@ -14,7 +14,7 @@ pub(crate) fn counted(p: Plan) -> usize
     if p.n < 10 { p.n } else { 10 }
 }
 
-// Whether all five numbers are the same.
+// Whether all six numbers are the same.
 fn are_alike(s: BatteryString, u: BatteryString) -> bool
     ensures exact { λ r. ⌜ r ≡ alike s u ⌝ }
 {
@@ -31,6 +31,9 @@ fn are_alike(s: BatteryString, u: BatteryString) -> bool
         return false;
     }
     if s.a.0 != u.a.0 {
+        return false;
+    }
+    if s.j.0 != u.j.0 {
         return false;
     }
     true

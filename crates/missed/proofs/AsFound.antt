@@ -2,7 +2,7 @@
 use Rattle.base.proofs.Prelude.{ℕ, _≡_, sym, ap, _∙_, List}
 use Rattle.days.specs.declared.Length.{Length}
 use Rattle.faults.specs.declared.Fault.{Fault}
-use Rattle.rules.specs.{declared.Plan.Plan, declared.Releases.Releases, declared.Reading.Reading, Layout.version02, Text.readingOf, Plan.withRun}
+use Rattle.rules.specs.{declared.Plan.Plan, declared.Releases.Releases, declared.Reading.Reading, Layout.version03, Text.readingOf, Plan.withRun}
 use Rattle.writing.specs.{declared.Saved.Saved, Saved.{savedAnswer, savedPage}}
 use Rattle.tries.specs.{declared.Shown.Shown, Tries.missingAnswer}
 use Rattle.missed.specs.{declared.Missed.Missed, declared.Missed.the-variants.{Refused, Passes, NoneFound, TooMany}, Missed.{asSaved, putAnswer, putPage, missedAnswer, missedPage}}
@@ -12,13 +12,13 @@ use Rattle.tries.specs.declared.Missing.the-variants as missing
 -- ---- The list, written
 
 module _ (p longer : Plan) (run : Length) (rs : Releases) (page : List ℕ) (at : ℕ) (made : longer ≡ withRun p (run .0)) where
-  pub as-shown : (said wrote : Saved) → wrote ≡ said → wrote ≡ savedAnswer version02 longer rs page at
-      → asSaved said ≡ asSaved (savedAnswer version02 (withRun p (run .0)) rs page at)
-  as-shown said wrote is answers = ap asSaved (sym is ∙ answers ∙ ap (λ q. savedAnswer version02 q rs page at) made)
+  pub as-shown : (said wrote : Saved) → wrote ≡ said → wrote ≡ savedAnswer version03 longer rs page at
+      → asSaved said ≡ asSaved (savedAnswer version03 (withRun p (run .0)) rs page at)
+  as-shown said wrote is answers = ap asSaved (sym is ∙ answers ∙ ap (λ q. savedAnswer version03 q rs page at) made)
 
-  pub shown-page : (after : List ℕ) → after ≡ savedPage version02 longer rs page at
-      → after ≡ savedPage version02 (withRun p (run .0)) rs page at
-  shown-page after is = is ∙ ap (λ q. savedPage version02 q rs page at) made
+  pub shown-page : (after : List ℕ) → after ≡ savedPage version03 longer rs page at
+      → after ≡ savedPage version03 (withRun p (run .0)) rs page at
+  shown-page after is = is ∙ ap (λ q. savedPage version03 q rs page at) made
 
 -- ---- What was found
 
@@ -54,13 +54,13 @@ module _ (p : Plan) (m : Shown) (page : List ℕ) (at : ℕ) (found : m ≡ miss
       (rw is, rw is)
 
   pub put-shown : (n : Length) (r : Missed) (after : List ℕ) → m .missing ≡ missing.Found n
-      → r ≡ asSaved (savedAnswer version02 (withRun p (n .0)) (m .releases) page at)
-      → after ≡ savedPage version02 (withRun p (n .0)) (m .releases) page at → Put r after
+      → r ≡ asSaved (savedAnswer version03 (withRun p (n .0)) (m .releases) page at)
+      → after ≡ savedPage version03 (withRun p (n .0)) (m .releases) page at → Put r after
   unfolding putAnswer putPage
   put-shown n r after h said left =
       let is : missingAnswer p .missing ≡ missing.Found n = ap (λ v. v .missing) (sym found) ∙ h in (
-        rw is (said ∙ ap (λ v. asSaved (savedAnswer version02 (withRun p (n .0)) (v .releases) page at)) found),
-        rw is (left ∙ ap (λ v. savedPage version02 (withRun p (n .0)) (v .releases) page at) found),
+        rw is (said ∙ ap (λ v. asSaved (savedAnswer version03 (withRun p (n .0)) (v .releases) page at)) found),
+        rw is (left ∙ ap (λ v. savedPage version03 (withRun p (n .0)) (v .releases) page at) found),
       )
 
 -- ---- What was read

@@ -1,9 +1,9 @@
 -- What each answer for a text means.
 --     Refused      as the reader refuses, and so the desk; or 9 with 0, where there is no room
 --     Passes       the text is lawful and the plan passes
---     NoneFound    the text is lawful and the plan does not pass; with free moving it would
---     TooMany      the text is lawful and the plan does not pass, not even with free moving: there is a list that misses, and it has more
---                  than 1,000 releases
+--     NoneFound    the text is lawful and the plan does not pass; with free moving it would pass sharply, so that it would never miss
+--     TooMany      the text is lawful and the plan does not pass, not even sharply with free moving: there is a list that misses, and it
+--                  has more than 1,000 releases
 --     Text         what was written is the text of the same plan, with N raised, and of releases over which it misses
 -- But for Text, no byte of the page is another.
 use Rattle.base.proofs.Prelude.{ℕ, _-_, _≤_, _<_, _≡_, refl, sym, ap, _∙_, subst, _⊎_, inl, inr, _↔_, true, false, List, arith, length, take, drop, length-append, length-replicate, length-take, take-all}
@@ -11,16 +11,17 @@ use Rattle.days.specs.{declared.Day.Day, declared.Length.Length}
 use Rattle.base.proofs.Lists.{by-bool}
 use Rattle.faults.specs.{declared.Fault.Fault, declared.Fault.the-variants.NoRoom, Checks.faultNumber}
 use Rattle.faults.proofs.{Checks.{by-checked, then-first}, Refusing.Refusals}
-use Rattle.rules.specs.{declared.Plan.Plan, declared.Releases.Releases, declared.Reading.Reading, declared.Outcome.the-variants.Miss, Demand.Passes, Verdict.verdictOf, Search.searchOf, Release.{noRelease, releasesOf}, Run.runOf, Refusal.{planCheck, releasesCheck, runCheck, runAnswer}, declared.Answer.the-variants.Answered, Answer.{answered, answerOf}, Layout.version02, Text.{linesOf, versionOf, readingOf}, Said.refused-with, Plan.withRun}
+use Rattle.rules.specs.{declared.Plan.Plan, declared.Releases.Releases, declared.Reading.Reading, declared.Outcome.the-variants.Miss, Demand.Passes, Verdict.verdictOf, Search.searchOf, Release.{noRelease, releasesOf}, Run.runOf, Refusal.{planCheck, releasesCheck, runCheck, runAnswer}, declared.Answer.the-variants.Answered, Answer.{answered, answerOf}, Layout.version03, Text.{linesOf, versionOf, readingOf}, Said.refused-with, Plan.withRun}
 use Rattle.laws.proofs.{Lawful.planCheck-lawful, RefusedBy.{Numbered, read-numbers}, ReadLawful.read-lawful}
 use Rattle.writing.specs.Saved.{savedText, noRoom, writableCheck, saveCheck, savedAnswer, savedPage}
 use Rattle.writing.proofs.Saving.{writable-own}
 use Rattle.roundtrip.specs.OneText.{trimmedPlan, trimmedReleases}
 use Rattle.roundtrip.proofs.{As02.{read-trimmed, ten-places}, InPage.reading-the-page}
-use Rattle.exact.specs.Missing.{freely}
+use Rattle.sound.specs.Sharp.{SharplyPasses}
+use Rattle.exact.specs.Missing.{freely, NeverMisses, FreeMoving}
 use Rattle.exact.proofs.AnyRun.{verdict-run, search-run}
 use Rattle.tries.specs.{declared.Missing.Missing, Tries.missingAnswer, Shown.MissesOverMany}
-use Rattle.tries.proofs.{Found.packed-holds, Meaning.{answer-refused, answer-passes-rule, answer-found, found-answers, answer-none-rule, answer-none-free, answer-many-rule, answer-many}}
+use Rattle.tries.proofs.{Found.packed-holds, Meaning.{answer-refused, answer-passes-rule, answer-found, found-answers, answer-none-rule, answer-none-free, answer-none-never, answer-many-rule, answer-many}}
 use Rattle.missed.specs.{declared.Missed.Missed, declared.Missed.the-variants.{Refused, NoneFound, TooMany, Text}, Missed.{asSaved, putAnswer, putPage, missedAnswer, missedPage}, ShowsMiss.ShowsMiss, Said.missedSays}
 use Rattle.faults.specs.declared.Checked.the-variants as checked
 use Rattle.writing.specs.declared.Saved.the-variants as saved
@@ -55,16 +56,16 @@ module _ (p : Plan) (n : Length) (is : missingAnswer p .missing ≡ answer.Found
       absurd (omega arith))
 
   -- so only the room can be wanting
-  found-writable : writableCheck version02 longer rs ≡ checked.Lawful
-  found-writable = writable-own version02 longer rs (omega arith) found-lawful
+  found-writable : writableCheck version03 longer rs ≡ checked.Lawful
+  found-writable = writable-own version03 longer rs (omega arith) found-lawful
 
-  found-fits : (page : List ℕ) (at : ℕ) → noRoom page at (savedText version02 longer rs) ≡ false
-      → savedAnswer version02 longer rs page at ≡ saved.Text (length (savedText version02 longer rs))
+  found-fits : (page : List ℕ) (at : ℕ) → noRoom page at (savedText version03 longer rs) ≡ false
+      → savedAnswer version03 longer rs page at ≡ saved.Text (length (savedText version03 longer rs))
   unfolding savedAnswer saveCheck
   found-fits page at fits = rw (found-writable, fits)
 
-  found-full : (page : List ℕ) (at : ℕ) → noRoom page at (savedText version02 longer rs) ≡ true
-      → (savedAnswer version02 longer rs page at ≡ saved.Refused NoRoom 0) × (savedPage version02 longer rs page at ≡ page)
+  found-full : (page : List ℕ) (at : ℕ) → noRoom page at (savedText version03 longer rs) ≡ true
+      → (savedAnswer version03 longer rs page at ≡ saved.Refused NoRoom 0) × (savedPage version03 longer rs page at ≡ page)
   unfolding savedAnswer savedPage saveCheck
   found-full page at full = (rw (found-writable, full), rw (found-writable, full))
 
@@ -126,7 +127,7 @@ module _ (text page : List ℕ) (at : ℕ) where
     )
 
     full-says : (n : Length) → missingAnswer p .missing ≡ answer.Found n
-        → noRoom page at (savedText version02 (withRun p (n .0)) (missingAnswer p .releases)) ≡ true → Says (Refused NoRoom 0) page
+        → noRoom page at (savedText version03 (withRun p (n .0)) (missingAnswer p .releases)) ≡ true → Says (Refused NoRoom 0) page
     unfolding putAnswer putPage
     full-says n is wanting =
         let says = found-says (answer.Found n) is in
@@ -140,10 +141,10 @@ module _ (text page : List ℕ) (at : ℕ) where
       (nothing : readingOf text .checked ≡ checked.Lawful → missingAnswer p .missing ≡ answer.NoneFound → Says NoneFound page → B)
       (many : readingOf text .checked ≡ checked.Lawful → missingAnswer p .missing ≡ answer.TooMany → Says TooMany page → B)
       (full : readingOf text .checked ≡ checked.Lawful → (n : Length) → missingAnswer p .missing ≡ answer.Found n
-      → noRoom page at (savedText version02 (withRun p (n .0)) (missingAnswer p .releases)) ≡ true → Says (Refused NoRoom 0) page → B)
+      → noRoom page at (savedText version03 (withRun p (n .0)) (missingAnswer p .releases)) ≡ true → Says (Refused NoRoom 0) page → B)
       (shown : readingOf text .checked ≡ checked.Lawful → (n : Length) (len : ℕ) → missingAnswer p .missing ≡ answer.Found n
-      → savedAnswer version02 (withRun p (n .0)) (missingAnswer p .releases) page at ≡ saved.Text len
-      → Says (Text len) (savedPage version02 (withRun p (n .0)) (missingAnswer p .releases) page at) → B)
+      → savedAnswer version03 (withRun p (n .0)) (missingAnswer p .releases) page at ≡ saved.Text len
+      → Says (Text len) (savedPage version03 (withRun p (n .0)) (missingAnswer p .releases) page at) → B)
     where
       by-found : readingOf text .checked ≡ checked.Lawful → (m : Missing) → missingAnswer p .missing ≡ m → B
       unfolding putAnswer putPage
@@ -157,7 +158,7 @@ module _ (text page : List ℕ) (at : ℕ) where
       by-found h answer.TooMany is = many h is (found-says h answer.TooMany is)
       by-found h (answer.Found n) is =
           let says = found-says h (answer.Found n) is in
-          by-bool (noRoom page at (savedText version02 (withRun p (n .0)) (missingAnswer p .releases)))
+          by-bool (noRoom page at (savedText version03 (withRun p (n .0)) (missingAnswer p .releases)))
           (λ wanting. full h n is wanting (full-says h n is wanting))
           (λ fits.
           let said = found-fits p n is page at fits in
@@ -202,7 +203,7 @@ module _ (text page : List ℕ) (at : ℕ) where
   -- 9 with 0 exactly where a list was found and there is no room for its text
   pub missed-nine : (missedSays (missedAnswer text page at) ≡ refused-with 9 0)
       ↔ ((readingOf text .checked ≡ checked.Lawful) × ((n : Length) × (missingAnswer p .missing ≡ answer.Found n)
-      × (noRoom page at (savedText version02 (withRun p (n .0)) (missingAnswer p .releases)) ≡ true)))
+      × (noRoom page at (savedText version03 (withRun p (n .0)) (missingAnswer p .releases)) ≡ true)))
   missed-nine = (only, λ h. ap missedSays (full-says (h .0) (h .1 .0) (h .1 .1) (h .1 .2) .0))
     where
       low : (f : Fault) (k : ℕ) → readingOf text .checked ≡ checked.Refused f k → faultNumber f ≤ 8
@@ -210,7 +211,7 @@ module _ (text page : List ℕ) (at : ℕ) where
 
       only : missedSays (missedAnswer text page at) ≡ refused-with 9 0
           → (readingOf text .checked ≡ checked.Lawful) × ((n : Length) × (missingAnswer p .missing ≡ answer.Found n)
-          × (noRoom page at (savedText version02 (withRun p (n .0)) (missingAnswer p .releases)) ≡ true))
+          × (noRoom page at (savedText version03 (withRun p (n .0)) (missingAnswer p .releases)) ≡ true))
       only h =
           by-missed
           (λ f k e says.
@@ -270,9 +271,12 @@ module _ (text page : List ℕ) (at : ℕ) where
     pub missed-none : (readingOf text .checked ≡ checked.Lawful) × (Passes p → ⊥)
     missed-none = (none-is .0, answer-none-rule p (none-is .1) .1)
 
-    -- it is the moving that breaks the rule
-    pub missed-none-free : Passes (freely p)
+    -- with free moving the sharp rule would hold, so where moving is free no list misses
+    pub missed-none-free : SharplyPasses (freely p)
     missed-none-free = answer-none-free p (none-is .1)
+
+    pub missed-none-never : FreeMoving p → NeverMisses p
+    missed-none-never = answer-none-never p (none-is .1)
 
   -- ---- TooMany
 
@@ -301,8 +305,8 @@ module _ (text page : List ℕ) (at : ℕ) where
   writtenIn len = take len (drop at (missedPage text page at))
 
   module _ (lawful : readingOf text .checked ≡ checked.Lawful) (n : Length) (len : ℕ) (is : missingAnswer p .missing ≡ answer.Found n)
-      (wrote : savedAnswer version02 (withRun p (n .0)) (missingAnswer p .releases) page at ≡ saved.Text len)
-      (says : Says (Text len) (savedPage version02 (withRun p (n .0)) (missingAnswer p .releases) page at))
+      (wrote : savedAnswer version03 (withRun p (n .0)) (missingAnswer p .releases) page at ≡ saved.Text len)
+      (says : Says (Text len) (savedPage version03 (withRun p (n .0)) (missingAnswer p .releases) page at))
     where
       abbrev reads : Reading
       reads = record { checked = checked.Lawful; plan = withRun p (n .0); releases = missingAnswer p .releases }

@@ -1,7 +1,7 @@
 -- The releases that miss, as the text of a plan in the caller's page, for the plan p of another text.
 --     asSaved a             what the writer answered
 --     putAnswer, putPage    what is answered, and the page afterwards, where m is found for p and rs is the list: it is written with the
---                           strings of p and with the N that was found, in version 02; 9 with 0 where there is no room
+--                           strings of p and with the N that was found, in version 03; 9 with 0 where there is no room
 --     missedAnswer, missedPage   the same of a text; but what the reader finds, 1 to 8, comes first
 -- Where no text is written, no byte of the page is another.
 use Prim.Native.Nat.{ℕ}
@@ -10,7 +10,7 @@ use Rattle.faults.specs.declared.Checked.{Checked}
 use Rattle.faults.specs.declared.Checked.the-variants as checked
 use Rattle.rules.specs.declared.Plan.{Plan}
 use Rattle.rules.specs.declared.Releases.{Releases}
-use Rattle.rules.specs.Layout.{version02}
+use Rattle.rules.specs.Layout.{version03}
 use Rattle.rules.specs.Text.{readingOf}
 use Rattle.writing.specs.declared.Saved.{Saved}
 use Rattle.writing.specs.declared.Saved.the-variants as saved
@@ -32,14 +32,14 @@ module _ (p : Plan) (rs : Releases) (page : List ℕ) (at : ℕ) where
   putAnswer missing.Passes = Passes
   putAnswer missing.NoneFound = NoneFound
   putAnswer missing.TooMany = TooMany
-  putAnswer (missing.Found n) = asSaved (savedAnswer version02 (withRun p (n .0)) rs page at)
+  putAnswer (missing.Found n) = asSaved (savedAnswer version03 (withRun p (n .0)) rs page at)
 
   unfoldable pub putPage : Missing → List ℕ
   putPage (missing.Refused f k) = page
   putPage missing.Passes = page
   putPage missing.NoneFound = page
   putPage missing.TooMany = page
-  putPage (missing.Found n) = savedPage version02 (withRun p (n .0)) rs page at
+  putPage (missing.Found n) = savedPage version03 (withRun p (n .0)) rs page at
 
 abbrev pub onRead : Checked → Missed → Missed
 onRead checked.Lawful m = m

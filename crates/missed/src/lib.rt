@@ -7,7 +7,7 @@ use rules::Releases;
 use tries::Missing;
 use writing::Saved;
 ghost use mathlib.Core.Path.{_≡_};
-ghost use Rattle.rules.specs.Layout.{version02};
+ghost use Rattle.rules.specs.Layout.{version03};
 ghost use Rattle.writing.specs.Saved.{savedAnswer, savedPage};
 ghost use Rattle.rules.specs.Plan.{withRun};
 ghost use Rattle.tries.specs.Tries.{missingAnswer};
@@ -25,8 +25,8 @@ pub enum Missed {
 
 // The plan with N raised and the list, written into the page; 9 with 0 where there is no room.
 fn show(p: Plan, run: Length, releases: Releases, page: &mut [u8], at: usize) -> Missed
-    ensures exact { λ r. ⌜ r ≡ asSaved (savedAnswer version02 (withRun p (run .0)) releases (now (page .entry)) at) ⌝ }
-    ensures page { λ r. ⌜ now (page .exit) ≡ savedPage version02 (withRun p (run .0)) releases (now (page .entry)) at ⌝ }
+    ensures exact { λ r. ⌜ r ≡ asSaved (savedAnswer version03 (withRun p (run .0)) releases (now (page .entry)) at) ⌝ }
+    ensures page { λ r. ⌜ now (page .exit) ≡ savedPage version03 (withRun p (run .0)) releases (now (page .entry)) at ⌝ }
 {
     let longer = p.with_run(run);
     let saved = writing::write(longer, releases, page, at);

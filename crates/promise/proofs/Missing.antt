@@ -1,14 +1,16 @@
--- Where moving is free the code's answers are exact: what it said fail or overload of has a list on which its run says miss, by the day
--- after the interval; for a fail at the pair that it names, for an overload at H with no blocking. `Learnt` is what a function's contract
--- says of its answer.
-use Rattle.base.proofs.Prelude.{ℕ, _+_, _≤_, _<_, zero-le, _≡_, refl, sym, ap, _∙_, subst, arith}
+-- Where moving is free the code's answers are exact: what it said overload of has a list on which its run says miss, at H with no blocking;
+-- and where no string has late days, what it said fail of has one for each string that can block at the pair that it names, and misses by
+-- the day after the interval. `Learnt` is what a function's contract says of its answer.
+use Rattle.base.proofs.Prelude.{ℕ, _+_, _≤_, _≡_, refl, sym, ap, _∙_, subst, arith}
 use Rattle.days.specs.declared.Length.{Length}
 use Rattle.faults.specs.{declared.Checked.Checked, declared.Checked.the-variants.{Lawful, Refused}}
-use Rattle.rules.specs.{declared.Plan.Plan, declared.Releases.Releases, declared.Verdict.Verdict, declared.AskedOutcome.AskedOutcome, declared.AskedOutcome.the-variants.Given, Plan.{multipleOf, withRun}, Demand.{blockLimit, demand}, Release.releasesOf, Verdict.verdictOf, Refusal.{onVerdict, planCheck, runCheck, verdictAnswer}}
+use Rattle.rules.specs.{declared.Plan.Plan, declared.Releases.Releases, declared.Verdict.Verdict, declared.AskedOutcome.AskedOutcome, declared.AskedOutcome.the-variants.Given, Plan.{multipleOf, withRun}, Release.releasesOf, Verdict.verdictOf, Refusal.{onVerdict, planCheck, runCheck, verdictAnswer}}
+use Rattle.laws.specs.Lawful.{OnTime}
 use Rattle.laws.proofs.{Lawful.{LawfulPlan, planCheck-lawful}, LawfulChecked.lawful-checked, Answers.run-lawful, Releases.releasesCheck-good}
 use Rattle.demand.proofs.{Verdict.{fail-names, overload-exactly}, Range.overload-at-period}
-use Rattle.exact.specs.Missing.{missing, MissesBy, FreeMoving}
-use Rattle.exact.proofs.{Freely.{free-demand, free-limit}, Exact.{withRun-lawful, break-misses}}
+use Rattle.sound.specs.Sharp.{CanBlock}
+use Rattle.exact.specs.Missing.{freely, intervalEnd, missing, MissesBy, FreeMoving}
+use Rattle.exact.proofs.{Freely.free-demand, Exact.{withRun-lawful, demandBut-nobody, free-can, sharp-break-misses}, NoLateDays.{some-string-blocks, break-misses-any}}
 use Rattle.promise.specs.SaysMiss.{SaysMiss}
 use Rattle.rules.specs.declared.Verdict.the-variants as verdict-is
 use Rattle.rules.specs.declared.AskedVerdict.the-variants as asked
@@ -37,32 +39,50 @@ answered (Refused f at) v w h =
     absurd (omega arith)
 
 module _ (κs : Lfts 0) (p : Plan) (free : FreeMoving p) where
-  broken-misses : (n l b : ℕ) → LawfulPlan p → n ≤ 1000000 → l + 1 ≤ n → b ≤ blockLimit p l → l < demand p l b
-      → MissesBy (withRun p n) (missing p l b) (l + 1)
-  broken-misses n l b ok most room allowed breaks =
-      break-misses p ok n l b most room (rw (free-limit p free l) allowed) (rw (free-demand p free l b) breaks)
+  -- where a fail names a blocking, some string can block so long
+  pub fail-blocks : (l b d : Length) (k : ℕ) (e : _) → verdict.Learnt κs (p, tt) (asked.Given (verdict-is.Fail l b d k)) e → 1 ≤ b .0
+      → (q : ℕ) × CanBlock p (l .0) (b .0) q
+  unfolding verdictAnswer
+  fail-blocks l b d k e said pos =
+      let both = answered (planCheck p) (verdictOf p) (verdict-is.Fail l b d k) (sym said) in
+      some-string-blocks p (l .0) (b .0) pos (fail-names p l b d k (both .1) .0 .allowed)
 
   module _ (rs : Releases) (few : rs .count ≤ 1000) (n : ℕ) (most : n ≤ 1000000) (r : AskedOutcome) (f : _)
       (ran : run.Learnt κs (withRun p n, (rs, tt)) r f) where
-    list-says-miss : (l b : ℕ) → LawfulPlan p → l + 1 ≤ n → b ≤ blockLimit p l → l < demand p l b → releasesOf rs ≡ missing p l b
-        → SaysMiss r (l + 1)
-    list-says-miss l b ok room allowed breaks list =
-        run-says-miss κs (withRun p n) (withRun-lawful p n ok (omega arith) most) rs few (l + 1) r f ran
-        (subst (λ xs. MissesBy (withRun p n) xs (l + 1)) (sym list) (broken-misses n l b ok most room allowed breaks))
+    -- the code's run over a list that misses
+    list-says-miss : (l b q d : ℕ) → LawfulPlan p → 1 ≤ n → MissesBy (withRun p n) (missing p l b q) d → releasesOf rs ≡ missing p l b q
+        → SaysMiss r d
+    list-says-miss l b q d ok low m list =
+        run-says-miss κs (withRun p n) (withRun-lawful p n ok low most) rs few d r f ran
+        (subst (λ xs. MissesBy (withRun p n) xs d) (sym list) m)
 
-    pub fail-then-miss : (l b d : Length) (k : ℕ) (e : _) → verdict.Learnt κs (p, tt) (asked.Given (verdict-is.Fail l b d k)) e
-        → l .0 + 1 ≤ n
-        → releasesOf rs ≡ missing p (l .0) (b .0) → SaysMiss r (l .0 + 1)
+    pub fail-then-miss : OnTime p → (l b d : Length) (k q : ℕ) (e : _)
+        → verdict.Learnt κs (p, tt) (asked.Given (verdict-is.Fail l b d k)) e → l .0 + 1 ≤ n
+        → (b .0 ≡ 0 → q ≡ 0) → (1 ≤ b .0 → CanBlock p (l .0) (b .0) q)
+        → releasesOf rs ≡ missing p (l .0) (b .0) q → SaysMiss r (l .0 + 1)
     unfolding verdictAnswer
-    fail-then-miss l b d k e said room list =
+    fail-then-miss on-time l b d k q e said room nobody can list =
         let both = answered (planCheck p) (verdictOf p) (verdict-is.Fail l b d k) (sym said) in
+        let ok = planCheck-lawful p (both .0) in
         let first = fail-names p l b d k (both .1) .0 in
-        list-says-miss (l .0) (b .0) (planCheck-lawful p (both .0)) room (first .allowed) (first .breaks) list
+        list-says-miss (l .0) (b .0) q (l .0 + 1) ok (omega arith)
+        (break-misses-any p ok on-time n (l .0) (b .0) q most room (first .pos) nobody (λ some. free-can p free (l .0) (b .0) q (can some))
+        (rw (free-demand p free (l .0) (b .0)) (first .breaks)))
+        list
 
-    pub overload-then-miss : (e : _) → verdict.Learnt κs (p, tt) (asked.Given verdict-is.Overload) e → multipleOf p + 1 ≤ n
-        → releasesOf rs ≡ missing p (multipleOf p) 0 → SaysMiss r (multipleOf p + 1)
+    pub overload-then-miss : (e : _) → verdict.Learnt κs (p, tt) (asked.Given verdict-is.Overload) e → intervalEnd p (multipleOf p) 0 ≤ n
+        → releasesOf rs ≡ missing p (multipleOf p) 0 0 → SaysMiss r (intervalEnd p (multipleOf p) 0)
     unfolding verdictAnswer
     overload-then-miss e said room list =
         let both = answered (planCheck p) (verdictOf p) verdict-is.Overload (sym said) in
         let ok = planCheck-lawful p (both .0) in
-        list-says-miss (multipleOf p) 0 ok room zero-le (overload-at-period p ok (overload-exactly p .0 (both .1))) list
+        let h = multipleOf p in
+        let breaks = overload-at-period p ok (overload-exactly p .0 (both .1)) in
+        let m = sharp-break-misses p ok n h 0 0 most room
+        (record {
+          pos = ok .hPos;
+          nobody = λ e. refl;
+          can = λ some. absurd (omega arith);
+          over = omega (arith, demandBut-nobody (freely p) h 0, free-demand p free h 0);
+        }) in
+        list-says-miss h 0 0 (intervalEnd p h 0) ok (omega (arith, ok .hPos)) m list

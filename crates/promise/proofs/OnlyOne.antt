@@ -32,6 +32,11 @@ use Rattle.calendar.proofs.date_text.Reads as date-text
 use Rattle.calendar.proofs.yearly_read.Reads as yearly-read
 use Rattle.calendar.proofs.edition_read.Reads as edition-read
 use Rattle.calendar.proofs.yearly_text.Reads as yearly-text
+use Rattle.calendar.proofs.falls_on.Reads as falls-on
+use Rattle.calendar.proofs.fits.Reads as fits
+use Rattle.lines.proofs.used_line.Reads as used-line
+use Rattle.lines.proofs.missed_line.Reads as missed-line
+use Rattle.lines.proofs.number_line.Reads as number-line
 use Rattle.rules.proofs.Plan.moving_cost.Reads as Plan-moving-cost
 use Rattle.rules.proofs.Plan.with_run.Reads as Plan-with-run
 use Rattle.rules.proofs.Verdict.passes.Reads as Verdict-passes
@@ -58,6 +63,7 @@ use Rattle.reading.proofs.read_01.Reads as read-01
 use Rattle.reading.proofs.read_02.Reads as read-02
 use Rattle.writing.proofs.write.Reads as write
 use Rattle.writing.proofs.write_01.Reads as write-01
+use Rattle.writing.proofs.write_02.Reads as write-02
 use Rattle.register.proofs.register.Reads as register
 use Rattle.register.proofs.table.Reads as table
 use Rattle.turning.proofs.to_02.Reads as to-02
@@ -170,6 +176,13 @@ one-edition-read κs a e f r s h k = (h .0 ∙ sym (k .0), h .1 ∙ sym (k .1))
 pub one-yearly-text : (κs : Lfts 0) (a : _) (e f : _) (r s : YearlyText) → yearly-text.Learnt κs a r e → yearly-text.Learnt κs a s f → r ≡ s
 one-yearly-text κs a e f r s h k = h ∙ sym k
 
+pub one-falls-on : (κs : Lfts 0) (a : _) (e f : _) (r s : Bool) → falls-on.Learnt κs a r e → falls-on.Learnt κs a s f → r ≡ s
+one-falls-on κs a e f r s h k = h ∙ sym k
+
+pub one-fits : (κs : Lfts 2) (a : _) (e f : _) (r s : Bool) → fits.Learnt κs a r e → fits.Learnt κs a s f
+    → (r ≡ s) × (e .0 .now ≡ f .0 .now) × (e .1 .0 .now ≡ f .1 .0 .now)
+one-fits κs a e f r s h k = (h .0 ∙ sym (k .0), h .1 .0 ∙ sym (k .1 .0), h .1 .1 ∙ sym (k .1 .1))
+
 -- rules
 pub one-Plan-moving-cost : (κs : Lfts 0) (a : _) (e f : _) (r s : Length) → Plan-moving-cost.Learnt κs a r e
     → Plan-moving-cost.Learnt κs a s f → r ≡ s
@@ -258,6 +271,10 @@ one-held-to κs a e f r s h k = h ∙ sym k
 pub one-write : (κs : Lfts 1) (a : _) (e f : _) (r s : Saved) → write.Learnt κs a r e → write.Learnt κs a s f
     → (r ≡ s) × (e .1 .1 .0 .now ≡ f .1 .1 .0 .now)
 one-write κs a e f r s h k = (h .0 ∙ sym (k .0), h .1 ∙ sym (k .1))
+
+pub one-write-02 : (κs : Lfts 1) (a : _) (e f : _) (r s : Saved) → write-02.Learnt κs a r e → write-02.Learnt κs a s f
+    → (r ≡ s) × (e .1 .1 .0 .now ≡ f .1 .1 .0 .now)
+one-write-02 κs a e f r s h k = (h .0 ∙ sym (k .0), h .1 ∙ sym (k .1))
 
 pub one-write-01 : (κs : Lfts 1) (a : _) (e f : _) (r s : Saved) → write-01.Learnt κs a r e → write-01.Learnt κs a s f
     → (r ≡ s) × (e .1 .1 .0 .now ≡ f .1 .1 .0 .now)
@@ -419,6 +436,16 @@ one-register κs a e f r s h k = (h .0 ∙ sym (k .0), h .1 ∙ sym (k .1))
 pub one-table : (κs : Lfts 1) (a : _) (e f : _) (r s : Saved) → table.Learnt κs a r e → table.Learnt κs a s f
     → (r ≡ s) × (e .1 .1 .0 .now ≡ f .1 .1 .0 .now)
 one-table κs a e f r s h k = (h .0 ∙ sym (k .0), h .1 ∙ sym (k .1))
+
+-- the board
+pub one-used-line : (κs : Lfts 0) (a : _) (e f : _) (r s : Page) → used-line.Learnt κs a r e → used-line.Learnt κs a s f → r ≡ s
+one-used-line κs a e f r s h k = h .0 ∙ sym (k .0)
+
+pub one-missed-line : (κs : Lfts 0) (a : _) (e f : _) (r s : Page) → missed-line.Learnt κs a r e → missed-line.Learnt κs a s f → r ≡ s
+one-missed-line κs a e f r s h k = h .0 ∙ sym (k .0)
+
+pub one-number-line : (κs : Lfts 0) (a : _) (e f : _) (r s : Page) → number-line.Learnt κs a r e → number-line.Learnt κs a s f → r ≡ s
+one-number-line κs a e f r s h k = h .0 ∙ sym (k .0)
 
 -- entries: what is read and what is written to is lent
 pub one-desk-check : (κs : Lfts 2) (a : _) (e f : _) (r s : ℕ) → desk-check.Learnt κs a r e → desk-check.Learnt κs a s f

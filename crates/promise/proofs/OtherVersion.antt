@@ -1,10 +1,10 @@
--- A reader of one version gives 3 at line 1 exactly for a text whose first line is no header of that version, and so exactly for the lawful
--- files of the other version.
+-- A reader of one version gives 3 at line 1 exactly for a text whose first line is no header of that version, and so for the lawful
+-- files of every other version.
 use Rattle.base.proofs.Prelude.{ℕ, _≤_, _≡_, refl, sym, ap, _∙_, _↔_, Bool, true, false, not, _&&_, List, [], _∷_, arith, ltb-false, le-ltb, eqb-true, ne-eqb, ltb, eqb, length}
 use Rattle.base.proofs.Lists.{true-not-false, and-right}
 use Rattle.faults.specs.{declared.Fault.the-variants.{TextTooLong, LineMalformed, FrameWrong}, declared.Checked.Checked, declared.Checked.the-variants.{Lawful, Refused}, Checks.{faultNumber, then, refuseIf}}
 use Rattle.faults.proofs.{Checks.{refused-not-lawful, then-first, then-second, refuseIf-not}, Refusing.{Refusals, refusals-then, refusals-if}}
-use Rattle.rules.specs.{Layout.{Version, frameSize, kindIn, fieldAmong, fieldIn, headerFrame, version01, version02, Number}, Refusal.{headCheck, costCheck}, Text.{Line, linesOf, wellFormed, frameOf, fieldOf, nIn, runIn, aIn, planIn, frameCheck, layoutCheck, versionCheck, headerCheck, bodyCheck, linesCheck, textCheck, readingIn}, Said.{refused, checkedSays}}
+use Rattle.rules.specs.{Layout.{Version, frameSize, kindIn, versionIn, fieldAmong, fieldIn, headerFrame, version01, version02, version03, Number}, Refusal.{headCheck, costCheck}, Text.{Line, linesOf, wellFormed, frameOf, fieldOf, nIn, runIn, aIn, planIn, frameCheck, layoutCheck, versionCheck, headerCheck, bodyCheck, linesCheck, textCheck, readingIn}, Said.{refused, checkedSays}}
 use Rattle.laws.proofs.{Versions.lines-checked, RefusedBy.{Never, Behind, lawful-no-refusal, second-says, body-behind, numbers-behind, reading-is-checked}}
 use Rattle.promise.specs.OtherVersion.{headed, NoHeader}
 
@@ -72,7 +72,7 @@ module _ (v : Version) where
           let short : long ≡ Lawful = ap (λ bad. refuseIf bad TextTooLong 0) (le-ltb 65536 (length text) (h .0)) in
           ap checkedSays (reading-is-checked v text) ∙ parts .1 (short, lines-three (linesOf text) .1 (h .1))
 
--- ---- The lawful files of the other version
+-- ---- The lawful files of another version
 
 -- a lawful text is no longer than a text may be, and its first line writes a header that names its version
 module _ (v : Version) (text : List ℕ) (h : readingIn v text .checked ≡ Lawful) where
@@ -124,15 +124,38 @@ module _ (v w : Version) (same : (line : Line) → fieldOf (headerFrame w) Numbe
       three-exactly w text .1
       (lawful-short v text h, named-elsewhere (linesOf text) (lawful-named v (linesOf text) (lines-checked v text h)))
 
--- both versions have their number in the second byte
-version-byte : (line : Line) → fieldOf (headerFrame version01) Number line ≡ fieldOf (headerFrame version02) Number line
+-- every version has its number in the second byte
+abbrev SecondByte : Version → Type 0
+SecondByte v = (line : Line) → fieldOf (headerFrame v) Number line ≡ versionIn (frameOf line)
+
+second-01 : SecondByte version01
 unfolding fieldOf fieldIn fieldAmong
-version-byte line = refl
+second-01 line = refl
+
+second-02 : SecondByte version02
+unfolding fieldOf fieldIn fieldAmong
+second-02 line = refl
+
+second-03 : SecondByte version03
+unfolding fieldOf fieldIn fieldAmong
+second-03 line = refl
+
+three-of : (v w : Version) → SecondByte v → SecondByte w → (v .number ≡ w .number → ⊥) → (text : List ℕ)
+    → readingIn v text .checked ≡ Lawful → checkedSays (readingIn w text .checked) ≡ refused 3 1
+three-of v w in-v in-w = other-three v w (λ line. in-w line ∙ sym (in-v line))
 
 pub three-of-02 : (text : List ℕ) → readingIn version02 text .checked ≡ Lawful
     → checkedSays (readingIn version01 text .checked) ≡ refused 3 1
-three-of-02 = other-three version02 version01 version-byte (λ h. omega arith)
+three-of-02 = three-of version02 version01 second-02 second-01 (λ h. omega arith)
 
 pub three-of-01 : (text : List ℕ) → readingIn version01 text .checked ≡ Lawful
     → checkedSays (readingIn version02 text .checked) ≡ refused 3 1
-three-of-01 = other-three version01 version02 (λ line. sym (version-byte line)) (λ h. omega arith)
+three-of-01 = three-of version01 version02 second-01 second-02 (λ h. omega arith)
+
+-- a lawful file of version 03 is one of neither of the two that are turned (document 02, W-213)
+pub three-of-03 : (text : List ℕ) → readingIn version03 text .checked ≡ Lawful
+    → (checkedSays (readingIn version01 text .checked) ≡ refused 3 1) × (checkedSays (readingIn version02 text .checked) ≡ refused 3 1)
+three-of-03 text h = (
+  three-of version03 version01 second-03 second-01 (λ h. omega arith) text h,
+  three-of version03 version02 second-03 second-02 (λ h. omega arith) text h,
+)

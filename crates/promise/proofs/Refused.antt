@@ -5,7 +5,7 @@ use Rattle.base.proofs.Prelude.{ℕ, _≤_, _≡_, refl, sym, ap, _∙_, _↔_,
 use Rattle.days.specs.declared.Length.{Length}
 use Rattle.faults.specs.{declared.Fault.the-variants.{NoRoom, CostsDiffer}, declared.Checked.Checked, declared.Checked.the-variants.{Lawful, Refused}, Checks.{faultNumber, then, refuseIf, orRefused}}
 use Rattle.faults.proofs.Refusing.{Refusals, refusals-then, refusals-if}
-use Rattle.rules.specs.{declared.Reading.Reading, Layout.{hasField, headerFrame, version01, version02, Common}, Refusal.runCheck, Text.{linesOf, readingIn, readingOf}, Said.{refused, checkedSays, refused-with}, Plan.withRun}
+use Rattle.rules.specs.{declared.Reading.Reading, Layout.{hasField, headerFrame, version01, version02, version03, Common}, Refusal.runCheck, Text.{linesOf, readingIn, readingOf}, Said.{refused, checkedSays, refused-with}, Plan.withRun}
 use Rattle.laws.proofs.RefusedBy.{Numbered, Never, never-above, lawful-no-refusal, if-says, first-says, second-says, runCheck-numbers, reading-numbers}
 use Rattle.writing.specs.{declared.Saved.Saved, Saved.{noRoom, onPage, savedText, writableCheck, saveCheck, savedAnswer, savedPage, firstOther, alikeCheck}, Said.savedSays}
 use Rattle.turning.specs.Turned.{lineOf, turnedText, turnCheck, turnedAnswer, turnedPage}
@@ -13,7 +13,7 @@ use Rattle.tries.specs.Tries.{missingAnswer}
 use Rattle.missed.specs.{declared.Missed.Missed, Said.missedSays}
 use Rattle.missed.proofs.OfText.{missed-nine}
 use Rattle.promise.specs.OtherVersion.{NoHeader}
-use Rattle.promise.proofs.OtherVersion.{three-exactly}
+use Rattle.promise.proofs.OtherVersion.{three-exactly, three-of-03}
 use Rattle.writing.specs.declared.Saved.the-variants as saved
 use Rattle.tries.specs.declared.Missing.the-variants as missing
 use Rattle.reading.proofs.read_01.Reads as read-01
@@ -123,18 +123,18 @@ module _ (c : Checked) (low : Refusals (Numbered 8) c) (bad : Bool) (len : ℕ) 
 module _ (κs : Lfts 1) (a : _) (e : _) (r : Saved) (did : write.Learnt κs a r e) where
   -- 9 with 0 exactly when the page has too little room for a lawful plan
   pub write-nine : (savedSays r ≡ refused-with 9 0)
-      ↔ ((runCheck (a .0) (a .1 .0) ≡ Lawful) × (noRoom (a .1 .1 .0 .now) (a .1 .1 .1 .0) (savedText version02 (a .0) (a .1 .0)) ≡ true))
+      ↔ ((runCheck (a .0) (a .1 .0) ≡ Lawful) × (noRoom (a .1 .1 .0 .now) (a .1 .1 .1 .0) (savedText version03 (a .0) (a .1 .0)) ≡ true))
   unfolding savedAnswer saveCheck writableCheck alikeCheck hasField
   write-nine =
       let run = runCheck (a .0) (a .1 .0) in
-      let text = savedText version02 (a .0) (a .1 .0) in
+      let text = savedText version03 (a .0) (a .1 .0) in
       let full = noRoom (a .1 .1 .0 .now) (a .1 .1 .1 .0) text in
       rw (did .0, then-chain run Lawful (refuseIf full NoRoom 0)) (nine run (runCheck-numbers (a .0) (a .1 .0)) full (length text))
 
   pub write-refusal-keeps : (n k : ℕ) → savedSays r ≡ refused-with n k → e .1 .1 .0 .now ≡ a .1 .1 .0 .now
   unfolding savedAnswer savedPage
   write-refusal-keeps n k h =
-      did .1 ∙ saved-keeps (saveCheck version02 (a .0) (a .1 .0) (a .1 .1 .0 .now) (a .1 .1 .1 .0)) _ n k (a .1 .1 .0 .now) _
+      did .1 ∙ saved-keeps (saveCheck version03 (a .0) (a .1 .0) (a .1 .1 .0 .now) (a .1 .1 .1 .0)) _ n k (a .1 .1 .0 .now) _
       (sym (ap savedSays (did .0)) ∙ h)
 
 -- ---- What `write_01` answered, of the same arguments
@@ -217,6 +217,13 @@ module _ (κs : Lfts 2) (a : _) (e : _) (r : Saved) (did : to-02.Learnt κs a r 
       did .1 .0 ∙ saved-keeps (turnCheck version01 version02 (a .0 .now) (a .1 .0 .now) (a .1 .1 .0)) _ n k (a .1 .0 .now) _
       (sym (ap savedSays (did .0)) ∙ h)
 
+  -- a lawful file of version 03 is not turned (document 02, W-213)
+  pub to-02-refuses-03 : readingIn version03 (a .0 .now) .checked ≡ Lawful
+      → (savedSays r ≡ refused-with 3 1) × (e .1 .0 .now ≡ a .1 .0 .now)
+  to-02-refuses-03 lawful =
+      let says = to-02-says 3 1 (omega arith) .1 (three-of-03 (a .0 .now) lawful .0) in
+      (says, to-02-refusal-keeps 3 1 says)
+
 module _ (κs : Lfts 2) (a : _) (e : _) (r : Saved) (did : to-01.Learnt κs a r e) where
   abbrev costs-line : ℕ
   costs-line = lineOf (firstOther (readingIn version02 (a .0 .now) .plan))
@@ -264,6 +271,12 @@ module _ (κs : Lfts 2) (a : _) (e : _) (r : Saved) (did : to-01.Learnt κs a r 
       did .1 .0 ∙ saved-keeps (turnCheck version02 version01 (a .0 .now) (a .1 .0 .now) (a .1 .1 .0)) _ n k (a .1 .0 .now) _
       (sym (ap savedSays (did .0)) ∙ h)
 
+  pub to-01-refuses-03 : readingIn version03 (a .0 .now) .checked ≡ Lawful
+      → (savedSays r ≡ refused-with 3 1) × (e .1 .0 .now ≡ a .1 .0 .now)
+  to-01-refuses-03 lawful =
+      let says = to-01-says 3 1 (omega arith) .1 (three-of-03 (a .0 .now) lawful .1) in
+      (says, to-01-refusal-keeps 3 1 says)
+
 -- ---- What `miss` answered: the same arguments
 
 -- 9 with 0 exactly when a list was found and there is too little room for its text
@@ -272,5 +285,5 @@ pub miss-nine : (κs : Lfts 2) (a : _) (e : _) (r : Missed) → miss.Learnt κs 
     ↔ ((readingOf (a .0 .now) .checked ≡ Lawful)
     × ((n : Length) × (missingAnswer (readingOf (a .0 .now) .plan) .missing ≡ missing.Found n)
     × (noRoom (a .1 .0 .now) (a .1 .1 .0)
-    (savedText version02 (withRun (readingOf (a .0 .now) .plan) (n .0)) (missingAnswer (readingOf (a .0 .now) .plan) .releases)) ≡ true)))
+    (savedText version03 (withRun (readingOf (a .0 .now) .plan) (n .0)) (missingAnswer (readingOf (a .0 .now) .plan) .releases)) ≡ true)))
 miss-nine κs a e r did = rw (did .0) (missed-nine (a .0 .now) (a .1 .0 .now) (a .1 .1 .0))

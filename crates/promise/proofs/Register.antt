@@ -91,13 +91,13 @@ module _ (text : List ℕ) (at : ℕ) where
   row-ends none = rw none
 
   module _ (line : Line) (rest : List Line) (here : linesOf (drop at text) ≡ line ∷ rest) where
-    -- 13 for a line that is not five such numbers with CR LF
+    -- 13 for a line that is not six such numbers with CR LF
     pub row-thirteen : rowFormed line ≡ false → rowSays (rowAt text at) ≡ no-row 13 (at + lineLong line)
     unfolding rowAt rowGiven
     row-thirteen other = rw (here, other)
 
-    pub row-five-numbers : rowFormed line ≡ true
+    pub row-six-numbers : rowFormed line ≡ true
         → let s = rowString line in
-        rowSays (rowAt text at) ≡ row (s .t .0) (s .c .0) (s .d .0) (s .x) (s .a .0) (at + lineLong line)
+        rowSays (rowAt text at) ≡ row (s .t .0) (s .c .0) (s .d .0) (s .x) (s .a .0) (s .j .0) (at + lineLong line)
     unfolding rowAt rowGiven
-    row-five-numbers formed = rw (here, formed)
+    row-six-numbers formed = rw (here, formed)

@@ -2,7 +2,7 @@
 use Rattle.base.proofs.Prelude.{ℕ, _+_, _*_, _≤_, _≡_, sym, List, arith, eq-eqb, ne-eqb, drop}
 use Rattle.days.specs.{declared.Length.Length, Days.days}
 use Rattle.faults.specs.{declared.Fault.the-variants.FrameWrong, declared.Checked.the-variants.Refused, Checks.then}
-use Rattle.rules.specs.{Refusal.{headCheck, costCheck}, Layout.{Version, frameSize, Number, X, T, C, D, headerFrame, stringFrame}, Text.{Line, fieldOf, nIn, aIn, runIn, costOf, stringOf, versionCheck}}
+use Rattle.rules.specs.{Refusal.{headCheck, costCheck}, Layout.{Version, frameSize, Number, X, T, C, D, Late, headerFrame, stringFrame}, Text.{Line, fieldOf, nIn, aIn, runIn, costOf, stringOf, versionCheck}}
 use Rattle.layouts.specs.{declared.Field.Field, inner.Versions.fieldFor}
 use Rattle.reading.specs.inner.Positions.{digitsAhead, lineAt, Frame, numberIn, headerNumbers}
 use Rattle.reading.proofs.Fields.{field-fits, field-is}
@@ -33,9 +33,9 @@ module _ (v : Version) (line : Line) where
 
 -- ---- A string
 
-pub string-said : (v : Version) (header line : Line) (t c d x : ℕ) (a : Length) → t ≡ fieldOf (stringFrame v) T line
+pub string-said : (v : Version) (header line : Line) (t c d x : ℕ) (a : Length) (j : ℕ) → t ≡ fieldOf (stringFrame v) T line
     → c ≡ fieldOf (stringFrame v) C line → d ≡ fieldOf (stringFrame v) D line → x ≡ fieldOf (stringFrame v) X line
-    → a ≡ days (costOf v header line)
-    → record { t = days t; c = days c; d = days d; x = x; a = a } ≡ stringOf v header line
+    → a ≡ days (costOf v header line) → j ≡ fieldOf (stringFrame v) Late line
+    → record { t = days t; c = days c; d = days d; x = x; a = a; j = days j } ≡ stringOf v header line
 unfolding stringOf
-string-said v header line t c d x a et ec ed ex ea = rw (et, ec, ed, ex, ea)
+string-said v header line t c d x a j et ec ed ex ea ej = rw (et, ec, ed, ex, ea, ej)

@@ -17,9 +17,22 @@ ghost use mathlib.Core.Path.{_≡_};
 ghost use Prim.Native.Nat.{_≤_};
 ghost use lib.ListN.{length};
 ghost use Rattle.rules.specs.Layout.{frameSize, releaseFrame};
-ghost use Rattle.rules.specs.Text.{releaseOf};
+ghost use Rattle.days.specs.Days.{day};
+ghost use Rattle.rules.specs.Text.{dueIn, releaseOf};
 ghost use Rattle.layouts.specs.inner.Versions.{meantBy, Known};
 ghost use Rattle.reading.specs.inner.Positions.{lineAt, linesFrom, Frame, Stand, framesIn, releaseList};
+
+// The due day of a release: what its frame says, or its day where the frame says none.
+fn due_at(text: &[u8], at: usize, version: Version) -> Day
+    requires { ⌜ Known version ⌝ }
+    requires { ⌜ Frame (now text) at (frameSize (releaseFrame (meantBy version))) ⌝ }
+    ensures exact { λ r. ⌜ r ≡ day (dueIn (meantBy version) (lineAt (now (text .entry)) at)) ⌝ }
+{
+    if 0 < version.due.size {
+        return Day(field_at(text, at, version.due));
+    }
+    Day(field_at(text, at, RELEASE_DAY))
+}
 
 // What a release frame says.
 fn release_at(text: &[u8], at: usize, version: Version) -> Release
@@ -30,7 +43,13 @@ fn release_at(text: &[u8], at: usize, version: Version) -> Release
     let place = field_at(text, at, RELEASE_PLACE) as usize;
     let day = Day(field_at(text, at, RELEASE_DAY));
     let need = Length(field_at(text, at, RELEASE_NEED));
-    Release { day, place, need }
+    let due = due_at(text, at, version);
+    Release {
+        day,
+        place,
+        need,
+        due,
+    }
 }
 
 // Release lines from `start` on, the first with number k: how many are frames before the text ends, a line is no frame or a

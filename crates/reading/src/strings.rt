@@ -46,7 +46,8 @@ fn string_at(text: &[u8], at: usize, version: Version) -> BatteryString
     let c = Length(field_at(text, at, STRING_C));
     let d = Length(field_at(text, at, STRING_D));
     let a = cost_at(text, at, version);
-    BatteryString { t, c, d, x, a }
+    let j = Length(field_at(text, at, version.late));
+    BatteryString { t, c, d, x, a, j }
 }
 
 // Line k, which starts at `at`: 2, 3, then 5.

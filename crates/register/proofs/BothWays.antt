@@ -23,7 +23,8 @@ short-string s ok =
     let c = ok .cMax in
     let x = ok .xMax in
     let a = ok .aMax in
-    (omega arith, (omega arith, (omega arith, (omega arith, (omega arith, tt)))))
+    let j = ok .jMax in
+    (omega arith, (omega arith, (omega arith, (omega arith, (omega arith, (omega arith, tt))))))
 
 abbrev rows : List BatteryString → List Line
 rows ss = map registerRow ss
@@ -57,7 +58,7 @@ rows-pass k (s ∷ ss) ok few =
     )
     (rows-pass (suc k) ss (ok .1) (omega arith))
 
-rows-short : (ss : List BatteryString) → All LawfulString ss → length (flatMap rowLine ss) ≤ length ss * 27
+rows-short : (ss : List BatteryString) → All LawfulString ss → length (flatMap rowLine ss) ≤ length ss * 32
 unfolding flatMap
 rows-short [] ok = omega arith
 rows-short (s ∷ ss) ok =

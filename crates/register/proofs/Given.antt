@@ -4,18 +4,18 @@ use lib.Seq.{take-take}
 use Rattle.base.specs.Digits.{decimalIn}
 use Rattle.base.proofs.Lists.{by-bool}
 use Rattle.rules.specs.Text.{Line, linesOf}
-use Rattle.register.specs.{declared.Row.the-variants.{End, Malformed, Says}, Table.{fieldsOf, fiveNumbers, rowFields, rowFormed, stringSaid, rowString}, Reader.{lineLong, rowGiven, rowAt}, inner.Fields.{bytesAhead, fiveOf}}
+use Rattle.register.specs.{declared.Row.the-variants.{End, Malformed, Says}, Table.{fieldsOf, sixNumbers, rowFields, rowFormed, stringSaid, rowString}, Reader.{lineLong, rowGiven, rowAt}, inner.Fields.{bytesAhead, sixOf}}
 use Rattle.register.proofs.Splitting.{lines-open, lines-closed}
 
 -- ---- Numbers that were looked for
 
-pub five-formed : (fields : List (List ℕ)) → fiveOf fields .formed ≡ fiveNumbers fields
-unfolding fiveOf
-five-formed fields = by-bool (fiveNumbers fields) (λ t. rw t) (λ e. rw e)
+pub six-formed : (fields : List (List ℕ)) → sixOf fields .formed ≡ sixNumbers fields
+unfolding sixOf
+six-formed fields = by-bool (sixNumbers fields) (λ t. rw t) (λ e. rw e)
 
-pub five-values : (fields : List (List ℕ)) → fiveNumbers fields ≡ true → fiveOf fields .values ≡ map decimalIn fields
-unfolding fiveOf
-five-values fields t = rw t
+pub six-values : (fields : List (List ℕ)) → sixNumbers fields ≡ true → sixOf fields .values ≡ map decimalIn fields
+unfolding sixOf
+six-values fields t = rw t
 
 -- ---- A line
 
@@ -95,17 +95,17 @@ module _ (text : List ℕ) (at : ℕ) where
       unfolding rowFields
       fields-are = rw long (ap fieldsOf (take-take (ahead - 1) ahead xs (omega arith)))
 
-      formed-is : rowFormed line ≡ fiveNumbers fields
-      formed-is = unfold rowFormed in rw (last-byte some, eq-eqb (getD text (at + ahead - 1) 0) 0x0d returned) (ap fiveNumbers fields-are)
+      formed-is : rowFormed line ≡ sixNumbers fields
+      formed-is = unfold rowFormed in rw (last-byte some, eq-eqb (getD text (at + ahead - 1) 0) 0x0d returned) (ap sixNumbers fields-are)
 
-      pub given-numbers : fiveOf fields .formed ≡ false → Malformed (at + ahead + 1) ≡ rowAt text at
-      given-numbers e = given-no (formed-is ∙ sym (five-formed fields) ∙ e)
+      pub given-numbers : sixOf fields .formed ≡ false → Malformed (at + ahead + 1) ≡ rowAt text at
+      given-numbers e = given-no (formed-is ∙ sym (six-formed fields) ∙ e)
 
-      pub given-row : fiveOf fields .formed ≡ true
-          → Says (stringSaid (fiveOf fields .values)) (at + ahead + 1) ≡ rowAt text at
+      pub given-row : sixOf fields .formed ≡ true
+          → Says (stringSaid (sixOf fields .values)) (at + ahead + 1) ≡ rowAt text at
       unfolding rowString
       given-row t =
-          let five = sym (five-formed fields) ∙ t in
-          let said : stringSaid (fiveOf fields .values) ≡ rowString line = ap stringSaid (five-values fields five
+          let six = sym (six-formed fields) ∙ t in
+          let said : stringSaid (sixOf fields .values) ≡ rowString line = ap stringSaid (six-values fields six
           ∙ ap (map decimalIn) (sym fields-are)) in
-          sym (starts ∙ given-formed line (linesOf (drop (ahead + 1) xs)) at (formed-is ∙ five) ∙ rw (behind, said))
+          sym (starts ∙ given-formed line (linesOf (drop (ahead + 1) xs)) at (formed-is ∙ six) ∙ rw (behind, said))

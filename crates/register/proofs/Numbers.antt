@@ -3,7 +3,7 @@ use Rattle.base.proofs.Prelude.{ℕ, suc, _+_, _-_, _≤_, _<_, _≡_, refl, sy
 use lib.Seq.{take-suc-set}
 use Rattle.base.specs.{Count.{All, every}, Digits.decimalIn}
 use Rattle.base.proofs.{Lists.{by-bool, true-not-false, every-of-all, all-of-every, all-at}, Order.all-append}
-use Rattle.register.specs.{Table.{comma, inFront, fieldsOf, plainNumber, fiveNumbers}, inner.Fields.{noNumbers, fiveOf}}
+use Rattle.register.specs.{Table.{comma, inFront, fieldsOf, plainNumber, sixNumbers}, inner.Fields.{noNumbers, sixOf}}
 
 abbrev pub Plain : List (List ℕ) → Type 0
 Plain fields = All (λ f. plainNumber f ≡ true) fields
@@ -19,24 +19,24 @@ fields-some (b ∷ xs) = by-bool (eqb b comma) (λ t. rw t (omega arith)) (λ e.
     front (f ∷ fields) = omega arith
 
 module _ (fields : List (List ℕ)) where
-  many-or-few : (length fields ≡ 5 → ⊥) → noNumbers ≡ fiveOf fields
-  unfolding fiveOf fiveNumbers
-  many-or-few other = rw (ne-eqb (length fields) 5 other)
+  many-or-few : (length fields ≡ 6 → ⊥) → noNumbers ≡ sixOf fields
+  unfolding sixOf sixNumbers
+  many-or-few other = rw (ne-eqb (length fields) 6 other)
 
-  one-other : every plainNumber fields ≡ false → noNumbers ≡ fiveOf fields
-  unfolding fiveOf fiveNumbers
-  one-other e = by-bool (eqb (length fields) 5) (λ t. rw (t, e)) (λ f. rw f)
+  one-other : every plainNumber fields ≡ false → noNumbers ≡ sixOf fields
+  unfolding sixOf sixNumbers
+  one-other e = by-bool (eqb (length fields) 6) (λ t. rw (t, e)) (λ f. rw f)
 
-  five : (values : List ℕ) → length fields ≡ 5 → Plain fields → values ≡ map decimalIn fields
-      → record { formed = true; values = values } ≡ fiveOf fields
-  unfolding fiveOf fiveNumbers
-  five values count plain said = rw (eq-eqb (length fields) 5 count, every-of-all plainNumber fields plain, said)
+  six : (values : List ℕ) → length fields ≡ 6 → Plain fields → values ≡ map decimalIn fields
+      → record { formed = true; values = values } ≡ sixOf fields
+  unfolding sixOf sixNumbers
+  six values count plain said = rw (eq-eqb (length fields) 6 count, every-of-all plainNumber fields plain, said)
 
-  -- after five there is another
-  pub sixth : (xs : List ℕ) → drop 5 fields ≡ fieldsOf xs → noNumbers ≡ fiveOf fields
-  sixth xs rest =
+  -- after six there is another
+  pub seventh : (xs : List ℕ) → drop 6 fields ≡ fieldsOf xs → noNumbers ≡ sixOf fields
+  seventh xs rest =
       let more = fields-some xs in
-      many-or-few (λ e. omega (arith, length-drop 5 fields, ap length rest))
+      many-or-few (λ e. omega (arith, length-drop 6 fields, ap length rest))
 
   module _ (i : ℕ) (f : List ℕ) (rest : List (List ℕ)) (here : drop i fields ≡ f ∷ rest) where
     counted : length fields ≡ i + suc (length rest)
@@ -54,7 +54,7 @@ module _ (fields : List (List ℕ)) where
     taken =
         rw (add-one i) (take-suc fields i [] (omega (arith, counted)) ∙ ap (λ g. take i fields ++ (g ∷ [])) this)
 
-    pub not-plain : plainNumber f ≡ false → noNumbers ≡ fiveOf fields
+    pub not-plain : plainNumber f ≡ false → noNumbers ≡ sixOf fields
     not-plain e = one-other (by-bool (every plainNumber fields) (λ t. absurd (plain-here t)) (λ g. g))
       where
         plain-here : every plainNumber fields ≡ true → ⊥
@@ -71,14 +71,14 @@ module _ (fields : List (List ℕ)) where
           rw (taken, map-append decimalIn (take i fields) (f ∷ []))
           (rw (add-one i) (take-suc-set values i (decimalIn f) inside) ∙ ap (λ l. l ++ (decimalIn f ∷ [])) said)
 
-      pub last-five : rest ≡ [] → i + 1 ≡ 5 → length values ≡ 5 → Plain (take i fields) → plainNumber f ≡ true
-          → record { formed = true; values = set values i (decimalIn f) } ≡ fiveOf fields
-      last-five none count long before t =
-          let size : length fields ≡ 5 = omega (arith, counted, ap length none) in
+      pub last-six : rest ≡ [] → i + 1 ≡ 6 → length values ≡ 6 → Plain (take i fields) → plainNumber f ≡ true
+          → record { formed = true; values = set values i (decimalIn f) } ≡ sixOf fields
+      last-six none count long before t =
+          let size : length fields ≡ 6 = omega (arith, counted, ap length none) in
           let all : take (i + 1) fields ≡ fields = take-all (i + 1) fields (omega arith) in
           let whole : take (i + 1) (set values i (decimalIn f)) ≡ set values i (decimalIn f) = take-all (i + 1)
           (set values i (decimalIn f)) (omega (arith, length-set values i (decimalIn f))) in
-          five (set values i (decimalIn f)) size (rw all at (plain-next before t)) (sym whole ∙ said-next ∙ ap (map decimalIn) all)
+          six (set values i (decimalIn f)) size (rw all at (plain-next before t)) (sym whole ∙ said-next ∙ ap (map decimalIn) all)
 
-    pub last-few : rest ≡ [] → (i + 1 ≡ 5 → ⊥) → noNumbers ≡ fiveOf fields
+    pub last-few : rest ≡ [] → (i + 1 ≡ 6 → ⊥) → noNumbers ≡ sixOf fields
     last-few none other = many-or-few (λ e. other (omega (arith, counted, ap length none)))

@@ -1,15 +1,15 @@
 -- A row and the string that it says: each says the other.
---     stringNumbers s           T, C, D, X and the moving cost of a string
---     registerRow s               the row of a string, as a line
+--     stringNumbers s       T, C, D, X, the moving cost and J of a string
+--     registerRow s         the row of a string, as a line
 --     Short s               its numbers have at most four digits
-use Rattle.base.proofs.Prelude.{ℕ, zero, suc, _+_, _-_, _*_, _^_, _≤_, _<_, _≡_, refl, sym, ap, _∙_, true, false, Bool, not, _&&_, _||_, List, [], _∷_, _++_, map, append-assoc, arith, decLe, le-leb, eq-eqb, eqb-true, ne-eqb, eqb, leb, length, take, getD, length-append, length-map, take-append-seam, take-all, take-suc}
+use Rattle.base.proofs.Prelude.{ℕ, zero, suc, _+_, _-_, _*_, _^_, _≤_, _<_, _≡_, refl, sym, ap, _∙_, true, false, Bool, not, _&&_, _||_, List, [], _∷_, _++_, map, append-assoc, arith, decLe, le-leb, eq-eqb, eqb-true, ne-eqb, eqb, leb, length, take, drop, getD, length-append, length-map, take-append-seam, take-all, take-suc}
 use lib.Seq.{getD-append-seam}
 use Rattle.base.specs.{Count.{All, every}, Digits.{digitsOf, numberOn, valueOf, figure, worth, decimalIn}}
-use Rattle.base.proofs.{Digits.{digits-one, digits-short, digits-back, digits-below, digits-some, digits-lead, digits-written, figures-worth, worth-figures}, Lists.{by-bool, true-not-false, all-map, and-left, and-right, every-of-all, all-of-every}}
+use Rattle.base.proofs.{Digits.{digits-one, digits-short, digits-back, digits-below, digits-some, digits-lead, digits-written, figures-worth, worth-figures}, Lists.{by-bool, true-not-false, all-map, and-left, and-right, every-of-all, all-of-every}, Order.{all-of, all-mapped}}
 use Rattle.faults.proofs.Checks.{inBounds-low, inBounds-high, inBounds-yes}
 use Rattle.rules.specs.{declared.BatteryString.BatteryString, Lines.{bytesOf, decimal, wordedIn, rowLine}, Text.Line}
 use Rattle.laws.proofs.LineTexts.{lineBytes, NoEnd}
-use Rattle.register.specs.Table.{comma, fieldsOf, isFigure, plainNumber, rowFields, fiveNumbers, rowFormed, stringSaid, rowString}
+use Rattle.register.specs.Table.{comma, fieldsOf, isFigure, plainNumber, rowFields, sixNumbers, rowFormed, stringSaid, rowString}
 use Rattle.register.specs.inner.Fields.{lead}
 use Rattle.register.proofs.{Plain.{plain-short, plain-figures, plain-lead}, Joined.{commaed, commaed-tail, NoComma, fields-commaed, commaed-fields, commaed-all, commaed-long}}
 
@@ -102,7 +102,7 @@ decimal-no-comma n = all-map _ _ no-comma (decimal n) (decimal-figures n)
 -- ---- The row of a string
 
 abbrev pub stringNumbers : BatteryString → List ℕ
-stringNumbers s = s .t .0 ∷ s .c .0 ∷ s .d .0 ∷ s .x ∷ s .a .0 ∷ []
+stringNumbers s = s .t .0 ∷ s .c .0 ∷ s .d .0 ∷ s .x ∷ s .a .0 ∷ s .j .0 ∷ []
 
 abbrev pub Short : BatteryString → Type 0
 Short s = All (λ n. n < 10000) (stringNumbers s)
@@ -142,34 +142,40 @@ module _ (s : BatteryString) where
   unfolding rowFields
   fields-said =
       ap fieldsOf (body-is (fieldsFor s) (registerRow s .bytes) refl)
-      ∙ fields-commaed (decimal (s .t .0)) (map decimal (s .c .0 ∷ s .d .0 ∷ s .x ∷ s .a .0 ∷ [])) (decimal-no-comma (s .t .0))
-      (decimal-no-comma (s .c .0), (decimal-no-comma (s .d .0), (decimal-no-comma (s .x), (decimal-no-comma (s .a .0), tt))))
+      ∙ fields-commaed (decimal (s .t .0)) (map decimal others) (decimal-no-comma (s .t .0))
+      (all-mapped NoComma decimal others (all-of (λ n. NoComma (decimal n)) decimal-no-comma others))
+    where
+      others : List ℕ
+      others = drop 1 (stringNumbers s)
 
   pub row-formed : Short s → rowFormed (registerRow s) ≡ true
-  unfolding rowFormed fiveNumbers
+  unfolding rowFormed sixNumbers
   row-formed short =
       rw (last-is (fieldsFor s) (registerRow s .bytes) refl, fields-said)
-      (every-of-all plainNumber (fieldsFor s) (
-        decimal-plain (s .t .0) (short .0),
-        (
-          decimal-plain (s .c .0) (short .1 .0),
-          (
-            decimal-plain (s .d .0) (short .1 .1 .0),
-            (decimal-plain (s .x) (short .1 .1 .1 .0), (decimal-plain (s .a .0) (short .1 .1 .1 .1 .0), tt)),
-          ),
-        ),
-      ))
+      (every-of-all plainNumber (fieldsFor s)
+      (all-mapped (λ f. plainNumber f ≡ true) decimal (stringNumbers s)
+      (all-map (λ n. n < 10000) (λ n. plainNumber (decimal n) ≡ true) decimal-plain (stringNumbers s) short)))
 
   pub row-says : rowString (registerRow s) ≡ s
   unfolding rowString stringSaid
   row-says =
-      rw (fields-said, decimal-said (s .t .0), decimal-said (s .c .0), decimal-said (s .d .0), decimal-said (s .x), decimal-said (s .a .0))
+      rw (
+        fields-said,
+        decimal-said (s .t .0),
+        decimal-said (s .c .0),
+        decimal-said (s .d .0),
+        decimal-said (s .x),
+        decimal-said (s .a .0),
+        decimal-said (s .j .0),
+      )
 
   -- no 0a stands in it
   pub row-no-end : NoEnd (registerRow s)
   row-no-end =
       commaed-all (λ b. eqb b 0x0a ≡ false) refl (fieldsFor s)
-      (inside (s .t .0), (inside (s .c .0), (inside (s .d .0), (inside (s .x), (inside (s .a .0), tt))))) (0x0d ∷ []) (refl, tt)
+      (all-mapped (λ f. All (λ b. eqb b 0x0a ≡ false) f) decimal (stringNumbers s)
+      (all-of (λ n. All (λ b. eqb b 0x0a ≡ false) (decimal n)) inside (stringNumbers s)))
+      (0x0d ∷ []) (refl, tt)
     where
       no-end : (b : ℕ) → isFigure b ≡ true → eqb b 0x0a ≡ false
       no-end b h =
@@ -179,35 +185,31 @@ module _ (s : BatteryString) where
       inside : (n : ℕ) → All (λ b. eqb b 0x0a ≡ false) (decimal n)
       inside n = all-map _ _ no-end (decimal n) (decimal-figures n)
 
-  pub rowLine-short : Short s → length (rowLine s) ≤ 27
+  pub rowLine-short : Short s → length (rowLine s) ≤ 32
   rowLine-short short =
       let few : (n : ℕ) → n < 10000 → length (decimal n) ≤ 4 = λ n h. decimal-long n h .1 in
+      let fields : All (λ f. length f ≤ 4) (fieldsFor s) = all-mapped (λ f. length f ≤ 4) decimal (stringNumbers s)
+      (all-map (λ n. n < 10000) (λ n. length (decimal n) ≤ 4) few (stringNumbers s) short) in
       omega (
         arith,
         ap length (row-line s),
         length-append (registerRow s .bytes) (0x0a ∷ []),
-        commaed-long (fieldsFor s) (
-          few (s .t .0) (short .0),
-          (
-            few (s .c .0) (short .1 .0),
-            (few (s .d .0) (short .1 .1 .0), (few (s .x) (short .1 .1 .1 .0), (few (s .a .0) (short .1 .1 .1 .1 .0), tt))),
-          ),
-        )
-            (0x0d ∷ []),
+        commaed-long (fieldsFor s) fields (0x0d ∷ []),
       )
 
 -- ---- The string of a row
 
--- five numbers make a string that has them
-numbers-back : (ns : List ℕ) → length ns ≡ 5 → stringNumbers (stringSaid ns) ≡ ns
+-- six numbers make a string that has them
+numbers-back : (ns : List ℕ) → length ns ≡ 6 → stringNumbers (stringSaid ns) ≡ ns
 unfolding stringSaid
 numbers-back [] h = absurd (omega arith)
 numbers-back (a ∷ []) h = absurd (omega arith)
 numbers-back (a ∷ b ∷ []) h = absurd (omega arith)
 numbers-back (a ∷ b ∷ c ∷ []) h = absurd (omega arith)
 numbers-back (a ∷ b ∷ c ∷ d ∷ []) h = absurd (omega arith)
-numbers-back (a ∷ b ∷ c ∷ d ∷ e ∷ []) h = refl
-numbers-back (a ∷ b ∷ c ∷ d ∷ e ∷ f ∷ ns) h = absurd (omega arith)
+numbers-back (a ∷ b ∷ c ∷ d ∷ e ∷ []) h = absurd (omega arith)
+numbers-back (a ∷ b ∷ c ∷ d ∷ e ∷ f ∷ []) h = refl
+numbers-back (a ∷ b ∷ c ∷ d ∷ e ∷ f ∷ g ∷ ns) h = absurd (omega arith)
 
 plains-written : (fields : List (List ℕ)) → All (λ f. plainNumber f ≡ true) fields → map decimal (map decimalIn fields) ≡ fields
 plains-written [] h = refl
@@ -222,25 +224,25 @@ module _ (line : Line) (formed : rowFormed line ≡ true) where
 
   pub formed-ended : line .ended ≡ true
   unfolding rowFormed
-  formed-ended = and-left (line .ended) cr (and-left (line .ended && cr) (fiveNumbers (rowFields line)) formed)
+  formed-ended = and-left (line .ended) cr (and-left (line .ended && cr) (sixNumbers (rowFields line)) formed)
 
   returned : cr ≡ true
   unfolding rowFormed
-  returned = and-right (line .ended) cr (and-left (line .ended && cr) (fiveNumbers (rowFields line)) formed)
+  returned = and-right (line .ended) cr (and-left (line .ended && cr) (sixNumbers (rowFields line)) formed)
 
-  five : fiveNumbers (rowFields line) ≡ true
+  six : sixNumbers (rowFields line) ≡ true
   unfolding rowFormed
-  five = and-right (line .ended && cr) (fiveNumbers (rowFields line)) formed
+  six = and-right (line .ended && cr) (sixNumbers (rowFields line)) formed
 
-  count : length (rowFields line) ≡ 5
-  unfolding fiveNumbers
-  count = eqb-true (length (rowFields line)) 5 (and-left (eqb (length (rowFields line)) 5) (every plainNumber (rowFields line)) five)
+  count : length (rowFields line) ≡ 6
+  unfolding sixNumbers
+  count = eqb-true (length (rowFields line)) 6 (and-left (eqb (length (rowFields line)) 6) (every plainNumber (rowFields line)) six)
 
   plains : All (λ f. plainNumber f ≡ true) (rowFields line)
-  unfolding fiveNumbers
+  unfolding sixNumbers
   plains =
       all-of-every plainNumber (rowFields line)
-      (and-right (eqb (length (rowFields line)) 5) (every plainNumber (rowFields line)) five)
+      (and-right (eqb (length (rowFields line)) 6) (every plainNumber (rowFields line)) six)
 
   -- the bytes are the fields, commaed, and the CR
   whole : line .bytes ≡ commaed (rowFields line) (0x0d ∷ [])

@@ -5,7 +5,7 @@
 --     rowAt text at         what a reader gives that stands at the place `at` of a text
 --     asked k text at       what a reader gives that is asked k times from the place `at` on, and moves on each time
 --     rowsGiven lines at    what is given of each of lines that start at the place `at`
---     rowSays row           what is given, in numbers: T, C, D, X, the moving cost; 13 for a line that is no row; with the next place
+--     rowSays row           what is given, in numbers: T, C, D, X, the moving cost, J; 13 for a line that is no row; with the next place
 use Prim.Native.Nat.{ℕ, zero, suc, _+_}
 use mathlib.Core.Bool.{cond}
 use mathlib.Core.List.{List, [], _∷_}
@@ -50,9 +50,9 @@ rowsGiven (line ∷ lines) at = rowGiven (line ∷ lines) at ∷ rowsGiven lines
 pub data RowTold : Type 0 where
   ended : RowTold
   no-row : ℕ → ℕ → RowTold
-  row : ℕ → ℕ → ℕ → ℕ → ℕ → ℕ → RowTold
+  row : ℕ → ℕ → ℕ → ℕ → ℕ → ℕ → ℕ → RowTold
 
 abbrev pub rowSays : Row → RowTold
 rowSays End = ended
 rowSays (Malformed next) = no-row (faultNumber RowMalformed) next
-rowSays (Says s next) = row (s .t .0) (s .c .0) (s .d .0) (s .x) (s .a .0) next
+rowSays (Says s next) = row (s .t .0) (s .c .0) (s .d .0) (s .x) (s .a .0) (s .j .0) next

@@ -1,9 +1,9 @@
--- The asset register's table (document 02, W-210): a line for each string, T,C,D,X,moving cost in decimal, ended by CR LF. A line is what
--- stands up to its 0a (rules/specs/Text.antt), so the CR is the last of its bytes.
+-- The asset register's table (document 02, W-210 and W-213): a line for each string, T,C,D,X,moving cost,J in decimal, ended by CR LF. A
+-- line is what stands up to its 0a (rules/specs/Text.antt), so the CR is the last of its bytes.
 --     fieldsOf bytes        what stands between commas
 --     plainNumber field     one to four decimal digits without leading zeros; a single 0 is a number
 --     rowFields line        the fields of a line, without its CR
---     rowFormed line        five such numbers, CR and LF
+--     rowFormed line        six such numbers, CR and LF
 --     rowString line        the string that they say
 --     rowsCheck k lines     of lines from number k on: 4 for the eleventh, whatever it holds; else 13, then 5, line by line
 --     tablePlan run lines   the plan of rows, with an N given beside them
@@ -56,19 +56,26 @@ plainNumber field =
 unfoldable pub rowFields : Line → List (List ℕ)
 rowFields line = fieldsOf (take (length (line .bytes) - 1) (line .bytes))
 
-unfoldable pub fiveNumbers : List (List ℕ) → Bool
-fiveNumbers fields = eqb (length fields) 5 && every plainNumber fields
+unfoldable pub sixNumbers : List (List ℕ) → Bool
+sixNumbers fields = eqb (length fields) 6 && every plainNumber fields
 
 unfoldable pub rowFormed : Line → Bool
 rowFormed line =
     line .ended
     && eqb (getD (line .bytes) (length (line .bytes) - 1) 0) 0x0d
-    && fiveNumbers (rowFields line)
+    && sixNumbers (rowFields line)
 
--- T, C, D, X, moving cost
+-- T, C, D, X, moving cost, J
 unfoldable pub stringSaid : List ℕ → BatteryString
 stringSaid ns =
-    record { t = days (getD ns 0 0); c = days (getD ns 1 0); d = days (getD ns 2 0); x = getD ns 3 0; a = days (getD ns 4 0) }
+    record {
+      t = days (getD ns 0 0);
+      c = days (getD ns 1 0);
+      d = days (getD ns 2 0);
+      x = getD ns 3 0;
+      a = days (getD ns 4 0);
+      j = days (getD ns 5 0);
+    }
 
 unfoldable pub rowString : Line → BatteryString
 rowString line = stringSaid (map decimalIn (rowFields line))

@@ -3,17 +3,17 @@ ghost use mathlib.Core.Path.{_≡_};
 ghost use Prim.Native.Nat.{_+_, _≤_};
 ghost use lib.ListN.{length, drop};
 ghost use Rattle.register.specs.Table.{fieldsOf};
-ghost use Rattle.register.specs.inner.Fields.{bytesAhead, lead, numberOr, fiveOf};
+ghost use Rattle.register.specs.inner.Fields.{bytesAhead, lead, numberOr, sixOf};
 
-// Five numbers; zeros where a row is not formed so.
+// Six numbers; zeros where a row is not formed so.
 pub(crate) struct Numbers {
     pub(crate) formed: bool,
-    pub(crate) values: [u32; 5],
+    pub(crate) values: [u32; 6],
 }
 
 const NO_NUMBERS: Numbers = Numbers {
     formed: false,
-    values: [0; 5],
+    values: [0; 6],
 };
 
 // No field of four digits says so much.
@@ -77,12 +77,12 @@ fn number_in(field: &[u8]) -> u32
 
 // The numbers of a row without its line end, field by field.
 pub(crate) fn numbers_in(row: &[u8]) -> Numbers
-    ensures exact { λ r. ⌜ r ≡ fiveOf (fieldsOf (now (row .entry))) ⌝ }
+    ensures exact { λ r. ⌜ r ≡ sixOf (fieldsOf (now (row .entry))) ⌝ }
 {
-    let mut values = [0u32; 5];
+    let mut values = [0u32; 6];
     let mut from: usize = 0;
     let mut i: usize = 0;
-    while i < 5 {
+    while i < 6 {
         let to = stop_at(row, from, b',');
         let n = number_in(&row[from..to]);
         if NO_NUMBER <= n {
@@ -91,7 +91,7 @@ pub(crate) fn numbers_in(row: &[u8]) -> Numbers
         values[i] = n;
         i += 1;
         if to == row.len() {
-            if i == 5 {
+            if i == 6 {
                 return Numbers {
                     formed: true,
                     values,

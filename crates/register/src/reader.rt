@@ -9,8 +9,8 @@ ghost use mathlib.Core.Path.{_≡_};
 ghost use Rattle.register.specs.Table.{stringSaid};
 ghost use Rattle.register.specs.Reader.{rowAt};
 
-// T, C, D, X, moving cost.
-fn string_from(values: [u32; 5]) -> BatteryString
+// T, C, D, X, moving cost, J.
+fn string_from(values: [u32; 6]) -> BatteryString
     ensures exact { λ r. ⌜ r ≡ stringSaid values ⌝ }
 {
     BatteryString {
@@ -19,10 +19,11 @@ fn string_from(values: [u32; 5]) -> BatteryString
         d: Length(values[2]),
         x: values[3],
         a: Length(values[4]),
+        j: Length(values[5]),
     }
 }
 
-// The line that starts at a place of a text: it ends by CR LF, and five numbers stand ahead of that.
+// The line that starts at a place of a text: it ends by CR LF, and six numbers stand ahead of that.
 pub(crate) fn row_at(text: &[u8], at: usize) -> Row
     ensures exact { λ r. ⌜ r ≡ rowAt (now (text .entry)) at ⌝ }
 {

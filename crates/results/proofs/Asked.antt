@@ -1,4 +1,4 @@
--- What one string asks: nothing before its D, a whole E from D on, less under blocking; and once it is eased, no more than before.
+-- What one string asks: nothing before its D − J, a whole E from there on, less under blocking; and once it is eased, no more than before.
 use Rattle.base.proofs.Prelude.{ℕ, _+_, _-_, _*_, _≤_, _<_, _≡_, ap, _∙_, arith, decLe, ℕ-discrete, le-refl, mul-le-mul, one-mul, zero-mul}
 use Rattle.rules.specs.{declared.BatteryString.BatteryString, declared.Plan.Plan, Demand.{movingCost, holdOf, jobs, blockerHold, need}}
 use Rattle.laws.proofs.{Lawful.LawfulString, Jobs.{jobs-short, jobs-first, jobs-window, jobs-last, jobs-mono}, Demand.{need-taker, need-keeper, need-unblocked, blockerHold-early, blockerHold-late}}
@@ -7,18 +7,18 @@ use Rattle.results.specs.Easing.{Eased}
 -- ---- A string as it is
 
 module _ (p : Plan) (l : ℕ) (s : BatteryString) where
-  -- before its D it asks for nothing
-  need-early : (b : ℕ) → l < s .d .0 → need p l b s ≡ 0
+  -- before its D − J it asks for nothing
+  need-early : (b : ℕ) → l + s .j .0 < s .d .0 → need p l b s ≡ 0
   need-early b early =
-      let short : l - b < s .d .0 = omega arith in
+      let short : l - b + s .j .0 < s .d .0 = omega arith in
       elim (ℕ-discrete (s .x) 1) [
         | yes taker ↦ need-taker p l b s taker ∙ ap (λ k. k * holdOf p s) (jobs-short s (l - b) short) ∙ zero-mul (holdOf p s)
         | no keeper ↦ need-keeper p l b s keeper ∙ ap (λ k. k * s .c .0) (jobs-short s l early) ∙ zero-mul (s .c .0)
       ]
 
   module _ (ok : LawfulString s) where
-    -- from D on it asks for a whole job at least, where nothing blocks
-    need-whole : s .d .0 ≤ l → holdOf p s ≤ need p l 0 s
+    -- from there on it asks for a whole job at least, where nothing blocks
+    need-whole : s .d .0 ≤ l + s .j .0 → holdOf p s ≤ need p l 0 s
     need-whole long =
         let once : 1 * holdOf p s ≤ jobs s l * holdOf p s = mul-le-mul (jobs-first s l long) (le-refl (holdOf p s)) in
         omega (arith, need-unblocked p l s (ok .xMax), one-mul (holdOf p s))
@@ -35,16 +35,16 @@ module _ (p : Plan) (l : ℕ) (s : BatteryString) where
 
 -- ---- And eased
 
--- releases farther apart and due later: as many jobs or fewer
+-- due days farther apart, deadlines later, fewer late days: as many jobs or fewer
 jobs-eased : (old new : BatteryString) → Eased old new → 1 ≤ old .t .0 → (w : ℕ) → jobs new w ≤ jobs old w
 jobs-eased old new easier pos w =
-    elim (decLe (new .d .0) w) [
+    elim (decLe (new .d .0) (w + new .j .0)) [
       | yes long ↦
           let some = jobs-first new w long in
           let last = jobs-last new w (omega (arith, easier .apart)) long in
           let closer : (jobs new w - 1) * old .t .0 ≤ (jobs new w - 1) * new .t .0 =
           mul-le-mul (le-refl (jobs new w - 1)) (easier .apart) in
-          omega (arith, jobs-window old (jobs new w - 1) w pos (omega (arith, easier .due)))
+          omega (arith, jobs-window old (jobs new w - 1) w pos (omega (arith, easier .due, easier .late)))
       | no short ↦ omega (arith, jobs-short new w (omega arith))
     ]
 
@@ -72,7 +72,8 @@ module _ (p q : Plan) (old new : BatteryString) (easier : Eased old new) where
               omega (arith, need-keeper q l b new still, need-keeper p l b old keeper, mul-le-mul fewer (easier .work))
         ]
 
-    -- one that blocks, and did not block for as long before, was due within l before: it asked for its whole E, and now asks for nothing
+    -- one that blocks, and did not block for as long before, was due within l before: it asked for its whole E; its D has grown, so it has
+    -- no late days, and now asks for nothing
     pub blocker-asked : 1 ≤ b → b ≤ blockerHold q l new → blockerHold p l old < b → b + need q l b new ≤ need p l 0 old
     blocker-asked some blocks more =
         elim (decLe (new .d .0) l) [
@@ -84,12 +85,13 @@ module _ (p q : Plan) (old new : BatteryString) (easier : Eased old new) where
         due-before early =
             elim (decLe (old .d .0) l) [
               | yes within ↦
+                  let on-time : new .j .0 ≡ 0 = easier .grown (omega arith) in
                   omega (
                     arith,
                     blockerHold-early q l new early,
                     hold-eased,
-                    need-whole p l old ok within,
-                    need-early q l new b early,
+                    need-whole p l old ok (omega arith),
+                    need-early q l new b (omega arith),
                   )
               | no beyond ↦
                   let blocked : blockerHold p l old ≡ holdOf p old - 1 = blockerHold-early p l old (omega arith) in

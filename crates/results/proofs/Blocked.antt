@@ -1,7 +1,7 @@
 -- The blocking that an eased plan allows. With it the strings ask for no more than before. If the old plan did not allow it, then a string
 -- whose D grew past the interval allows it now; with no blocking the old plan asked for that string's E, and for all that the others ask.
 use Rattle.base.proofs.Prelude.{ℕ, _+_, _≤_, _<_, List, _≡_, arith, decLe, le-refl, length}
-use Rattle.rules.specs.{declared.BatteryString.BatteryString, declared.Plan.Plan, Plan.{stringsOf, noString, dMin, dMax}, Demand.{blockerHold, blockLimit, need}}
+use Rattle.rules.specs.{declared.BatteryString.BatteryString, declared.Plan.Plan, Plan.{stringsOf, noString, leeway, leewayMin, dMax}, Demand.{blockerHold, blockLimit, need}}
 use Rattle.base.specs.Count.{sumOf, largest, smallest}
 use Rattle.base.proofs.Lists.{All, all-map, sumOf-le, largest-ge, largest-le, largest-some, smallest-le, smallest-above}
 use Rattle.laws.proofs.{Lawful.LawfulString, Demand.{blockLimit-early, blockLimit-late, blockLimit-interval, blockLimit-between, blockerHold-late}}
@@ -58,8 +58,8 @@ module _ (p q : Plan) (l b : ℕ) where
 module _ (p : Plan) (l b : ℕ) (some : 1 ≤ b) where
   -- a blocking within the limit: some D is within l, some string blocks for as long
   module _ (under : b ≤ blockLimit p l) where
-    limit-from : dMin p ≤ l
-    limit-from = elim (decLe (dMin p) l) [ yes from ↦ from | no early ↦ absurd (omega (arith, blockLimit-early p l (omega arith))) ]
+    limit-from : leewayMin p ≤ l
+    limit-from = elim (decLe (leewayMin p) l) [ yes from ↦ from | no early ↦ absurd (omega (arith, blockLimit-early p l (omega arith))) ]
 
     limit-until : l < dMax p
     limit-until = elim (decLe (dMax p) l) [ yes late ↦ absurd (omega (arith, blockLimit-late p l late)) | no until ↦ omega arith ]
@@ -79,28 +79,29 @@ module _ (p : Plan) (l b : ℕ) (some : 1 ≤ b) where
           (λ s within. omega (arith, blockerHold-late p l s (omega arith))) (stringsOf p) (largest-ge (λ s. s .d .0) (stringsOf p)) in
           omega (arith, largest-le (blockerHold p l) 0 (stringsOf p) idle)
 
-  limit-reaches : dMin p ≤ l → b ≤ l → b ≤ largest (blockerHold p l) (stringsOf p) → b ≤ blockLimit p l
+  limit-reaches : leewayMin p ≤ l → b ≤ l → b ≤ largest (blockerHold p l) (stringsOf p) → b ≤ blockLimit p l
   limit-reaches from within blocks = omega (arith, blockLimit-between p l from (blocker-until blocks))
 
--- ---- The smallest D
+-- ---- The smallest D − J
 
-beyond-eased : (l : ℕ) {olds news : List BatteryString} → EasedStrings olds news → All (λ s. l < s .d .0) olds → All (λ s. l < s .d .0) news
+beyond-eased : (l : ℕ) {olds news : List BatteryString} → EasedStrings olds news → All (λ s. l < leeway s) olds
+    → All (λ s. l < leeway s) news
 beyond-eased l end all = tt
-beyond-eased l (eased easier rest) all = (omega (arith, all .0, easier .due), beyond-eased l rest (all .1))
+beyond-eased l (eased easier rest) all = (omega (arith, all .0, easier .due, easier .late), beyond-eased l rest (all .1))
 beyond-eased l (dropped rest) all = beyond-eased l rest (all .1)
 
 -- it is no smaller in the eased plan, where a string is left
-dMin-eased : (p q : Plan) (l : ℕ) → EasedPlan p q → 0 < length (stringsOf q) → dMin q ≤ l → dMin p ≤ l
-unfolding dMin
-dMin-eased p q l easier left from =
-    elim (decLe (smallest (λ s. s .d .0) (stringsOf p)) l) [ yes within ↦ within | no over ↦ absurd (later (omega arith)) ]
+leewayMin-eased : (p q : Plan) (l : ℕ) → EasedPlan p q → 0 < length (stringsOf q) → leewayMin q ≤ l → leewayMin p ≤ l
+unfolding leewayMin
+leewayMin-eased p q l easier left from =
+    elim (decLe (smallest leeway (stringsOf p)) l) [ yes within ↦ within | no over ↦ absurd (later (omega arith)) ]
   where
-    later : l < smallest (λ s. s .d .0) (stringsOf p) → ⊥
+    later : l < smallest leeway (stringsOf p) → ⊥
     later over =
-        let beyond : All (λ s. l < s .d .0) (stringsOf p) =
-        all-map (λ s. smallest (λ r. r .d .0) (stringsOf p) ≤ s .d .0) (λ s. l < s .d .0) (λ s least. omega arith) (stringsOf p)
-        (smallest-le (λ s. s .d .0) (stringsOf p)) in
-        omega (arith, smallest-above (λ s. s .d .0) l (stringsOf q) left (beyond-eased l easier beyond))
+        let beyond : All (λ s. l < leeway s) (stringsOf p) =
+        all-map (λ s. smallest leeway (stringsOf p) ≤ leeway s) (λ s. l < leeway s) (λ s least. omega arith) (stringsOf p)
+        (smallest-le leeway (stringsOf p)) in
+        omega (arith, smallest-above leeway l (stringsOf q) left (beyond-eased l easier beyond))
 
 -- ---- A blocking that the eased plan allows
 
@@ -111,5 +112,5 @@ module _ (p q : Plan) (l b : ℕ) (easier : EasedPlan p q) (some : 1 ≤ b) (und
       let now = limit-blocks q l b some under in
       let blocker = largest-some (blockerHold q l) 0 (stringsOf q) noString (omega arith) in
       let left : 0 < length (stringsOf q) = omega (arith, blocker .1) in
-      let from = dMin-eased p q l easier left (limit-from q l b some under) in
+      let from = leewayMin-eased p q l easier left (limit-from q l b some under) in
       limit-reaches p l b some from (omega (arith, blockLimit-interval q l)) blocks

@@ -1,5 +1,5 @@
 -- A change of one string alone is an easing: a string eased at its place, or dropped, and the others as they were.
-use Rattle.base.proofs.Prelude.{ℕ, zero, suc, _≡_, refl, List, [], _∷_, _++_, le-refl, getD, take, drop, set}
+use Rattle.base.proofs.Prelude.{ℕ, zero, suc, _≡_, refl, List, [], _∷_, _++_, arith, le-refl, getD, take, drop, set}
 use Rattle.rules.specs.{declared.BatteryString.BatteryString, declared.Plan.Plan, Plan.{stringsOf, noString}}
 use Rattle.results.specs.Easing.{Eased, EasedStrings, end, eased, dropped, EasedPlan}
 
@@ -11,6 +11,8 @@ same-string s =
       work = le-refl (s .c .0);
       apart = le-refl (s .t .0);
       due = le-refl (s .d .0);
+      late = le-refl (s .j .0);
+      grown = λ more. absurd (omega arith);
       moving = le-refl (s .a .0);
       permission = refl;
     }

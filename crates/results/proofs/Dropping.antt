@@ -84,7 +84,15 @@ carried-below (dropped rest) m = carried-below rest (m / 2)
 -- a string is eased whatever permission both are given
 permitted-eased : (old new : BatteryString) (x : ℕ) → Eased old new → Eased (permitted old x) (permitted new x)
 permitted-eased old new x easier =
-    record { work = easier .work; apart = easier .apart; due = easier .due; moving = easier .moving; permission = refl }
+    record {
+      work = easier .work;
+      apart = easier .apart;
+      due = easier .due;
+      late = easier .late;
+      grown = easier .grown;
+      moving = easier .moving;
+      permission = refl;
+    }
 
 carried-eased : {olds news : List BatteryString} (easier : EasedStrings olds news) (m : ℕ)
     → EasedStrings (permit m olds) (permit (carried easier m) news)

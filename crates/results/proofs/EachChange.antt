@@ -5,7 +5,7 @@ use Rattle.base.proofs.Prelude.{ℕ, _≡_, refl, true, List, [], _∷_, leb, l
 use mathlib.Core.List.{flatMap}
 use Rattle.faults.specs.declared.Checked.the-variants.{Lawful}
 use Rattle.base.specs.Count.{All, sumOf, largest, smallest, smallestWith, every, upFrom, leastFrom, firstOf}
-use Rattle.rules.specs.{declared.BatteryString.BatteryString, declared.Plan.Plan, Said.{Said, pass, askedVerdictSays}, Plan.{stringsOf, noString, stringLawful, commonMultiple, multipleOf, dMin, dMax}, Demand.{movingCost, holdOf, jobs, blockerHold, blockLimit, need, demand, load, overloaded}, Verdict.{pairsAt, allPairs, broken, compared, judged, verdictOver}, Search.{permit, withSet}, Refusal.{countCheck, runLengthCheck, costCheck, stringsCheck, multipleCheck, planCheck, verdictAnswer}}
+use Rattle.rules.specs.{declared.BatteryString.BatteryString, declared.Plan.Plan, Said.{Said, pass, askedVerdictSays}, Plan.{stringsOf, noString, stringLawful, commonMultiple, multipleOf, leewayMin, dMax}, Demand.{movingCost, holdOf, jobs, blockerHold, blockLimit, need, demand, load, overloaded}, Verdict.{pairsAt, allPairs, broken, compared, judged, verdictOver}, Search.{permit, withSet}, Refusal.{countCheck, runLengthCheck, costCheck, stringsCheck, multipleCheck, planCheck, verdictAnswer}}
 use Rattle.rules.proofs.Worked.{string, paying, planOf, plan}
 use Rattle.results.specs.{Easing.{Eased, EasedPlan, eased, dropped, end}, Change.{Change, Eases}}
 use Rattle.results.proofs.Changes.{one-eased, one-dropped}
@@ -51,9 +51,17 @@ listed = shorter ∷ rarer ∷ postponed ∷ nearer ∷ fewer ∷ together ∷ [
 
 by-numbers :
     (old new : BatteryString) → leb (new .c .0) (old .c .0) ≡ true → leb (old .t .0) (new .t .0) ≡ true → leb (old .d .0) (new .d .0) ≡ true
-    → leb (new .a .0) (old .a .0) ≡ true → new .x ≡ old .x → Eased old new
-by-numbers old new c t d a x =
-    record { work = leb-true _ _ c; apart = leb-true _ _ t; due = leb-true _ _ d; moving = leb-true _ _ a; permission = x }
+    → leb (new .a .0) (old .a .0) ≡ true → leb (new .j .0) (old .j .0) ≡ true → new .j .0 ≡ 0 → new .x ≡ old .x → Eased old new
+by-numbers old new c t d a j none x =
+    record {
+      work = leb-true _ _ c;
+      apart = leb-true _ _ t;
+      due = leb-true _ _ d;
+      late = leb-true _ _ j;
+      grown = λ h. none;
+      moving = leb-true _ _ a;
+      permission = x;
+    }
 
 -- the string at place i + 1 alone is another
 one : (c : Change) (i : ℕ) → Eased (getD (stringsOf (c .before)) i noString) (getD (stringsOf (c .after)) i noString)
@@ -68,24 +76,25 @@ pub each-change : All Eases listed
 unfolding
     listed shorter rarer postponed nearer fewer together uneased string paying planOf plan
     flatMap sumOf largest smallest smallestWith every upFrom leastFrom firstOf
-    stringLawful commonMultiple multipleOf dMin dMax
+    stringLawful commonMultiple multipleOf leewayMin dMax
     movingCost holdOf jobs blockerHold blockLimit need demand load overloaded
     pairsAt allPairs broken compared judged verdictOver
     permit withSet
     countCheck runLengthCheck costCheck stringsCheck multipleCheck planCheck verdictAnswer
 each-change = (
-  row shorter (one shorter 0 (by-numbers _ _ refl refl refl refl refl) refl) refl refl refl,
+  row shorter (one shorter 0 (by-numbers _ _ refl refl refl refl refl refl refl) refl) refl refl refl,
   (
-    row rarer (one rarer 1 (by-numbers _ _ refl refl refl refl refl) refl) refl refl refl,
+    row rarer (one rarer 1 (by-numbers _ _ refl refl refl refl refl refl refl) refl) refl refl refl,
     (
-      row postponed (one postponed 2 (by-numbers _ _ refl refl refl refl refl) refl) refl refl refl,
+      row postponed (one postponed 2 (by-numbers _ _ refl refl refl refl refl refl refl) refl) refl refl refl,
       (
-        row nearer (one nearer 2 (by-numbers _ _ refl refl refl refl refl) refl) refl refl refl,
+        row nearer (one nearer 2 (by-numbers _ _ refl refl refl refl refl refl refl) refl) refl refl refl,
         (
           row fewer (one-dropped uneased (fewer .after) 1 refl) refl refl refl,
           (
             row together
-                (eased (by-numbers _ _ refl refl refl refl refl) (dropped (eased (by-numbers _ _ refl refl refl refl refl) end)))
+                (eased (by-numbers _ _ refl refl refl refl refl refl refl)
+                (dropped (eased (by-numbers _ _ refl refl refl refl refl refl refl) end)))
                 refl refl refl,
             tt,
           ),

@@ -19,7 +19,7 @@ pub mod TwoSites
 -- Easing never hurts. Asked: what one string asks, and no more once it is eased. Blocked: a blocking that the eased plan allows was
 -- allowed before, or asked for. NeverHurts: the plan still passes. Changes: a change of one string alone is an easing. Dropping:
 -- without a string the plan is lawful still, and a permission set goes along. EachChange: a table of them. Permissions: a change of
--- permissions is none.
+-- permissions is none. DueLater: nor is a D that grows where there are late days.
 pub mod Asked
 pub mod Blocked
 pub mod NeverHurts
@@ -27,9 +27,12 @@ pub mod Changes
 pub mod Dropping
 pub mod EachChange
 pub mod Permissions
+pub mod DueLater
 -- Blockers side by side. Weaker: a longer blocker is the stricter rule, and what that means for plans and sets that passed before W-205.
 -- Ruled: a rule is decided by its range. SideBySide: four rules in one table. ADayIsAll: no more than a day can be taken off.
 pub mod Weaker
 pub mod Ruled
 pub mod SideBySide
 pub mod ADayIsAll
+-- Late access. OnTime: without late days, and with each release on its due day, every rule is what it was.
+pub mod OnTime

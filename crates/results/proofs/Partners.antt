@@ -12,47 +12,57 @@ use Rattle.results.proofs.Ranks.{rank, placesLikeFrom, Ranked, ranked, 
 
 -- ---- Alike is equal
 
--- a string is its five numbers
-abbrev numbered : ℕ → ℕ → ℕ → ℕ → ℕ → BatteryString
-numbered t c d x a = record { t = days t; c = days c; d = days d; x = x; a = days a }
+-- a string is its six numbers
+abbrev numbered : ℕ → ℕ → ℕ → ℕ → ℕ → ℕ → BatteryString
+numbered t c d x a j = record { t = days t; c = days c; d = days d; x = x; a = days a; j = days j }
 
-all-five : (a b c d e : Bool) → (a && b && c && d && e) ≡ true → (a ≡ true) × (b ≡ true) × (c ≡ true) × (d ≡ true) × (e ≡ true)
-all-five a b c d e h =
-    let four = and-left (a && b && c && d) e h in
+all-six : (a b c d e f : Bool) → (a && b && c && d && e && f) ≡ true
+    → (a ≡ true) × (b ≡ true) × (c ≡ true) × (d ≡ true) × (e ≡ true) × (f ≡ true)
+all-six a b c d e f h =
+    let five = and-left (a && b && c && d && e) f h in
+    let four = and-left (a && b && c && d) e five in
     let three = and-left (a && b && c) d four in
-    let two = and-left (a && b) c three in
-    (and-left a b two, and-right a b two, and-right (a && b) c three, and-right (a && b && c) d four, and-right (a && b && c && d) e h)
+    let two = and-left (a && b) c three in (
+      and-left a b two,
+      and-right a b two,
+      and-right (a && b) c three,
+      and-right (a && b && c) d four,
+      and-right (a && b && c && d) e five,
+      and-right (a && b && c && d && e) f h,
+    )
 
 pub alike-same : (s u : BatteryString) → alike s u ≡ true → s ≡ u
 unfolding alike
 alike-same s u h =
     let tests =
-    all-five (eqb (s .t .0) (u .t .0)) (eqb (s .c .0) (u .c .0)) (eqb (s .d .0) (u .d .0)) (eqb (s .x) (u .x))
-    (eqb (s .a .0) (u .a .0)) h in
+    all-six (eqb (s .t .0) (u .t .0)) (eqb (s .c .0) (u .c .0)) (eqb (s .d .0) (u .d .0)) (eqb (s .x) (u .x))
+    (eqb (s .a .0) (u .a .0)) (eqb (s .j .0) (u .j .0)) h in
     let t : s .t .0 ≡ u .t .0 = eqb-true (s .t .0) (u .t .0) (tests .0) in
     let c : s .c .0 ≡ u .c .0 = eqb-true (s .c .0) (u .c .0) (tests .1) in
     let d : s .d .0 ≡ u .d .0 = eqb-true (s .d .0) (u .d .0) (tests .2) in
     let x : s .x ≡ u .x = eqb-true (s .x) (u .x) (tests .3) in
     let a : s .a .0 ≡ u .a .0 = eqb-true (s .a .0) (u .a .0) (tests .4) in
-    let both : numbered (s .t .0) (s .c .0) (s .d .0) (s .x) (s .a .0) ≡ numbered (u .t .0) (u .c .0) (u .d .0) (u .x) (u .a .0) =
-    rw (t, c, d, x, a) in
+    let j : s .j .0 ≡ u .j .0 = eqb-true (s .j .0) (u .j .0) (tests .5) in
+    let both : numbered (s .t .0) (s .c .0) (s .d .0) (s .x) (s .a .0) (s .j .0)
+    ≡ numbered (u .t .0) (u .c .0) (u .d .0) (u .x) (u .a .0) (u .j .0) =
+    rw (t, c, d, x, a, j) in
     both
 
 pub alike-self : (s : BatteryString) → alike s s ≡ true
 unfolding alike
 alike-self s =
     rw (eq-eqb (s .t .0) (s .t .0) refl, eq-eqb (s .c .0) (s .c .0) refl, eq-eqb (s .d .0) (s .d .0) refl)
-    (rw (eq-eqb (s .x) (s .x) refl, eq-eqb (s .a .0) (s .a .0) refl))
+    (rw (eq-eqb (s .x) (s .x) refl, eq-eqb (s .a .0) (s .a .0) refl, eq-eqb (s .j .0) (s .j .0) refl))
 
 pub alike-not : (s u : BatteryString) → (s ≡ u → ⊥) → alike s u ≡ false
 alike-not s u other = by-bool (alike s u) (λ t. absurd (other (alike-same s u t))) (λ e. e)
 
 pub like-yes : (s u : BatteryString) → s .t .0 ≡ u .t .0 → s .c .0 ≡ u .c .0 → s .d .0 ≡ u .d .0 → s .x ≡ u .x → s .a .0 ≡ u .a .0
-    → alike s u ≡ true
+    → s .j .0 ≡ u .j .0 → alike s u ≡ true
 unfolding alike
-like-yes s u t c d x a =
+like-yes s u t c d x a j =
     rw (eq-eqb (s .t .0) (u .t .0) t, eq-eqb (s .c .0) (u .c .0) c, eq-eqb (s .d .0) (u .d .0) d)
-    (rw (eq-eqb (s .x) (u .x) x, eq-eqb (s .a .0) (u .a .0) a))
+    (rw (eq-eqb (s .x) (u .x) x, eq-eqb (s .a .0) (u .a .0) a, eq-eqb (s .j .0) (u .j .0) j))
 
 -- ---- The partner, counted from 0
 

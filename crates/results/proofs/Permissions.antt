@@ -3,7 +3,7 @@
 use Rattle.base.proofs.Prelude.{_≡_, refl, sym, ap, _∙_, Bool, true, false}
 use mathlib.Core.List.{flatMap}
 use Rattle.faults.specs.{declared.Checked.Checked, declared.Checked.the-variants.Lawful}
-use Rattle.rules.specs.{Said.{Said, overload, fail, pass, askedVerdictSays}, Plan.{stringLawful, commonMultiple, multipleOf, dMin, dMax}, Demand.{movingCost, holdOf, jobs, blockerHold, blockLimit, need, demand, load, overloaded}, Verdict.{pairsAt, allPairs, broken, compared, judged, verdictOver, verdictOf, isPass}, Search.{permit, withSet}, Refusal.{countCheck, runLengthCheck, costCheck, stringsCheck, multipleCheck, planCheck, verdictAnswer}}
+use Rattle.rules.specs.{Said.{Said, overload, fail, pass, askedVerdictSays}, Plan.{stringLawful, commonMultiple, multipleOf, leewayMin, dMax}, Demand.{movingCost, holdOf, jobs, blockerHold, blockLimit, need, demand, load, overloaded}, Verdict.{pairsAt, allPairs, broken, compared, judged, verdictOver, verdictOf, isPass}, Search.{permit, withSet}, Refusal.{countCheck, runLengthCheck, costCheck, stringsCheck, multipleCheck, planCheck, verdictAnswer}}
 use Rattle.base.specs.Count.{sumOf, largest, smallest, smallestWith, every, upFrom, leastFrom, firstOf}
 use Rattle.rules.proofs.Worked.{string, paying, planOf, plan, two, nine}
 use Rattle.base.proofs.Lists.{true-not-false}
@@ -49,7 +49,7 @@ computed : (seen giving ≡ stated giving) × (seen taking ≡ stated taking)
 unfolding
     seen stated giving taking string paying planOf plan two nine
     flatMap sumOf largest smallest smallestWith every upFrom leastFrom firstOf
-    stringLawful commonMultiple multipleOf dMin dMax
+    stringLawful commonMultiple multipleOf leewayMin dMax
     movingCost holdOf jobs blockerHold blockLimit need demand load overloaded
     pairsAt allPairs broken compared judged verdictOver isPass
     permit withSet

@@ -1,7 +1,7 @@
 -- What a rule says of a lawful plan that is not overloaded: it is looked at up to Dmax + H − 1, and that decides every interval, since from
 -- the largest D on nothing blocks, whatever the blocker.
 use Rattle.base.proofs.Prelude.{ℕ, suc, _+_, _-_, _≤_, _≡_, refl, sym, _∙_, Bool, true, false, cond, arith, le-ltb, le-leb, leb-true, leb}
-use Rattle.rules.specs.{declared.Plan.Plan, Plan.{multipleOf, dMin, dMax}, Demand.{demand, overloaded}}
+use Rattle.rules.specs.{declared.Plan.Plan, Plan.{multipleOf, leewayMin, dMax}, Demand.{demand, overloaded}}
 use Rattle.base.specs.Count.{every, upFrom}
 use Rattle.base.proofs.{Lists.{by-bool, true-not-false, all-of-every, every-of-all}, Order.{all-upFrom, each-of-upFrom}}
 use Rattle.laws.proofs.Lawful.{LawfulPlan}
@@ -24,7 +24,7 @@ module _ (h : Blocker) (p : Plan) where
   unfolding limitBy
   limit-late l after =
       let late = le-ltb l (dMax p) after in
-      by-bool (leb (dMin p) l) (λ t. rw (t, late)) (λ e. rw e)
+      by-bool (leb (leewayMin p) l) (λ t. rw (t, late)) (λ e. rw e)
 
   -- a rule that passes is kept on the range
   keeps-of-passesBy : PassesBy h p → keeps h p ≡ true

@@ -5,7 +5,7 @@ use mathlib.Core.Path.{ap₂}
 use Rattle.days.specs.Days.{days}
 use Rattle.faults.specs.declared.Checked.the-variants.{Lawful}
 use Rattle.base.specs.Count.{sumOf, largest, keep, upFrom, leastFrom, firstOf}
-use Rattle.rules.specs.{declared.BatteryString.BatteryString, declared.Plan.Plan, declared.Verdict.the-variants.{Overload, Fail}, Plan.{stringsOf, commonMultiple, multipleOf, dMin, dMax}, Demand.{movingCost, holdOf, blockerHold, blockLimit, need, demand, Passes, load, overloaded}, Verdict.{Pair, pairsAt, allPairs, broken, firstBroken, brokenAt, compared, judged, verdictOver, verdictOf}, Refusal.{planCheck, verdictAnswer, breakAnswer}}
+use Rattle.rules.specs.{declared.BatteryString.BatteryString, declared.Plan.Plan, declared.Verdict.the-variants.{Overload, Fail}, Plan.{stringsOf, leeway, commonMultiple, multipleOf, leewayMin, dMax}, Demand.{movingCost, holdOf, blockerHold, blockLimit, need, demand, Passes, load, overloaded}, Verdict.{Pair, pairsAt, allPairs, broken, firstBroken, brokenAt, compared, judged, verdictOver, verdictOf}, Refusal.{planCheck, verdictAnswer, breakAnswer}}
 use Rattle.laws.specs.Lawful.{LawfulString, LawfulPlan}
 use Rattle.laws.proofs.{Lawful.{multipleOf-pos, multipleOf-common, multipleOf-least, commonMultiple-whole, planCheck-lawful}, LawfulChecked.lawful-checked, Answers.{verdict-lawful, break-lawful}}
 use Rattle.demand.proofs.Pairs.{pair}
@@ -29,9 +29,9 @@ module _ (p q : Plan) (r : Reordered p q) where
       fun-ext (λ h. every-permuted (λ (s : BatteryString). eqb (h % s .t .0) 0) (r .strings)) in
       ap (λ f. leastFrom f 1 100000) each
 
-  same-dMin : dMin q ≡ dMin p
-  unfolding dMin
-  same-dMin = smallest-permuted (λ (s : BatteryString). s .d .0) (r .strings)
+  same-leewayMin : leewayMin q ≡ leewayMin p
+  unfolding leewayMin
+  same-leewayMin = smallest-permuted leeway (r .strings)
 
   same-dMax : dMax q ≡ dMax p
   unfolding dMax
@@ -43,7 +43,7 @@ module _ (p q : Plan) (r : Reordered p q) where
 
   same-limit : (l : ℕ) → blockLimit q l ≡ blockLimit p l
   unfolding blockLimit
-  same-limit l = rw (same-dMin, same-dMax, same-blocker l)
+  same-limit l = rw (same-leewayMin, same-dMax, same-blocker l)
 
   -- ---- The demand and the load
 

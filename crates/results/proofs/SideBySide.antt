@@ -6,7 +6,7 @@
 --     (3,1,1) (3,2,3), A 0, set 0        by E − 2 it passes, and a job is late: a second day is too many
 use Rattle.base.proofs.Prelude.{_≡_, refl, ap, Bool, false, List, [], _∷_, map}
 use Rattle.faults.specs.{declared.Checked.Checked, declared.Checked.the-variants.Lawful}
-use Rattle.rules.specs.{declared.Plan.Plan, declared.Release.Release, Said.{Said, miss, clean, askedOutcomeSays}, Plan.{stringLawful, commonMultiple, multipleOf, dMin, dMax}, Demand.{movingCost, holdOf, jobs, need, demand, load, overloaded}, Search.{permit, withSet}, Release.{tooClose, outOfOrder, releaseLawful, unlawfulFrom, firstUnlawful}, Run.{chosen, lateAt, newSlot, joinFrom, joined, holder, payer, taken, nextUp, given, useOf, spent, morning, stateAt, useOn, lateOn, history, daysOf, missDay, runOf}, Refusal.{countCheck, runLengthCheck, stringsCheck, multipleCheck, planCheck, releasesCheck, runCheck, runAnswer}}
+use Rattle.rules.specs.{declared.Plan.Plan, declared.Release.Release, Said.{Said, miss, clean, askedOutcomeSays}, Plan.{stringLawful, commonMultiple, multipleOf, leewayMin, dMax}, Demand.{movingCost, holdOf, jobs, need, demand, load, overloaded}, Search.{permit, withSet}, Release.{tooClose, outOfOrder, releaseLawful, unlawfulFrom, firstUnlawful}, Run.{chosen, lateAt, newSlot, joinFrom, joined, holder, payer, taken, nextUp, given, useOf, spent, morning, stateAt, useOn, lateOn, history, daysOf, missDay, runOf}, Refusal.{countCheck, runLengthCheck, stringsCheck, multipleCheck, planCheck, releasesCheck, runCheck, runAnswer}}
 use Rattle.base.specs.Count.{All, sumOf, largest, smallest, smallestWith, every, countOf, upFrom, leastFrom}
 use Rattle.rules.proofs.Worked.{string, paying, planOf, plan, release, releases, two, three, five}
 use Rattle.laws.proofs.Lawful.{LawfulPlan, planCheck-lawful}
@@ -77,7 +77,7 @@ computed : map seen table ≡ map stated table
 unfolding
     seen stated row table p1 p5 tight string paying planOf plan release releases two three five
     sumOf largest smallest smallestWith every countOf upFrom leastFrom
-    stringLawful commonMultiple multipleOf dMin dMax movingCost holdOf jobs need demand load overloaded permit withSet
+    stringLawful commonMultiple multipleOf leewayMin dMax movingCost holdOf jobs need demand load overloaded permit withSet
     work holdLess daysBy limitBy keepsAt keeps ruling
     tooClose outOfOrder releaseLawful unlawfulFrom firstUnlawful
     chosen lateAt newSlot joinFrom joined holder payer taken nextUp given useOf spent morning stateAt useOn lateOn history daysOf missDay

@@ -7,7 +7,7 @@ use Rattle.base.proofs.Prelude.{_≡_, refl, List, [], _∷_, map}
 use mathlib.Core.List.{flatMap}
 use lib.Count.{ones, onesIn}
 use Rattle.base.specs.Count.{sumOf, largest, smallest, smallestWith, every, any, keep, countOf, upFrom, leastFrom, firstOf}
-use Rattle.rules.specs.{declared.Plan.Plan, declared.Release.Release, Plan.{stringsOf, stringAt, stringLawful, commonMultiple, multipleOf, dMin, dMax}, Demand.{movingCost, holdOf, jobs, blockerHold, blockLimit, need, demand, load, overloaded}, Verdict.{pairsAt, allPairs, broken, compared, judged, verdictOver, isPass}, Search.{permit, withSet, setPasses, setsOf, ordered, searchOf}, Release.{tooClose, outOfOrder, releaseLawful, unlawfulFrom, firstUnlawful}, Run.{chosen, lateAt, newSlot, joinFrom, joined, holder, payer, taken, nextUp, given, useOf, spent, morning, stateAt, useOn, lateOn, history, daysOf, missDay, runOf}, Refusal.{countCheck, runLengthCheck, costCheck, stringsCheck, multipleCheck, planCheck, setCheck, releasesCheck, runCheck, verdictAnswer, setAnswer, searchAnswer, runAnswer}, Said.{pass, takers, clean}}
+use Rattle.rules.specs.{declared.Plan.Plan, declared.Release.Release, Plan.{stringsOf, stringAt, stringLawful, commonMultiple, multipleOf, leewayMin, dMax}, Demand.{movingCost, holdOf, jobs, blockerHold, blockLimit, need, demand, load, overloaded}, Verdict.{pairsAt, allPairs, broken, compared, judged, verdictOver, isPass}, Search.{permit, withSet, setPasses, setsOf, ordered, searchOf}, Release.{tooClose, outOfOrder, releaseLawful, unlawfulFrom, firstUnlawful}, Run.{chosen, lateAt, newSlot, joinFrom, joined, holder, payer, taken, nextUp, given, useOf, spent, morning, stateAt, useOn, lateOn, history, daysOf, missDay, runOf}, Refusal.{countCheck, runLengthCheck, costCheck, stringsCheck, multipleCheck, planCheck, setCheck, releasesCheck, runCheck, verdictAnswer, setAnswer, searchAnswer, runAnswer}, Said.{pass, takers, clean}}
 use Rattle.rules.proofs.Worked.{string, paying, planOf, plan, release, releases, Row, verdict-with, search, run-with, says, answered, row}
 use Rattle.results.specs.{Order.{skip, swap, chain, Reordered}, Partners.{alike, placesLike, likesAhead, partner, partners}}
 
@@ -50,7 +50,7 @@ unfolding
     answered row sites string paying planOf plan release releases siteA siteB
     ones onesIn flatMap
     sumOf largest smallest smallestWith every any keep countOf upFrom leastFrom
-    stringLawful commonMultiple multipleOf dMin dMax
+    stringLawful commonMultiple multipleOf leewayMin dMax
     movingCost holdOf jobs blockerHold blockLimit need demand load overloaded
     pairsAt allPairs broken firstOf compared judged verdictOver isPass
     permit withSet setPasses setsOf ordered searchOf

@@ -2,7 +2,7 @@
 -- before W-205 passes after it, and the search finds a set with as many takers or fewer.
 use Rattle.base.proofs.Prelude.{ℕ, _^_, _≤_, _<_, _≡_, refl, sym, ap, _∙_, _↔_, true, _&&_, Option, none, some, arith, ones, leb, ltb}
 use native.Mathlib.Nat.{le-trans}
-use Rattle.rules.specs.{declared.BatteryString.BatteryString, declared.Plan.Plan, declared.Assign.the-variants.{Takers, Nobody}, Plan.{stringsOf, dMin, dMax}, Demand.{blockerHold, blockLimit, Passes}, Search.{assigned, withSet, setPasses, ordered, searchOf}}
+use Rattle.rules.specs.{declared.BatteryString.BatteryString, declared.Plan.Plan, declared.Assign.the-variants.{Takers, Nobody}, Plan.{stringsOf, leewayMin, dMax}, Demand.{blockerHold, blockLimit, Passes}, Search.{assigned, withSet, setPasses, ordered, searchOf}}
 use Rattle.base.specs.Count.{firstOf}
 use Rattle.base.proofs.{Lists.{by-bool, true-not-false, largest-mono}, Order.all-of}
 use Rattle.laws.proofs.Lawful.{LawfulPlan}
@@ -21,7 +21,7 @@ module _ (h g : Blocker) (p : Plan) (shorter : (s : BatteryString) → h p s ≤
   limit-mono l =
       let each = all-of (λ s. daysBy h p l s ≤ daysBy g p l s) (days-mono l) (stringsOf p) in
       let most = largest-mono (daysBy h p l) (daysBy g p l) (stringsOf p) each in
-      by-bool (leb (dMin p) l && ltb l (dMax p)) (λ t. rw t (omega arith)) (λ e. rw e (omega arith))
+      by-bool (leb (leewayMin p) l && ltb l (dMax p)) (λ t. rw t (omega arith)) (λ e. rw e (omega arith))
 
   pub shorter-blockers : PassesBy g p → PassesBy h p
   shorter-blockers rule l b pos under = rule l b pos (le-trans under (limit-mono l))

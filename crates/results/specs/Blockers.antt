@@ -11,7 +11,7 @@ use lib.Dec.{leb, ltb}
 use Rattle.rules.specs.declared.BatteryString.{BatteryString}
 use Rattle.rules.specs.declared.Plan.{Plan}
 use Rattle.base.specs.Count.{largest}
-use Rattle.rules.specs.Plan.{stringsOf, dMin, dMax}
+use Rattle.rules.specs.Plan.{stringsOf, leewayMin, dMax}
 use Rattle.rules.specs.Demand.{holdOf, demand}
 
 abbrev pub Blocker : Type 0
@@ -28,7 +28,7 @@ unfoldable pub daysBy : Blocker → Plan → ℕ → BatteryString → ℕ
 daysBy h p l s = cond (ltb l (s .d .0)) (h p s) 0
 
 unfoldable pub limitBy : Blocker → Plan → ℕ → ℕ
-limitBy h p l = cond (leb (dMin p) l && ltb l (dMax p)) (min l (largest (daysBy h p l) (stringsOf p))) 0
+limitBy h p l = cond (leb (leewayMin p) l && ltb l (dMax p)) (min l (largest (daysBy h p l) (stringsOf p))) 0
 
 abbrev pub PassesBy : Blocker → Plan → Type 0
 PassesBy h p = (l b : ℕ) → 1 ≤ l → b ≤ limitBy h p l → demand p l b ≤ l

@@ -1,11 +1,12 @@
 -- A plan made easier (document 02, W-212): some C falls, some T grows, some D grows, some moving cost falls, or a string is dropped; the
--- permissions stay.
---     Eased old new         the string `new` is `old` with C and the moving cost no larger, T and D no smaller, and the same X
+-- permissions stay. With late days (W-213) J may fall too, and D grows only where J is 0.
+--     Eased old new         the string `new` is `old` with C, J and the moving cost no larger, T and D no smaller, D larger only where J is
+--                           0 in the new plan, and the same X
 --     EasedStrings ss ts    the strings `ts` are those of `ss` in their order, each eased or dropped
 --     EasedPlan p q         the strings of the plan q are those of p, each eased or dropped
 -- Any number of changes at once, none included. N is free: the demand rule does not speak of it. That the new plan is lawful, so that one
 -- string at least is left, is said beside this where it is asked.
-use Prim.Native.Nat.{_≤_}
+use Prim.Native.Nat.{_≤_, _<_}
 use mathlib.Core.Path.{_≡_}
 use mathlib.Core.List.{List, [], _∷_}
 use Rattle.rules.specs.declared.BatteryString.{BatteryString}
@@ -16,6 +17,8 @@ pub record Eased (old new : BatteryString) : Type 0 where
   pub work : new .c .0 ≤ old .c .0
   pub apart : old .t .0 ≤ new .t .0
   pub due : old .d .0 ≤ new .d .0
+  pub late : new .j .0 ≤ old .j .0
+  pub grown : old .d .0 < new .d .0 → new .j .0 ≡ 0
   pub moving : new .a .0 ≤ old .a .0
   pub permission : new .x ≡ old .x
 

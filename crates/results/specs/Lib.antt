@@ -5,3 +5,4 @@ pub mod Easing
 pub mod Change
 pub mod Blockers
 pub mod Rows
+pub mod OnTime

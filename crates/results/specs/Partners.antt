@@ -1,5 +1,5 @@
 -- Which string of one list is which of another (document 02, W-209: sites order their strings differently).
---     alike s u             two strings have the same T, C, D, X and moving cost
+--     alike s u             two strings have the same T, C, D, X, moving cost and J
 --     placesLike s ys       the places of ys at which a string like s stands, rising
 --     likesAhead xs i       how many strings like the one at place i of xs stand ahead of it
 --     partner xs ys i       the place in ys of the partner of the string at place i of xs: of several alike the first of xs has the first
@@ -26,6 +26,7 @@ alike s u =
     && eqb (s .d .0) (u .d .0)
     && eqb (s .x) (u .x)
     && eqb (s .a .0) (u .a .0)
+    && eqb (s .j .0) (u .j .0)
 
 unfoldable pub placesLike : BatteryString → List BatteryString → List ℕ
 placesLike s ys = keep (λ j. alike s (stringIn ys j)) (upFrom 1 (length ys))

@@ -1,15 +1,15 @@
--- Version 01 as 02 (document 02, W-207): a version 01 text reads as the version 02 plan in which every string has the moving cost that its
--- header says. The version 02 text of what was read has that cost in every string frame, and reads to the same plan and releases.
+-- Versions 01 and 02 as 03 (document 02, W-207 and W-213): a text of any version reads to a plan whose version 03 text reads to the same
+-- plan and releases. A version 01 text reads as the version 02 plan in which every string has the moving cost that its header says.
 use Rattle.base.proofs.Prelude.{ℕ, _-_, _≤_, _≡_, refl, sym, ap, _∙_, List, [], _∷_, map, arith, length, drop, length-append, length-replicate, length-take, take-at}
 use Rattle.base.specs.Count.{filled}
 use Rattle.faults.specs.{declared.Fault.the-variants.FrameWrong, declared.Checked.the-variants.Lawful}
 use Rattle.faults.proofs.Checks.{refused-not-lawful}
-use Rattle.rules.specs.{declared.Plan.Plan, declared.Releases.Releases, declared.Reading.Reading, Plan.{stringsOf, noString}, Release.{releasesOf, noRelease}, Layout.{Version, version01, version02}, Text.{Line, linesOf, nIn, releaseOf, planIn, listIn, linesCheck, textCheck, lawfulReading, readingIn, readingOf}}
-use Rattle.laws.proofs.{Versions.{strings-are, reading-checked, lines-checked}, Releases.runCheck-lawful, ReadLawful.text-read}
+use Rattle.rules.specs.{declared.Plan.Plan, declared.Releases.Releases, declared.Reading.Reading, Plan.{stringsOf, noString}, Release.{releasesOf, noRelease}, Layout.{Version, version01, version02, version03}, Text.{Line, linesOf, nIn, releaseOf, planIn, listIn, linesCheck, textCheck, lawfulReading, readingIn, readingOf}}
+use Rattle.laws.proofs.{Versions.{strings-are, reading-checked, lines-checked, reading-on-time}, Releases.runCheck-lawful, ReadLawful.text-read}
 use Rattle.laws.specs.Lawful.{LawfulRun}
 use Rattle.writing.specs.Saved.{savedText}
 use Rattle.roundtrip.specs.OneText.{trimmedPlan, trimmedReleases, readAgain}
-use Rattle.roundtrip.proofs.ReadBack.{reading-02}
+use Rattle.roundtrip.proofs.ReadBack.{reading-02, reading-03}
 
 filled-length {ℓ} : {A : Type ℓ} (k : ℕ) (z : A) (xs : List A) → length xs ≤ k → length (filled k z xs) ≡ k
 filled-length k z xs h = length-append xs _ ∙ omega (arith, length-replicate (k - length xs) z)
@@ -54,11 +54,16 @@ module _ (v : Version) where
         sym trimmed
         ∙ filled-length 1000 noRelease (releasesOf releases) (omega (arith, length-take (releases .count) (releases .list), run-is .few))
 
-    -- what a text of any version says, its version 02 text says too
-    pub reads-as-02 : readingOf (savedText version02 plan releases) ≡ readingIn v text
-    reads-as-02 = reading-02 plan releases ten-places thousand (text-read v text h) ∙ read-trimmed
+    -- what a text of any version says, its version 03 text says too
+    pub reads-as-03 : readingOf (savedText version03 plan releases) ≡ readingIn v text
+    reads-as-03 = reading-03 plan releases ten-places thousand (text-read v text h) ∙ read-trimmed
 
 -- of a version 01 text the version 02 text reads to the same plan and releases
 pub reads-01-as-02 : (text : List ℕ) → readingIn version01 text .checked ≡ Lawful
     → readingOf (savedText version02 (readingIn version01 text .plan) (readingIn version01 text .releases)) ≡ readingIn version01 text
-reads-01-as-02 text h = reads-as-02 version01 text h
+reads-01-as-02 text h =
+    let read = readingIn version01 text in
+    let on-time = reading-on-time version01 text refl refl h in
+    reading-02 (read .plan) (read .releases) (ten-places version01 text h) (thousand version01 text h) (text-read version01 text h)
+    (on-time .0) (on-time .1)
+    ∙ read-trimmed version01 text h

@@ -4,11 +4,11 @@ use Rattle.base.specs.Count.{putAt}
 use Rattle.base.proofs.Parts.{putAt-stands}
 use Rattle.faults.specs.{declared.Fault.Fault, declared.Fault.the-variants.NoRoom, declared.Checked.Checked, Checks.{refuseIf, orRefused}}
 use Rattle.faults.proofs.Checks.{then-first, then-second, refuseIf-not, orRefused-lawful}
-use Rattle.rules.specs.{declared.Plan.Plan, declared.Releases.Releases, Refusal.runCheck, Layout.{Version, version02, heldTo}, Text.{readingIn, readingOf}}
+use Rattle.rules.specs.{declared.Plan.Plan, declared.Releases.Releases, Refusal.runCheck, Layout.{Version, version03, heldTo}, Text.{readingIn, readingOf}}
 use Rattle.writing.specs.{declared.Saved.the-variants.{Refused, Text}, Saved.{noRoom, fitCheck, textAnswer, textPage, savedText, writableCheck, saveCheck, savedAnswer, savedPage}}
 use Rattle.writing.proofs.Saving.{writable-run}
 use Rattle.roundtrip.specs.OneText.{readAgain}
-use Rattle.roundtrip.proofs.{ReadBack.reading-02, WriteBack.writing-what-was-read}
+use Rattle.roundtrip.proofs.{ReadBack.reading-03, WriteBack.writing-what-was-read}
 use Rattle.faults.specs.declared.Checked.the-variants as checked
 
 or-right : (a b : Bool) → (a || b) ≡ false → b ≡ false
@@ -66,13 +66,13 @@ module _ (v : Version) (p : Plan) (rs : Releases) (page : List ℕ) (at len : �
   unfolding savedAnswer savedPage saveCheck
   text-stands = fit-stands (writableCheck v p rs) (savedText v p rs) page at len h
 
--- a text of version 02 that is written stands in the page and reads back to the plan
-pub reading-the-page : (p : Plan) (rs : Releases) (page : List ℕ) (at len : ℕ) → savedAnswer version02 p rs page at ≡ Text len
+-- a text of version 03 that is written stands in the page and reads back to the plan
+pub reading-the-page : (p : Plan) (rs : Releases) (page : List ℕ) (at len : ℕ) → savedAnswer version03 p rs page at ≡ Text len
     → length (p .strings) ≡ 10 → length (rs .list) ≡ 1000
-    → readingOf (take len (drop at (savedPage version02 p rs page at))) ≡ readAgain p rs
+    → readingOf (take len (drop at (savedPage version03 p rs page at))) ≡ readAgain p rs
 reading-the-page p rs page at len h ten thousand =
-    ap readingOf (text-stands version02 p rs page at len h)
-    ∙ reading-02 p rs ten thousand (text-lawful version02 p rs page at len h)
+    ap readingOf (text-stands version03 p rs page at len h)
+    ∙ reading-03 p rs ten thousand (text-lawful version03 p rs page at len h)
 
 -- a text that was read and is saved in its version stands in the page byte for byte
 pub saving-what-was-read : (k : ℕ) (text page : List ℕ) (at len : ℕ) → readingIn (heldTo k) text .checked ≡ checked.Lawful

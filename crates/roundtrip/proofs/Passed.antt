@@ -8,7 +8,7 @@ use Rattle.laws.specs.Lawful.{LawfulPlan}
 use Rattle.laws.proofs.Lawful.{headCheck-good, costCheck-good, stringLawful-yes}
 use Rattle.writing.specs.Written.{headerSays, stringSays, releaseSays}
 use Rattle.roundtrip.specs.OneText.{trimmedPlan}
-use Rattle.roundtrip.proofs.{Framed.written-lawful, PlanLines.{headerLine, lineOfString, lineOfRelease, Told, Brief, version-said, n-said, a-small, run-said, string-read-back, release-said}}
+use Rattle.roundtrip.proofs.{Framed.written-lawful, PlanLines.{headerLine, lineOfString, lineOfRelease, Told, Stated, version-said, n-said, a-small, run-said, string-read-back, release-said}}
 
 -- ---- The header and the strings
 
@@ -32,7 +32,7 @@ module _ (k : ℕ) (header : Line) where
   string-passes at s ok =
       rw (
         written-lawful (stringFrame (heldTo k)) (stringSays s) (omega arith) at,
-        string-read-back s (ok .0) k header (ok .1),
+        string-read-back s (ok .0) k header (ok .1) (ok .2),
         stringLawful-yes s (ok .0),
       )
 
@@ -62,26 +62,26 @@ module _ (v : ℕ) (p q : Plan) (same : (seen : List Release) (r : Release) → 
   abbrev lineOf : Release → Line
   lineOf r = lineOfRelease (heldTo v) r
 
-  release-passes : (k j : ℕ) (seen : List Release) (r : Release) → Brief r → j ≤ 1000 → releaseLawful p seen r ≡ true
+  release-passes : (k j : ℕ) (seen : List Release) (r : Release) → Stated (heldTo v) r → j ≤ 1000 → releaseLawful p seen r ≡ true
       → releaseLineCheck (heldTo v) q k j seen (lineOf r) ≡ Lawful
   unfolding releaseLineCheck
   release-passes k j seen r ok few lawful =
       rw (
         written-lawful (releaseFrame (heldTo v)) (releaseSays r) (omega arith) k,
         le-ltb 1000 j few,
-        release-said r ok v,
+        release-said r v ok,
         same seen r,
         lawful,
       )
 
-  pub releases-pass : (k j i : ℕ) (seen rs : List Release) → All Brief rs → j + length rs ≤ 1001 → 1 ≤ i → unlawfulFrom p seen i rs ≡ 0
-      → releaseLinesCheck (heldTo v) q k j seen (map lineOf rs) ≡ Lawful
+  pub releases-pass : (k j i : ℕ) (seen rs : List Release) → All (Stated (heldTo v)) rs → j + length rs ≤ 1001 → 1 ≤ i
+      → unlawfulFrom p seen i rs ≡ 0 → releaseLinesCheck (heldTo v) q k j seen (map lineOf rs) ≡ Lawful
   unfolding releaseLinesCheck unlawfulFrom
   releases-pass k j i seen [] ok few pos none = refl
   releases-pass k j i seen (r ∷ rs) ok few pos none =
       by-bool (releaseLawful p seen r)
       (λ t.
-      rw (release-passes k j seen r (ok .0) (omega arith) t, release-said r (ok .0) v)
+      rw (release-passes k j seen r (ok .0) (omega arith) t, release-said r v (ok .0))
       (releases-pass (suc k) (suc j) (suc i) (r ∷ seen) rs (ok .1) (omega arith) (omega arith) (rw t at none)))
       (λ e.
       let first = rw e at none in

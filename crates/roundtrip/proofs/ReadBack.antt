@@ -1,19 +1,19 @@
--- Reading what was written, in every version: the text of a lawful plan reads back to the plan and its releases. Version 01 has one moving
--- cost for all strings, so there they must be alike.
-use Rattle.base.proofs.Prelude.{ℕ, _+_, _-_, _*_, _≤_, _<_, _≡_, refl, sym, ap, _∙_, List, [], _∷_, _++_, map, append-assoc, arith, le-ltb, length, take, drop, getD, length-map, take-at, drop-at, length-take-le, false, eqb}
+-- Reading what was written, in every version: the text of a lawful plan reads back to the plan and its releases, where the version can say
+-- them: 01 has one moving cost for all strings, 01 and 02 have no late days and no due days.
+use Rattle.base.proofs.Prelude.{ℕ, _+_, _-_, _*_, _≤_, _<_, _≡_, refl, sym, ap, _∙_, List, [], _∷_, _++_, map, append-assoc, arith, decLe, le-ltb, length, take, drop, getD, length-map, take-at, drop-at, length-take-le, false, eqb}
 use mathlib.Core.List.{flatMap}
 use Rattle.base.specs.Count.{All}
-use Rattle.base.proofs.{Lists.{all-by, all-map, all-getD, true-not-false}, Order.all-append}
+use Rattle.base.proofs.{Lists.{all-by, all-map, all-getD, true-not-false}, Order.{all-append, all-both, all-of}}
 use Rattle.faults.specs.declared.Checked.the-variants.{Lawful}
-use Rattle.rules.specs.{declared.BatteryString.BatteryString, declared.Plan.Plan, declared.Release.Release, declared.Releases.Releases, Plan.{stringsOf, stringAt, noString}, Release.{releasesOf, noRelease, unlawfulFrom, firstUnlawful}, Refusal.runCheck, Layout.{HeaderField, StringField, ReleaseField, Layout, Version, lineSize, hasField, version02, heldTo, headerFrame, stringFrame, releaseFrame}, Text.{Line, linesOf, stringOf, releaseOf, planIn, listIn, lawfulReading, readingIn, versionOf, readingOf, stringLinesCheck, releaseLinesCheck, bodyCheck, linesCheck, textCheck}}
-use Rattle.laws.specs.Lawful.{LawfulString, LawfulRun}
+use Rattle.rules.specs.{declared.BatteryString.BatteryString, declared.Plan.Plan, declared.Release.Release, declared.Releases.Releases, Plan.{stringsOf, stringAt, noString}, Release.{releasesOf, noRelease, unlawfulFrom, firstUnlawful}, Refusal.runCheck, Layout.{HeaderField, StringField, ReleaseField, Layout, Version, lineSize, hasField, version02, version03, heldTo, Due, headerFrame, stringFrame, releaseFrame}, Text.{Line, linesOf, stringOf, releaseOf, planIn, listIn, lawfulReading, readingIn, versionOf, readingOf, stringLinesCheck, releaseLinesCheck, bodyCheck, linesCheck, textCheck}}
+use Rattle.laws.specs.Lawful.{LawfulString, LawfulRun, OnTime}
 use Rattle.laws.proofs.{Lawful.multipleCheck-good, Releases.runCheck-lawful, ReleaseList.release-lawful}
 use Rattle.layouts.proofs.Versions.{number-again, header-short, string-short, release-short, ten-short, thousand-short}
 use Rattle.writing.specs.{Written.{headerSays, stringSays, releaseSays, frameBytes, headerText, stringText, releaseText, planText}, Saved.savedText}
 use Rattle.writing.proofs.{Texts.flatMap-append, Saving.saved-long}
-use Rattle.roundtrip.specs.OneText.{trimmedPlan, trimmedReleases, readAgain, Alike}
+use Rattle.roundtrip.specs.OneText.{trimmedPlan, trimmedReleases, readAgain, CanSay}
 use Rattle.laws.proofs.LineTexts.{lineBytes, textOfLines, EndedLine, NoEnd, lines-said}
-use Rattle.roundtrip.proofs.{HexBytes.{Digit, digit-no-end, frame-digits}, Framed.{lineText-is, lineWritten, bytes-small}, PlanLines.{headerLine, lineOfString, lineOfRelease, Told, Brief, strings-told, named, n-said, run-said, string-read-back, release-said}, Passed.{header-passes, strings-pass, releases-pass, trimmed-multiple, trimmed-lawful}}
+use Rattle.roundtrip.proofs.{HexBytes.{Digit, digit-no-end, frame-digits}, Framed.{lineText-is, lineWritten, bytes-small}, PlanLines.{headerLine, lineOfString, lineOfRelease, Told, Brief, Stated, strings-told, named, n-said, run-said, string-read-back, release-said}, Passed.{header-passes, strings-pass, releases-pass, trimmed-multiple, trimmed-lawful}}
 
 -- ---- Lines made of what they say
 
@@ -113,6 +113,7 @@ module _ (k : ℕ) (p : Plan) (rs : Releases) (h : Savable p rs) where
             place = omega (arith, ok .placeMax, run-is .plan .nMax);
             day = omega (arith, ok .early, run-is .plan .runMax);
             need = omega (arith, ok .needMax, working (getD (releasesOf rs) i noRelease .place));
+            due = omega (arith, ok .notBefore, ok .early, run-is .plan .runMax);
           }
 
   abbrev header : Line
@@ -130,24 +131,41 @@ module _ (k : ℕ) (p : Plan) (rs : Releases) (h : Savable p rs) where
   releases-then : drop (p .n) (strings ++ releases) ≡ releases
   releases-then = drop-at strings releases (p .n) (length-map (stringsOf p) (lineOfString (v k)) ∙ strings-many)
 
-  releases-said : listIn (v k) (savedLines k p rs) ≡ trimmedReleases rs
-  unfolding listIn
-  releases-said =
-      rw (
-        n-said p (run-is .plan) k,
-        releases-then,
-        said-back (lineOfRelease (v k)) Brief (releaseOf (v k)) (λ r ok. release-said r ok k) (releasesOf rs) brief,
-        releases-many,
-      )
-
   -- the text names its version
   pub written-names : versionOf (linesOf (savedText (v k) p rs)) ≡ v k
   unfolding versionOf
   written-names = ap versionOf (lines-saved k p rs) ∙ ap heldTo (named p (run-is .plan) k) ∙ number-again k
 
-  module _ (alike : Alike (v k) p) where
+  module _ (sayable : CanSay (v k) p rs) where
     told : All (Told (v k) header) (stringsOf p)
-    told = strings-told p (run-is .plan) k alike
+    told = strings-told p rs (run-is .plan) k sayable
+
+    -- each release is due on its day, where its line does not say when
+    on-day : All (λ r. v k .release Due ≡ 0 → r .due .0 ≡ r .day .0) (releasesOf rs)
+    unfolding hasField
+    on-day =
+        elim (decLe 1 (v k .release Due)) [
+          | yes some ↦ all-of (λ r. v k .release Due ≡ 0 → r .due .0 ≡ r .day .0) (λ r none. absurd (omega arith)) (releasesOf rs)
+          | no none ↦
+              all-map (λ r. r .due .0 ≡ r .day .0) (λ r. v k .release Due ≡ 0 → r .due .0 ≡ r .day .0) (λ r due said. due)
+              (releasesOf rs)
+              (sayable .due (le-ltb 0 (v k .release Due) (omega arith)))
+        ]
+
+    stated : All (Stated (v k)) (releasesOf rs)
+    stated =
+        all-both Brief (λ r. v k .release Due ≡ 0 → r .due .0 ≡ r .day .0) (Stated (v k)) (λ r small due. (small, due)) (releasesOf rs)
+        brief on-day
+
+    releases-said : listIn (v k) (savedLines k p rs) ≡ trimmedReleases rs
+    unfolding listIn
+    releases-said =
+        rw (
+          n-said p (run-is .plan) k,
+          releases-then,
+          said-back (lineOfRelease (v k)) (Stated (v k)) (releaseOf (v k)) (λ r ok. release-said r k ok) (releasesOf rs) stated,
+          releases-many,
+        )
 
     plan-said : planIn (v k) (savedLines k p rs) ≡ trimmedPlan p
     unfolding planIn
@@ -156,7 +174,8 @@ module _ (k : ℕ) (p : Plan) (rs : Releases) (h : Savable p rs) where
           n-said p (run-is .plan) k,
           run-said p (run-is .plan) k,
           strings-first,
-          said-back (lineOfString (v k)) (Told (v k) header) (stringOf (v k) header) (λ s ok. string-read-back s (ok .0) k header (ok .1))
+          said-back (lineOfString (v k)) (Told (v k) header) (stringOf (v k) header) (λ s ok.
+              string-read-back s (ok .0) k header (ok .1) (ok .2))
               (stringsOf p) told,
         )
 
@@ -174,7 +193,7 @@ module _ (k : ℕ) (p : Plan) (rs : Releases) (h : Savable p rs) where
     releases-all : releaseLinesCheck (v k) (trimmedPlan p) (p .n + 2) 1 [] releases ≡ Lawful
     releases-all =
         let few = run-is .few in
-        releases-pass k p (trimmedPlan p) (trimmed-lawful p strings-many) (p .n + 2) 1 1 [] (releasesOf rs) brief
+        releases-pass k p (trimmedPlan p) (trimmed-lawful p strings-many) (p .n + 2) 1 1 [] (releasesOf rs) stated
         (omega (arith, releases-many)) (omega arith) none-unlawful
 
     body-lawful : bodyCheck (v k) header (trimmedPlan p) (strings ++ releases) ≡ Lawful
@@ -200,15 +219,33 @@ module _ (k : ℕ) (p : Plan) (rs : Releases) (h : Savable p rs) where
     reading-what-was-written =
         rw (le-ltb 65536 (length (savedText (v k) p rs)) short, lines-saved k p rs, lines-lawful, plan-said, releases-said)
 
--- each string of a version 02 plan has its own moving cost
-pub alike-02 : (p : Plan) → Alike version02 p
+-- version 03 can say every plan, version 02 one without late days
+pub sayable-03 : (p : Plan) (rs : Releases) → CanSay version03 p rs
 unfolding hasField
-alike-02 p h = absurd (true-not-false (sym h))
+sayable-03 p rs =
+    record {
+      costs = λ h. absurd (true-not-false (sym h));
+      late = λ h. absurd (true-not-false h);
+      due = λ h. absurd (true-not-false h);
+    }
 
--- what is written in version 02 reads back, and its header says so
-pub reading-02 : (p : Plan) (rs : Releases) → length (p .strings) ≡ 10 → length (rs .list) ≡ 1000 → runCheck p rs ≡ Lawful
-    → readingOf (savedText version02 p rs) ≡ readAgain p rs
+pub sayable-02 : (p : Plan) (rs : Releases) → OnTime p → All (λ r. r .due .0 ≡ r .day .0) (releasesOf rs) → CanSay version02 p rs
+unfolding hasField
+sayable-02 p rs on-time due = record { costs = λ h. absurd (true-not-false (sym h)); late = λ h. on-time; due = λ h. due }
+
+-- what is written in version 03 reads back, and its header says so
+pub reading-03 : (p : Plan) (rs : Releases) → length (p .strings) ≡ 10 → length (rs .list) ≡ 1000 → runCheck p rs ≡ Lawful
+    → readingOf (savedText version03 p rs) ≡ readAgain p rs
 unfolding readingOf heldTo
-reading-02 p rs ten thousand lawful =
+reading-03 p rs ten thousand lawful =
     let h : Savable p rs = (ten, thousand, lawful) in
-    ap (λ w. readingIn w (savedText version02 p rs)) (written-names 2 p rs h) ∙ reading-what-was-written 2 p rs h (alike-02 p)
+    ap (λ w. readingIn w (savedText version03 p rs)) (written-names 3 p rs h) ∙ reading-what-was-written 3 p rs h (sayable-03 p rs)
+
+-- and in version 02, where nothing is late
+pub reading-02 : (p : Plan) (rs : Releases) → length (p .strings) ≡ 10 → length (rs .list) ≡ 1000 → runCheck p rs ≡ Lawful
+    → OnTime p → All (λ r. r .due .0 ≡ r .day .0) (releasesOf rs) → readingOf (savedText version02 p rs) ≡ readAgain p rs
+unfolding readingOf heldTo
+reading-02 p rs ten thousand lawful on-time due =
+    let h : Savable p rs = (ten, thousand, lawful) in
+    ap (λ w. readingIn w (savedText version02 p rs)) (written-names 2 p rs h)
+    ∙ reading-what-was-written 2 p rs h (sayable-02 p rs on-time due)

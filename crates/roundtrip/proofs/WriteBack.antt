@@ -8,7 +8,7 @@ use Rattle.faults.specs.{declared.Fault.the-variants.FrameWrong, declared.Check
 use Rattle.faults.proofs.Checks.{refused-not-lawful, then-first, then-second, refuseIf-not}
 use Rattle.rules.specs.{declared.Plan.Plan, declared.Release.Release, Plan.{stringsOf, stringAt, noString}, Release.releasesOf, Refusal.{headCheck, costCheck, stringCheck, multipleCheck}, Layout.{Layout, Version, fieldIn, fieldAmong, heldTo, headerFrame, stringFrame, releaseFrame}, Text.{Line, linesOf, fieldOf, nIn, aIn, runIn, costOf, stringOf, releaseOf, planIn, listIn, layoutCheck, versionCheck, headerCheck, stringLineCheck, stringLinesCheck, releaseLineCheck, releaseLinesCheck, bodyCheck, linesCheck, textCheck, lawfulReading, readingIn}}
 use Rattle.laws.proofs.{Lawful.headCheck-lawful, Versions.{strings-many, strings-lawful, strings-are, one-cost, reading-checked, lines-checked}}
-use Rattle.layouts.proofs.Versions.{cost-sizes, cost-own}
+use Rattle.layouts.proofs.Versions.{cost-sizes, cost-own, due-said}
 use Rattle.writing.specs.{Written.{headerSays, stringSays, releaseSays, headerText, stringText, releaseText, planText}, Saved.savedText}
 use Rattle.writing.proofs.Texts.{flatMap-append}
 use Rattle.laws.proofs.LineTexts.{lineBytes, textOfLines, EndedLine, lines-written}
@@ -28,12 +28,13 @@ module _ (k : ℕ) where
   string-back header line f =
       let own : 1 ≤ v .string layout.Own → v .header layout.Common ≤ 0 = λ some. omega (arith, cost-sizes k) in
       framed-written (stringFrame v) (stringSays (stringOf v header line)) line f
-      (λ some. refl, (λ some. refl, (λ some. refl, (λ some. refl, (λ some. sym (cost-own v header line (own some)), tt)))))
+      (λ some. refl, (λ some. refl, (λ some. refl, (λ some. refl, (λ some. sym (cost-own v header line (own some)), (λ some. refl, tt))))))
 
   release-back : (line : Line) → FramedAs (releaseFrame v) line → releaseText v (releaseOf v line) ≡ lineBytes line
   unfolding releaseText releaseOf fieldOf fieldIn fieldAmong
   release-back line f =
-      framed-written (releaseFrame v) (releaseSays (releaseOf v line)) line f (λ some. refl, (λ some. refl, (λ some. refl, tt)))
+      framed-written (releaseFrame v) (releaseSays (releaseOf v line)) line f
+      (λ some. refl, (λ some. refl, (λ some. refl, (λ some. sym (due-said v line some), tt))))
 
 -- the header, whose version its check has found; in version 01 the first string has the moving cost that it says
 module _ (header : Line) (lines : List Line) where

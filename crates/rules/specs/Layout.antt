@@ -1,4 +1,4 @@
--- Layouts of frames (document 01, "Frames of the plan file"; document 02, W-207): which bytes of a frame say what.
+-- Layouts of frames (document 01, "Frames of the plan file"; document 02, W-207 and W-213): which bytes of a frame say what.
 --     HeaderField, StringField, ReleaseField    what the fields of each frame say
 --     Layout F              a frame whose fields are those of F: its kind, its fields in the page's order, the rank of a field in that
 --                           order, and its size in bytes. A field of no byte is one that the frame does not have
@@ -13,6 +13,7 @@
 --     Version               a version of the plan file: its number, and the sizes of the fields of its three frames
 --     version01             document 01's: the header says the moving cost of every string
 --     version02             document 02's, W-207: each string says its own
+--     version03             document 02's, W-213: each string says its late days too, and each release its due day
 --     headerFrame v, stringFrame v, releaseFrame v    the layouts of the frames of the version v
 --     heldTo number         the version that a header which names the number is held to. A number that none has is held to 01, which
 --                           refuses it
@@ -31,18 +32,20 @@ pub data HeaderField : Type 0 where
   Common : HeaderField
   Run : HeaderField
 
--- X, T, C, D, the string's own moving cost
+-- X, T, C, D, the string's own moving cost, its late days
 pub data StringField : Type 0 where
   X : StringField
   T : StringField
   C : StringField
   D : StringField
   Own : StringField
+  Late : StringField
 
 pub data ReleaseField : Type 0 where
   Place : ReleaseField
   Day : ReleaseField
   Need : ReleaseField
+  Due : ReleaseField
 
 pub record Layout (F : Type 0) : Type 0 where
   pub kind : ℕ
@@ -105,28 +108,34 @@ headerRow number count common run Count = count
 headerRow number count common run Common = common
 headerRow number count common run Run = run
 
-abbrev pub stringRow : ℕ → ℕ → ℕ → ℕ → ℕ → StringField → ℕ
-stringRow x t c d own X = x
-stringRow x t c d own T = t
-stringRow x t c d own C = c
-stringRow x t c d own D = d
-stringRow x t c d own Own = own
+abbrev pub stringRow : ℕ → ℕ → ℕ → ℕ → ℕ → ℕ → StringField → ℕ
+stringRow x t c d own late X = x
+stringRow x t c d own late T = t
+stringRow x t c d own late C = c
+stringRow x t c d own late D = d
+stringRow x t c d own late Own = own
+stringRow x t c d own late Late = late
 
-abbrev pub releaseRow : ℕ → ℕ → ℕ → ReleaseField → ℕ
-releaseRow place day need Place = place
-releaseRow place day need Day = day
-releaseRow place day need Need = need
+abbrev pub releaseRow : ℕ → ℕ → ℕ → ℕ → ReleaseField → ℕ
+releaseRow place day need due Place = place
+releaseRow place day need due Day = day
+releaseRow place day need due Need = need
+releaseRow place day need due Due = due
 
 -- header: 01, version (1), n (1), A (2), N (4); string: 02, X (1), T (2), C (2), D (2); release: 03, place (1), day (4), need (2)
 abbrev pub version01 : Version
-version01 = record { number = 1; header = headerRow 1 1 2 4; string = stringRow 1 2 2 2 0; release = releaseRow 1 4 2 }
+version01 = record { number = 1; header = headerRow 1 1 2 4; string = stringRow 1 2 2 2 0 0; release = releaseRow 1 4 2 0 }
 
 -- header: 01, version (1), n (1), N (4); string: 02, X (1), T (2), C (2), D (2), moving cost (2); release as in 01
 abbrev pub version02 : Version
-version02 = record { number = 2; header = headerRow 1 1 0 4; string = stringRow 1 2 2 2 2; release = releaseRow 1 4 2 }
+version02 = record { number = 2; header = headerRow 1 1 0 4; string = stringRow 1 2 2 2 2 0; release = releaseRow 1 4 2 0 }
+
+-- header as in 02; string: 02, X (1), T (2), C (2), D (2), moving cost (2), J (2); release: 03, place (1), day (4), need (2), due day (4)
+abbrev pub version03 : Version
+version03 = record { number = 3; header = headerRow 1 1 0 4; string = stringRow 1 2 2 2 2 2; release = releaseRow 1 4 2 4 }
 
 abbrev pub laterVersions : List Version
-laterVersions = version02 ∷ []
+laterVersions = version02 ∷ version03 ∷ []
 
 abbrev pub versions : List Version
 versions = version01 ∷ laterVersions
@@ -146,7 +155,8 @@ headerFrame v =
 
 abbrev pub stringFrame : Version → Layout StringField
 stringFrame v =
-    record { kind = 2; fields = X ∷ T ∷ C ∷ D ∷ Own ∷ []; rank = stringRow 0 1 2 3 4; size = v .string }
+    record { kind = 2; fields = X ∷ T ∷ C ∷ D ∷ Own ∷ Late ∷ []; rank = stringRow 0 1 2 3 4 5; size = v .string }
 
 abbrev pub releaseFrame : Version → Layout ReleaseField
-releaseFrame v = record { kind = 3; fields = Place ∷ Day ∷ Need ∷ []; rank = releaseRow 0 1 2; size = v .release }
+releaseFrame v =
+    record { kind = 3; fields = Place ∷ Day ∷ Need ∷ Due ∷ []; rank = releaseRow 0 1 2 3; size = v .release }

@@ -8,7 +8,7 @@
 --     refusedLine f at      refused number line at
 --     askedLine v           the one line where a verdict is asked for: the refusal, or the verdict
 --     linesFor a            all that is written for an answer
---     rowLine s             T,C,D,X,moving cost of a string, ended by CR LF (document 02, W-210)
+--     rowLine s             T,C,D,X,moving cost,J of a string, ended by CR LF (document 02, W-210 and W-213)
 use Prim.Native.Nat.{ℕ, _+_}
 use Prim.Native.Char.{code}
 use Prim.Native.String.{String}
@@ -81,5 +81,5 @@ linesFor (answer.Answered v a o) = verdictLine v ++ assignLine a ++ outcomeLine 
 
 unfoldable pub rowLine : BatteryString → List ℕ
 rowLine s =
-    worded "#,#,#,#,#\r\n"
-    (decimal (s .t .0) ∷ decimal (s .c .0) ∷ decimal (s .d .0) ∷ decimal (s .x) ∷ decimal (s .a .0) ∷ [])
+    worded "#,#,#,#,#,#\r\n"
+    (decimal (s .t .0) ∷ decimal (s .c .0) ∷ decimal (s .d .0) ∷ decimal (s .x) ∷ decimal (s .a .0) ∷ decimal (s .j .0) ∷ [])

@@ -33,6 +33,7 @@ use Rattle.rules.specs.declared.Outcome.the-variants.{Miss, Clean}
 use Rattle.base.specs.Count.{countOf, leastFrom}
 use Rattle.rules.specs.Plan.{stringsOf, stringAt, noString}
 use Rattle.rules.specs.Demand.{movingCost}
+use Rattle.rules.specs.Release.{deadlineOf}
 
 -- ---- Slots
 
@@ -98,7 +99,7 @@ newSlot p r k =
       string = stringAt p (r .place);
       job = Waiting (r .need) (days 0);
       release = r .day;
-      deadline = day (r .day .0 + stringAt p (r .place) .d .0);
+      deadline = day (deadlineOf p r);
       serves = k;
     }
 

@@ -21,7 +21,7 @@ use Rattle.rules.specs.Verdict.{verdictOf, isPass}
 
 unfoldable pub permit : ℕ → List BatteryString → List BatteryString
 permit m [] = []
-permit m (s ∷ ss) = record { t = s .t; c = s .c; d = s .d; x = m % 2; a = s .a } ∷ permit (m / 2) ss
+permit m (s ∷ ss) = record { t = s .t; c = s .c; d = s .d; x = m % 2; a = s .a; j = s .j } ∷ permit (m / 2) ss
 
 unfoldable pub withSet : Plan → ℕ → Plan
 withSet p m = record { n = p .n; run = p .run; strings = permit m (p .strings) }

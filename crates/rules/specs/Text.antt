@@ -1,4 +1,5 @@
--- The plan file (document 01, "Frames of the plan file" and "Refusal numbers"; document 02, W-207). A text is the list of its bytes.
+-- The plan file (document 01, "Frames of the plan file" and "Refusal numbers"; document 02, W-207 and W-213). A text is the list of its
+-- bytes.
 --     linesOf text          the lines of a text: a line is what stands up to its 0a; only the last can lack one
 --     digitOf b             the value of a lowercase hexadecimal digit; 16 stands for any other character
 --     wellFormed line       not empty, of even length, hexadecimal digits only, and ended by its 0a
@@ -8,14 +9,15 @@
 -- v is the version of the plan file:
 --     costOf v header line  the moving cost of a string: where the header says one it goes to every string, else the string line says it
 --     stringOf v header line     what a string line says, under the header of its text
+--     dueIn v line          the due day of a release: where its line says none it is the release day
 --     releaseOf v line      what a release line says
 --     planIn v lines, listIn v lines    the plan and the releases that lines write, where they are lawful
 --     linesCheck v lines    the first fault, with its line; the order of faults is document 01's
 --     readingIn v text      what reading a text of that version gives: on a refusal an empty plan and no releases
 --     versionOf lines       the version that lines are held to: the one that the first of them names
 --     readingOf text        what reading a text gives: its lines are held to the version that its header names
--- Versions 01 and 02 are read. A header of another version, or of another length than its version's, is 3 at line 1; a string line of
--- the other version has the wrong length and is 3 at its line.
+-- Versions 01, 02 and 03 are read; in 01 and 02 every J is 0. A header of another version, or of another length than its version's, is 3
+-- at line 1; a string or release line of another length than its version's is 3 at its line.
 use Prim.Native.Nat.{ℕ, zero, suc, _+_, _-_, _*_, _%_}
 use mathlib.Core.Bool.{Bool, true, false, not, cond, _&&_}
 use mathlib.Core.List.{List, [], _∷_, map}
@@ -37,7 +39,7 @@ use Rattle.rules.specs.Plan.{noString}
 use Rattle.rules.specs.Release.{releaseLawful, noRelease}
 use Rattle.rules.specs.Refusal.{headCheck, costCheck, stringCheck, multipleCheck, manyCheck}
 use Rattle.rules.specs.Layout.{Layout, Version, frameSize, kindIn, versionIn, hasField, fieldIn, version01, heldTo}
-use Rattle.rules.specs.Layout.{headerFrame, stringFrame, releaseFrame, Number, Count, Common, Run, X, T, C, D, Own, Place, Day, Need}
+use Rattle.rules.specs.Layout.{headerFrame, stringFrame, releaseFrame, Number, Count, Common, Run, X, T, C, D, Own, Late, Place, Day, Need, Due}
 
 -- ---- Lines
 
@@ -120,7 +122,11 @@ module _ (v : Version) where
         d = days (fieldOf (stringFrame v) D line);
         x = fieldOf (stringFrame v) X line;
         a = days (costOf header line);
+        j = days (fieldOf (stringFrame v) Late line);
       }
+
+  unfoldable pub dueIn : Line → ℕ
+  dueIn line = cond (hasField (releaseFrame v) Due) (fieldOf (releaseFrame v) Due line) (fieldOf (releaseFrame v) Day line)
 
   unfoldable pub releaseOf : Line → Release
   releaseOf line =
@@ -128,6 +134,7 @@ module _ (v : Version) where
         day = day (fieldOf (releaseFrame v) Day line);
         place = fieldOf (releaseFrame v) Place line;
         need = days (fieldOf (releaseFrame v) Need line);
+        due = day (dueIn line);
       }
 
   unfoldable pub planIn : List Line → Plan

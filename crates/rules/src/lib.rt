@@ -1,5 +1,6 @@
 // The words of the desk: the plan, its releases, the answers, and the slots of a run.
-// Letters are document 01's: T, C, D, X and A of a string, n and N of a plan. A is each string's own (document 02, W-207).
+// Letters are document 01's: T, C, D, X and A of a string, n and N of a plan. A is each string's own (document 02, W-207), and so is J,
+// its late days (W-213).
 use days::Day;
 use days::Length;
 use faults::Checked;
@@ -11,14 +12,15 @@ ghost use Rattle.rules.specs.Plan.{withRun};
 ghost use Rattle.rules.specs.Text.{refusedReading};
 ghost use Rattle.rules.specs.Verdict.{isPass};
 
-// A battery string: least days between two releases, most working days of a job, days from release to deadline,
-// whether its jobs may take the bank (1) or not (0), and the moving days that a job pays which takes it.
+// A battery string: least days between two due days, most working days of a job, days from due day to deadline, whether its jobs may
+// take the bank (1) or not (0), the moving days that a job pays which takes it, and how many days after its due day a job may come.
 pub struct BatteryString {
     pub t: Length,
     pub c: Length,
     pub d: Length,
     pub x: u32,
     pub a: Length,
+    pub j: Length,
 }
 
 // Stands where there is no string; it is lawful nowhere.
@@ -28,6 +30,7 @@ pub const NO_STRING: BatteryString = BatteryString {
     d: Length(0),
     x: 0,
     a: Length(0),
+    j: Length(0),
 };
 
 // A plan: n strings by place, and the days of its run. Of the ten strings the first n count.
@@ -56,11 +59,12 @@ impl Plan {
     }
 }
 
-// A release: its day, the place of its string (from 1), and the working days it needs.
+// A release: its day, the place of its string (from 1), the working days it needs, and its due day, from which the deadline counts.
 pub struct Release {
     pub day: Day,
     pub place: usize,
     pub need: Length,
+    pub due: Day,
 }
 
 // Stands where there is no release.
@@ -68,6 +72,7 @@ pub const NO_RELEASE: Release = Release {
     day: Day(0),
     place: 0,
     need: Length(0),
+    due: Day(0),
 };
 
 // A list of releases. Of the thousand the first `count` count; a larger count is refused.

@@ -31,11 +31,12 @@ pub(crate) fn join(slots: [Slot; 10], p: Plan, r: Release, serves: usize) -> [Sl
 {
     let place = r.place;
     let release = r.day;
+    let due = r.due;
     let work = r.need;
     let strings = p.strings;
     let string = strings[place - 1];
     let d = string.d;
-    let deadline = day_after(release, d);
+    let deadline = day_after(due, d);
     let mut joined = slots;
     joined[place - 1] = Slot {
         string,

@@ -3,7 +3,7 @@ use Rattle.base.proofs.Prelude.{ℕ, suc, _+_, _≤_, _<_, _≡_, sym, ap, _∙
 use Rattle.days.specs.Days.{days}
 use Rattle.rules.specs.{declared.Plan.Plan, declared.Release.Release, declared.Slot.Slot, declared.Job.the-variants.{Empty, Waiting}, Plan.{stringsOf, stringAt, noString}, Release.{noRelease, firstUnlawful}, Demand.{movingCost, holdOf}, Run.{onBank, waits, left, newSlot, joined, taken, lateAt}}
 use Rattle.base.proofs.Lists.{true-not-false, all-at}
-use Rattle.laws.proofs.{Lawful.{LawfulPlan, LawfulString}, Slots.{at, newSlot-string, newSlot-job, newSlot-release, newSlot-deadline, newSlot-serves}, ReleaseList.{str, Released, release-lawful, release-string, released-apart}, Demand.{holdOf-work, holdOf-taker}}
+use Rattle.laws.proofs.{Lawful.{LawfulPlan, LawfulString}, Slots.{at, newSlot-string, newSlot-job, newSlot-release, newSlot-deadline, newSlot-serves}, ReleaseList.{str, Released, dueAt, release-lawful, release-string, released-due, released-late, released-apart}, Demand.{holdOf-work, holdOf-taker}}
 use Rattle.sound.specs.Served.{payerIn}
 use Rattle.laws.proofs.Choices.{late-none}
 use Rattle.sound.proofs.{Joining.{JoinedSlot, NoneCame, joined-at, joined-length}, Taking.{Taker, taken-taking}, Orderly.{held, Live, Sits, Orderly, live-if-waits, taken-orderly}}
@@ -27,7 +27,7 @@ module _ (p : Plan) (rs : List Release) (lawful : LawfulPlan p) (listed : firstU
         let other = late-none t ss punctual j (omega (arith, o .size)) (l .some) in
         omega (arith, l .open-still)
 
-    -- D ≤ T, so an earlier job of the place is gone
+    -- D ≤ T, and no release is before its due day, so an earlier job of the place is gone
     empty-before : (j : ℕ) → j < length (stringsOf p) → Released rs j t → at ss j .job ≡ Empty
     empty-before j a r = go (o .sits j a)
       where
@@ -36,7 +36,7 @@ module _ (p : Plan) (rs : List Release) (lawful : LawfulPlan p) (listed : firstU
         go (inr l) =
             let apart = released-apart p rs listed j (at ss j .release .0) t (l .released) r (l .before) in
             let short = lawful-str p lawful j a .dMax in
-            absurd (omega (arith, later-due j a l, l .due))
+            absurd (omega (arith, later-due j a l, l .due, released-due p rs listed j t r))
 
     pub arrival : (j : ℕ) → j < length (stringsOf p) → Arrival p rs t j (at ss j) (at (joined p rs t ss) j)
     arrival j a = go (joined-at p rs listed t ss j (omega (arith, o .size)))
@@ -59,16 +59,18 @@ module _ (p : Plan) (rs : List Release) (lawful : LawfulPlan p) (listed : firstU
         let most : r .need .0 ≤ str p j .c .0 = rw s at (good .needMax) in
         let job : new .job ≡ Waiting (r .need) (days 0) = newSlot-job p r (suc m) in
         let from : new .release .0 ≡ r .day .0 = ap (λ d. d .0) (newSlot-release p r (suc m)) in
-        let until : new .deadline .0 ≡ r .day .0 + str p j .d .0 =
-        ap (λ d. d .0) (newSlot-deadline p r (suc m)) ∙ ap (λ b. r .day .0 + b .d .0) s in
+        let until : new .deadline .0 ≡ dueAt rs m + str p j .d .0 =
+        ap (λ d. d .0) (newSlot-deadline p r (suc m)) ∙ ap (λ b. dueAt rs m + b .d .0) s in
+        let late = released-late p rs listed j t (m, h, place, day) in
         record {
           some = omega (arith, ap left job, good .needPos);
           released = (m, h, place, sym from);
           named = newSlot-serves p r (suc m);
           before = omega arith;
-          due = omega arith;
+          due = until;
+          due-latest = omega (arith, good .notBefore);
           cap = omega (arith, ap left job, ap held job, holdOf-work p (str p j));
-          open-still = omega (arith, lawful-str p lawful j a .dPos);
+          open-still = omega (arith, lawful-str p lawful j a .jMax);
         }
 
     joined-sits : (j : ℕ) → j < length (stringsOf p) → Sits p rs (suc t) j (at (joined p rs t ss) j)
@@ -87,6 +89,7 @@ module _ (p : Plan) (rs : List Release) (lawful : LawfulPlan p) (listed : firstU
               named = l .named;
               before = omega (arith, l .before);
               due = l .due;
+              due-latest = l .due-latest;
               cap = l .cap;
               open-still = later;
             }))

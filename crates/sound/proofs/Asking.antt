@@ -3,7 +3,7 @@ use Rattle.base.proofs.Prelude.{ℕ, suc, _+_, _*_, _≤_, _<_, _≡_, sym, ap,
 use Rattle.days.specs.Days.{days}
 use Rattle.rules.specs.{declared.Plan.Plan, declared.Release.Release, declared.Slot.Slot, declared.Job.the-variants.Waiting, Plan.stringsOf, Release.{noRelease, firstUnlawful}, Demand.holdOf, Run.{onBank, waits, left, stopped, newSlot, joined, taken, lateAt, putJob}}
 use Rattle.base.proofs.{Lists.{by-bool, true-not-false, and-left, and-right}, Sums.{sumTo, sumTo-le, sumTo-add}}
-use Rattle.laws.proofs.{Lawful.LawfulPlan, Slots.{at, newSlot-release, newSlot-deadline}, ReleaseList.{str, Released, release-string}}
+use Rattle.laws.proofs.{Lawful.LawfulPlan, Slots.{at, newSlot-release, newSlot-deadline}, ReleaseList.{str, Released, dueAt, release-string}}
 use Rattle.sound.proofs.{Orderly.{Sits, Orderly, stopped-left, stopped-off, empty-not-waits, live-if-left}, Arriving.morning-orderly, Morning.{Morning, new, same, fee, morning-place}, Account.{nearLeft, nearLeft-near, nearLeft-far, backlog, asks, Asked}}
 
 module _ (t d : ℕ) (k : Slot) where
@@ -27,13 +27,13 @@ module _ (t d : ℕ) (k : Slot) where
 module _ (p : Plan) (rs : List Release) (t payer j : ℕ) (s k : Slot) where
   -- a job that waits with today's release day came today
   waits-today : Sits p rs t j s → Morning p rs t payer j s k → waits (k .job) ≡ true → k .release .0 ≡ t
-      → Released rs j t × (k .deadline .0 ≡ t + str p j .d .0)
+      → (c : Released rs j t) × (k .deadline .0 ≡ dueAt rs (c .0) + str p j .d .0)
   waits-today sat (new m h place day empty is) w today =
       let r = getD rs m noRelease in
-      let due : k .deadline .0 ≡ r .day .0 + str p j .d .0 =
-      ap (λ x. x .deadline .0) is ∙ ap (λ x. x .0) (newSlot-deadline p r (suc m)) ∙ ap (λ x. r .day .0 + x .d .0)
+      let due : k .deadline .0 ≡ dueAt rs m + str p j .d .0 =
+      ap (λ x. x .deadline .0) is ∙ ap (λ x. x .0) (newSlot-deadline p r (suc m)) ∙ ap (λ x. dueAt rs m + x .d .0)
       (release-string p rs j m place) in
-      ((m, h, place, day), omega arith)
+      ((m, h, place, day), due)
   waits-today (inl e) (same none (inl is)) w today = absurd (empty-not-waits (k .job) (ap (λ x. x .job) is ∙ e) w)
   waits-today (inl e) (same none (inr is)) w today = absurd (empty-not-waits (k .job) (ap (λ x. x .job) is ∙ ap stopped e) w)
   waits-today (inr l) (same none (inl is)) w today = absurd (omega (arith, l .before, ap (λ x. x .release .0) is))

@@ -1,9 +1,10 @@
--- A plan that passes never misses a deadline: on no day of the run is anybody late, and the run ends clean.
+-- A plan that passes never misses a deadline: on no day of the run is anybody late, and the run ends clean. The sharp rule is enough.
 use Rattle.base.proofs.Prelude.{ℕ, zero, suc, _≤_, _<_, _≡_, ap, subst, inl, List, arith, decLe, le-refl, length, length-map, List·getD-map}
 use Rattle.rules.specs.{declared.Plan.Plan, declared.Release.Release, declared.Outcome.the-variants.Clean, Plan.{stringsOf, noString}, Release.firstUnlawful, Demand.Passes, Run.{emptySlot, left, morning, stateAt, lateOn, daysOf, isWork, isMove, isIdle, runOf}}
 use Rattle.laws.proofs.{Lawful.LawfulPlan, Slots.at, History.{missDay-none, runOf-clean}, ReleaseList.str}
 use Rattle.laws.proofs.Choices.{late-nobody}
-use Rattle.sound.proofs.{Orderly.{Orderly, empty-not-on}, Account.{nearLeft, nearLeft-near, nearLeft-some, backlog, Mode, opened}, Keeping.{day-orderly, day-mode}, Closing.account-closes}
+use Rattle.sound.specs.Sharp.{SharplyPasses}
+use Rattle.sound.proofs.{Sharp.passes-sharply, Orderly.{Orderly, empty-not-on}, Account.{nearLeft, nearLeft-near, nearLeft-some, backlog, Mode, opened}, Keeping.{day-orderly, day-mode}, Closing.account-closes}
 use Rattle.base.proofs.Sums.{sumTo-part, sumTo-none}
 
 -- ---- The first day
@@ -52,12 +53,12 @@ module _ (p : Plan) (rs : List Release) (lawful : LawfulPlan p) (listed : firstU
       day-mode p rs lawful listed t (stateAt p rs t) (orderly-at t (λ i h. so-far i (omega arith))) (so-far t (omega arith)) d
       (mode-at d t (λ i h. so-far i (omega arith)))
 
-  module _ (passes : Passes p) where
+  module _ (sharp : SharplyPasses p) where
     -- what is due by day t is done by day t
     nothing-left : (t : ℕ) → Punctual p rs t → backlog p t (stateAt p rs t) ≡ 0
     nothing-left t so-far =
         let mode = mode-at t t so-far in
-        account-closes p rs lawful passes t (mode .start) (mode .b) (mode .k) (stateAt p rs t) (mode .account)
+        account-closes p rs lawful sharp t (mode .start) (mode .b) (mode .k) (stateAt p rs t) (mode .account)
 
     due-done : (t : ℕ) → Punctual p rs t → (j : ℕ) → j < length (stringsOf p) → at (stateAt p rs t) j .deadline .0 ≤ t
         → left (at (stateAt p rs t) j .job) ≡ 0
@@ -72,19 +73,30 @@ module _ (p : Plan) (rs : List Release) (lawful : LawfulPlan p) (listed : firstU
         late-nobody t (stateAt p rs t)
         (λ j h due. due-done t so-far j (omega (arith, orderly-at t so-far .size)) (omega arith))
 
-    pub punctual : (t : ℕ) → Punctual p rs t
-    punctual zero i h = absurd (omega arith)
-    punctual (suc t) i h =
+    pub sharply-punctual : (t : ℕ) → Punctual p rs t
+    sharply-punctual zero i h = absurd (omega arith)
+    sharply-punctual (suc t) i h =
         elim (decLe (suc i) t) [
-          | yes earlier ↦ punctual t i earlier
+          | yes earlier ↦ sharply-punctual t i earlier
           | no last ↦
               let today : t ≡ i = omega arith in
-              subst (λ d. lateOn p rs d ≡ 0) today (next-punctual t (punctual t))
+              subst (λ d. lateOn p rs d ≡ 0) today (next-punctual t (sharply-punctual t))
         ]
 
-    -- a plan that passes never misses a deadline
+    -- a plan that passes sharply never misses a deadline
+    pub sharply-never-late : (t : ℕ) → lateOn p rs t ≡ 0
+    sharply-never-late t = sharply-punctual (suc t) t (le-refl (suc t))
+
+    pub sharply-clean : runOf p rs ≡ Clean (daysOf p rs isWork) (daysOf p rs isMove) (daysOf p rs isIdle)
+    sharply-clean = runOf-clean p rs (missDay-none p rs (λ t h. sharply-never-late t))
+
+  -- so one that passes never does
+  module _ (passes : Passes p) where
+    pub punctual : (t : ℕ) → Punctual p rs t
+    punctual = sharply-punctual (passes-sharply p passes)
+
     pub never-late : (t : ℕ) → lateOn p rs t ≡ 0
-    never-late t = punctual (suc t) t (le-refl (suc t))
+    never-late = sharply-never-late (passes-sharply p passes)
 
     pub run-clean : runOf p rs ≡ Clean (daysOf p rs isWork) (daysOf p rs isMove) (daysOf p rs isIdle)
-    run-clean = runOf-clean p rs (missDay-none p rs (λ t h. never-late t))
+    run-clean = sharply-clean (passes-sharply p passes)

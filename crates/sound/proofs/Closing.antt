@@ -1,31 +1,10 @@
--- The account closes: on day d it is the demand rule at the interval since its start, so nothing due by d is left.
-use Rattle.base.proofs.Prelude.{ℕ, suc, _+_, _-_, _*_, _≤_, _<_, min, _≡_, sym, ap, _∙_, _⊎_, inl, inr, List, arith, ℕ-discrete, decLe, mul-le-mul-right, zero-mul, length}
-use Rattle.rules.specs.{declared.Plan.Plan, declared.Release.Release, declared.Slot.Slot, Plan.{stringsOf, noString, dMin, dMax}, Demand.{holdOf, jobs, blockerHold, blockLimit, need, demand, Passes}}
-use Rattle.base.specs.Count.{largest}
-use Rattle.base.proofs.{Lists.{all-at, largest-ge, smallest-le}, Sums.{sumTo, sumTo-some, sumTo-sumOf}}
-use Rattle.laws.proofs.{Lawful.{LawfulPlan, LawfulString}, Jobs.jobs-window, ReleaseList.str, Demand.{holdOf-other, need-taker, need-keeper, blockLimit-between, blockerHold-hold}}
-use Rattle.sound.proofs.{Arriving.lawful-str, Account.{backlog, Span, BlockedBy, Account}}
-
--- ---- The blocking limit
-
-module _ (p : Plan) (l b : ℕ) where
-  -- some D is within l and some D beyond it: the limit is that of the strings beyond
-  limit-between : (i q : ℕ) → i < length (stringsOf p) → str p i .d .0 ≤ l → q < length (stringsOf p) → l < str p q .d .0
-      → blockLimit p l ≡ min l (largest (blockerHold p l) (stringsOf p))
-  unfolding dMin dMax
-  limit-between i q a short c long =
-      let low = all-at _ (stringsOf p) noString (smallest-le (λ s. s .d .0) (stringsOf p)) i a in
-      let high = all-at _ (stringsOf p) noString (largest-ge (λ s. s .d .0) (stringsOf p)) q c in
-      blockLimit-between p l (omega arith) (omega arith)
-
-  -- what has blocked is within the limit
-  pub blockLimit-reaches : (i : ℕ) → i < length (stringsOf p) → str p i .d .0 ≤ l → b ≤ l
-      → (b ≡ 0) ⊎ ((q : ℕ) × (q < length (stringsOf p)) × (suc b ≤ holdOf p (str p q)) × (l < str p q .d .0)) → b ≤ blockLimit p l
-  blockLimit-reaches i a short within (inl none) = omega arith
-  blockLimit-reaches i a short within (inr q) =
-      let beyond = blockerHold-hold p l (str p (q .0)) (q .3) in
-      let top = all-at _ (stringsOf p) noString (largest-ge (blockerHold p l) (stringsOf p)) (q .0) (q .1) in
-      omega (arith, q .2, limit-between i (q .0) a short (q .1) (q .3))
+-- The account closes: on day d it is the sharp demand rule at the interval since its start, so nothing due by d is left.
+use Rattle.base.proofs.Prelude.{ℕ, suc, _+_, _-_, _*_, _≤_, _<_, _≡_, sym, ap, _∙_, _⊎_, inl, inr, List, arith, ℕ-discrete, decLe, mul-le-mul-right, zero-mul, length}
+use Rattle.rules.specs.{declared.Plan.Plan, declared.Release.Release, declared.Slot.Slot, Plan.{stringsOf, stringAt, noString}, Demand.{holdOf, jobs, need, demand}}
+use Rattle.base.proofs.Sums.{sumTo, sumTo-le, sumTo-some, sumTo-sumOf}
+use Rattle.laws.proofs.{Lawful.{LawfulPlan, LawfulString}, Jobs.jobs-window, ReleaseList.{str, stringAt-suc}, Demand.{holdOf-other, need-taker, need-keeper}}
+use Rattle.sound.specs.Sharp.{needBut, demandBut, CanBlock, SharplyPasses}
+use Rattle.sound.proofs.{Arriving.lawful-str, Account.{backlog, Span, BlockedBy, Account}, Sharp.{needBut-other, demandBut-places}}
 
 -- ---- What a place has asked is within what its string may ask
 
@@ -53,41 +32,77 @@ span-need p rs d start b j k good within (inr s) =
 
 -- ---- The account against the rule
 
-module _ (p : Plan) (rs : List Release) (lawful : LawfulPlan p) (passes : Passes p) (d start b : ℕ) (k : ℕ → ℕ) (ss : List Slot)
+module _ (p : Plan) (rs : List Release) (lawful : LawfulPlan p) (sharp : SharplyPasses p) (d start b : ℕ) (k : ℕ → ℕ) (ss : List Slot)
     (account : Account p rs d d ss start b k) where
-  asked-demand : b + sumTo (length (stringsOf p)) (λ j. k j * holdOf p (str p j)) ≤ demand p (d - start) b
+  abbrev asked : ℕ
+  asked = sumTo (length (stringsOf p)) (λ j. k j * holdOf p (str p j))
+
+  -- what a place has asked
+  place-need : (j : ℕ) → j < length (stringsOf p) → k j * holdOf p (str p j) ≤ need p (d - start) b (str p j)
+  place-need j a = span-need p rs d start b j (k j) (lawful-str p lawful j a) (account .within) (account .spans j a)
+
+  asked-demand : b + asked ≤ demand p (d - start) b
   unfolding demand
   asked-demand =
-      let each =
-      sumTo-sumOf (λ j. k j * holdOf p (str p j)) (need p (d - start) b) (stringsOf p) noString
-      (λ j a. span-need p rs d start b j (k j) (lawful-str p lawful j a) (account .within) (account .spans j a)) in
+      let each = sumTo-sumOf (λ j. k j * holdOf p (str p j)) (need p (d - start) b) (stringsOf p) noString place-need in
       omega arith
 
-  -- a place that has asked: its D is within the interval
-  asked-short : (j : ℕ) → 1 ≤ k j * holdOf p (str p j) → Span p rs d d start b j (k j) → start + str p j .d .0 ≤ d
+  -- the string that blocked has asked for nothing
+  asked-but : (q : ℕ) → k q ≡ 0 → b + asked ≤ demandBut p (d - start) b (suc q)
+  asked-but q own =
+      let each =
+      sumTo-le (length (stringsOf p)) (λ j. k j * holdOf p (str p j)) (λ j. needBut p (d - start) b (suc q) (1 + j)) (λ j a.
+      elim (ℕ-discrete (suc j) (suc q)) [
+        | yes same ↦
+            let index : j ≡ q = omega arith in
+            let none : k j * holdOf p (str p j) ≡ 0 =
+            ap (λ n. n * holdOf p (str p j)) (ap k index ∙ own) ∙ zero-mul (holdOf p (str p j)) in
+            omega arith
+        | no other ↦ omega (arith, needBut-other p (d - start) b (suc q) j other, place-need j a)
+      ]) in
+      omega (arith, demandBut-places p (d - start) b (suc q))
+
+  -- a place that has asked: the interval has room for a job of it
+  asked-short : (j : ℕ) → 1 ≤ k j * holdOf p (str p j) → Span p rs d d start b j (k j) → start + str p j .d .0 ≤ d + str p j .j .0
   asked-short j some (inl none) =
       let zero-days : k j * holdOf p (str p j) ≡ 0 = ap (λ m. m * holdOf p (str p j)) none ∙ zero-mul (holdOf p (str p j)) in
       absurd (omega arith)
   asked-short j some (inr s) = omega (arith, s .from, s .until)
 
-  blocker-beyond : (b ≡ 0) ⊎ BlockedBy p d start b
-      → (b ≡ 0) ⊎ ((q : ℕ) × (q < length (stringsOf p)) × (suc b ≤ holdOf p (str p q)) × (d - start < str p q .d .0))
-  blocker-beyond (inl none) = inl none
-  blocker-beyond (inr q) = inr (q .q, q .place, q .bound, omega (arith, q .far, account .within))
+  -- what has blocked and what was asked are within the interval
+  unblocked-holds : 1 ≤ d - start → b ≡ 0 → b + asked ≤ d - start
+  unblocked-holds pos none =
+      let same : demand p (d - start) b ≡ demand p (d - start) 0 = ap (demand p (d - start)) none in
+      omega (arith, asked-demand, sharp .unblocked (d - start) pos)
+
+  rule-holds : 1 ≤ d - start → (b ≡ 0) ⊎ BlockedBy p rs d start b k → b + asked ≤ d - start
+  rule-holds pos (inl none) = unblocked-holds pos none
+  rule-holds pos (inr by) =
+      elim (decLe 1 b) [
+        | yes some ↦
+            let string : stringAt p (suc (by .q)) ≡ str p (by .q) = stringAt-suc p (by .q) in
+            let can : CanBlock p (d - start) b (suc (by .q)) =
+            record {
+              low = omega arith;
+              high = by .place;
+              some = some;
+              within = omega (arith, account .within);
+              far = rw string (omega (arith, by .job .far, account .within));
+              less = rw string (by .bound);
+            } in
+            omega (arith, asked-but (by .q) (by .own), sharp .blocked (d - start) b (suc (by .q)) can)
+        | no none ↦ unblocked-holds pos (omega arith)
+      ]
 
   pub account-closes : backlog p d ss ≡ 0
   account-closes =
       elim (decLe 1 (backlog p d ss)) [
         | yes some ↦
-            let asked =
+            let one =
             sumTo-some (length (stringsOf p)) (λ j. k j * holdOf p (str p j)) (omega (arith, account .balance, account .within)) in
-            let j = asked .0 in
-            let short = asked-short j (asked .2) (account .spans j (asked .1)) in
-            let whole : 1 ≤ str p j .d .0 = lawful-str p lawful j (asked .1) .dPos in
-            let limit : b ≤ blockLimit p (d - start) =
-            blockLimit-reaches p (d - start) b j (asked .1) (omega arith) (omega (arith, account .within))
-            (blocker-beyond (account .blocker)) in
-            let rule = passes (d - start) b (omega arith) limit in
-            absurd (omega (arith, account .balance, account .within, asked-demand))
+            let j = one .0 in
+            let short = asked-short j (one .2) (account .spans j (one .1)) in
+            let late : str p j .j .0 < str p j .d .0 = lawful-str p lawful j (one .1) .jMax in
+            absurd (omega (arith, account .balance, account .within, rule-holds (omega arith) (account .blocker)))
         | no none ↦ omega arith
       ]

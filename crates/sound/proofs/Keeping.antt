@@ -1,10 +1,10 @@
 -- A day keeps the account: whoever is on the bank in the phase without blocking is near, so what is left falls by one a day; and
 -- while a job that is not near blocks, b grows with the days and no near job that may take the bank has come.
-use Rattle.base.proofs.Prelude.{ℕ, suc, _+_, _*_, _≤_, _<_, _≡_, sym, ap, _∙_, inl, inr, true, List, arith, decLe, length}
+use Rattle.base.proofs.Prelude.{ℕ, suc, _+_, _*_, _≤_, _<_, _≡_, sym, ap, _∙_, subst, _⊎_, inl, inr, true, List, arith, decLe, length}
 use Rattle.rules.specs.{declared.Plan.Plan, declared.Release.Release, declared.Slot.Slot, declared.Job.the-variants.Empty, declared.Use.Use, Plan.stringsOf, Release.firstUnlawful, Demand.holdOf, Run.{onBank, waits, left, given, spent, useOf, joined, taken, lateAt}}
 use Rattle.base.proofs.{Lists.{by-bool, true-not-false}, Sums.{sumTo, sumTo-grown, sumTo-some, sumTo-none}}
 use Rattle.laws.proofs.{Lawful.LawfulPlan, Slots.at, Choice.Nobody, ReleaseList.str}
-use Rattle.sound.proofs.{Using.{Using, idleDay, keptDay, givenDay, Used, spent-using, neither-empty, left-empty}, Orderly.{Live, Orderly, live-if-on, live-if-waits, used-within, using-orderly}, Arriving.morning-orderly, Morning.morning-fair, Account.{nearLeft, nearLeft-some, backlog, asks, Asked, Span, Account, Phase, blocked, flowing, Mode, opened, span-step, span-blocked}, Asking.{morning-asked, morning-backlog, morning-kept, asked-near}, Turn.{turn-left, turn-due, used-less, used-near, used-on, used-flowing}}
+use Rattle.sound.proofs.{Using.{Using, idleDay, keptDay, givenDay, Used, spent-using, neither-empty, left-empty}, Orderly.{Live, Orderly, live-if-on, live-if-waits, used-within, using-orderly}, Arriving.morning-orderly, Morning.morning-fair, Account.{nearLeft, nearLeft-some, backlog, asks, Asked, Span, Blocking, BlockedBy, Account, Phase, blocked, flowing, Mode, opened, span-step, blocker-silent, span-blocked}, Asking.{morning-asked, morning-backlog, morning-kept, asked-near}, Turn.{turn-left, turn-due, used-less, used-near, used-on, used-flowing}}
 
 pub day-orderly : (p : Plan) (rs : List Release) → LawfulPlan p → firstUnlawful p rs ≡ 0 → (t : ℕ) (ss : List Slot) → Orderly p rs t ss
     → lateAt t ss ≡ 0
@@ -47,13 +47,22 @@ module _ (p : Plan) (rs : List Release) (lawful : LawfulPlan p) (listed : firstU
       span-step p rs listed d t (mode .start) (mode .b) j (mode .account .within) (mode .k j) (asks t d (at ks j))
       (morning-asked p rs lawful listed t ss o punctual d j a) (mode .account .spans j a)
 
+  -- no near job of the string that blocked has come
+  blocker-more : (b : ℕ) → (b ≡ 0) ⊎ BlockedBy p rs d (mode .start) b (mode .k) → (b ≡ 0) ⊎ BlockedBy p rs d (mode .start) b more
+  blocker-more b (inl none) = inl none
+  blocker-more b (inr by) =
+      let silent =
+      blocker-silent p rs listed d t (mode .start) (by .q) (asks t d (at ks (by .q))) (omega (arith, mode .account .within)) (by .job)
+      (morning-asked p rs lawful listed t ss o punctual d (by .q) (by .place)) in
+      inr (record { q = by .q; place = by .place; bound = by .bound; job = by .job; own = omega (arith, by .own) })
+
   -- a near job used the day
   near-account : backlog p d es < backlog p d ks → Account p rs d (suc t) es (mode .start) (mode .b) more
   near-account less =
       record {
         balance = omega (arith, more-balance);
         within = omega (arith, mode .account .within);
-        blocker = mode .account .blocker;
+        blocker = blocker-more (mode .b) (mode .account .blocker);
         spans = more-spans;
       }
 
@@ -90,7 +99,8 @@ module _ (p : Plan) (rs : List Release) (lawful : LawfulPlan p) (listed : firstU
     kept-only i b on' = orderly .alone i h b a on' on
 
     module _ (far : d < at ks h .deadline .0) (days-so-far : t ≡ mode .start + mode .b)
-        (bound : left (at ks h .job) + suc (mode .b) ≤ holdOf p (str p h)) (long : d < mode .start + str p h .d .0)
+        (bound : left (at ks h .job) + suc (mode .b) ≤ holdOf p (str p h)) (job : Blocking p rs d (mode .start) h)
+        (own : mode .k h ≡ 0)
         (no-takers : (j : ℕ) → j < length (stringsOf p) → str p j .x ≡ 1 → mode .k j ≡ 0) where
       -- a near job that might have taken the bank would have
       none-came : (j : ℕ) → j < length (stringsOf p) → str p j .x ≡ 1 → asks t d (at ks j) ≡ 0
@@ -107,6 +117,14 @@ module _ (p : Plan) (rs : List Release) (lawful : LawfulPlan p) (listed : firstU
       still-no-takers : (j : ℕ) → j < length (stringsOf p) → str p j .x ≡ 1 → more j ≡ 0
       still-no-takers j b x = omega (arith, no-takers j b x, none-came j b x)
 
+      still-own : more h ≡ 0
+      still-own =
+          omega (
+            arith,
+            blocker-silent p rs listed d t (mode .start) h (asks t d (at ks h)) (omega arith) job
+                (morning-asked p rs lawful listed t ss o punctual d h a),
+          )
+
       abbrev turned : suc (left (at es h .job)) ≡ left (at ks h .job)
       turned = turn-left p rs (suc t) d ks es u orderly h k kept-live
 
@@ -115,17 +133,17 @@ module _ (p : Plan) (rs : List Release) (lawful : LawfulPlan p) (listed : firstU
           record {
             balance = omega (arith, more-balance, used-less p rs (suc t) d ks es u orderly h k kept-live);
             within = omega arith;
-            blocker = inr (record { q = h; place = a; bound = omega (arith, turned); far = long });
+            blocker = inr (record { q = h; place = a; bound = omega (arith, turned); job = job; own = still-own });
             spans = λ j b. span-blocked p rs d (suc t) (mode .start) (mode .b) j (more j) (still-no-takers j b) (more-spans j b);
           }
 
       -- it goes on, or it is gone and the bank is free
-      blocked-phase : Phase p d (suc t) es (mode .start) (suc (mode .b)) more
+      blocked-phase : Phase p rs d (suc t) es (mode .start) (suc (mode .b)) more
       blocked-phase =
           by-bool (onBank (at es h .job))
           (λ on'.
           blocked h a on' (omega (arith, turn-due p rs (suc t) d ks es u orderly h k kept-live)) (omega arith)
-          (omega (arith, turned)) long still-no-takers)
+          (omega (arith, turned)) job still-own still-no-takers)
           (λ off.
           flowing
           (λ i b on'.
@@ -136,14 +154,15 @@ module _ (p : Plan) (rs : List Release) (lawful : LawfulPlan p) (listed : firstU
       blocked-mode : Mode p rs d (suc t) es
       blocked-mode = record { start = mode .start; b = suc (mode .b); k = more; account = blocked-account; phase = blocked-phase }
 
-    kept-mode : Phase p d t ss (mode .start) (mode .b) (mode .k) → Mode p rs d (suc t) es
-    kept-mode (blocked q b on' far same-day bound long no-takers) =
+    kept-mode : Phase p rs d t ss (mode .start) (mode .b) (mode .k) → Mode p rs d (suc t) es
+    kept-mode (blocked q b on' far same-day bound job own no-takers) =
         let who : q ≡ h = o .alone q h b a on' kept-before in
         let due = ap (λ i. at ss i .deadline .0) who in
         let rest = ap (λ i. left (at ss i .job)) who in
         blocked-mode (omega (arith, kept-due)) same-day
         (omega (arith, kept-left, ap (λ i. holdOf p (str p i)) who))
-        (omega (arith, ap (λ i. str p i .d .0) who))
+        (subst (Blocking p rs d (mode .start)) who job)
+        (omega (arith, ap (mode .k) who))
         no-takers
     kept-mode (flowing all-near) =
         near-mode u h k kept-live kept-only (omega (arith, all-near h a kept-before, kept-due))

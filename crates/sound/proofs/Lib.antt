@@ -1,5 +1,5 @@
 -- A plan that passes never misses a deadline. Modules stand in the order in which they build on each other; the theorems are in
--- Clean, CleanAnswer and Served.
+-- Clean, CleanAnswer and Served, from the sharp rule (Sharp), of which the desk's is a consequence.
 pub mod Joining
 pub mod Taking
 pub mod Using
@@ -10,6 +10,7 @@ pub mod Account
 pub mod Asking
 pub mod Turn
 pub mod Keeping
+pub mod Sharp
 pub mod Closing
 pub mod Clean
 pub mod CleanAnswer

@@ -1,6 +1,6 @@
 -- Each day of work or of moving names the place of its release, which has joined and is not yet due.
 use Rattle.base.proofs.Prelude.{ℕ, suc, _+_, _-_, _<_, _≡_, sym, ap, subst, List, arith, ltb, length, getD}
-use Rattle.rules.specs.{declared.Plan.Plan, declared.Release.Release, declared.Slot.Slot, declared.Job.Job, declared.Job.the-variants.{Empty, Waiting, OnBank}, declared.Use.Use, Release.{noRelease, firstUnlawful}, Run.{seated, given, spent, useOf, usedFor, joined, taken, morning, stateAt, useOn, lateOn}}
+use Rattle.rules.specs.{declared.Plan.Plan, declared.Release.Release, declared.Slot.Slot, declared.Job.Job, declared.Job.the-variants.{Empty, Waiting, OnBank}, declared.Use.Use, Release.{noRelease, dueDay, firstUnlawful}, Run.{seated, given, spent, useOf, usedFor, joined, taken, morning, stateAt, useOn, lateOn}}
 use Rattle.base.proofs.Lists.{by-bool}
 use Rattle.laws.proofs.{Lawful.LawfulPlan, ReleaseList.str, Slots.at}
 use Rattle.sound.specs.Served.{released, dueOf, ForRelease, Named}
@@ -27,7 +27,7 @@ module _ (p : Plan) (rs : List Release) (t : ℕ) where
         high = omega (arith, l .named, l .released .1);
         place = there;
         since = omega (arith, l .before);
-        due = rw (there, place) (omega (arith, l .open-still, l .due));
+        due = rw (there, place) (omega (arith, l .open-still, l .due, ap dueDay this));
       }
 
   named-using : (ks es : List Slot) (u : Use) → Orderly p rs (suc t) ks → Using ks es u → Named p rs t u

@@ -5,7 +5,7 @@
 use Rattle.base.proofs.Prelude.{ℕ, suc, _+_, _≤_, _<_, _≡_, refl, sym, ap, _∙_, subst, _⊎_, inl, inr, true, false, cond, List, arith, ℕ-discrete, length}
 use Rattle.rules.specs.{declared.Plan.Plan, declared.Release.Release, declared.Slot.Slot, declared.Job.Job, declared.Job.the-variants.{Empty, Waiting, OnBank}, declared.Use.Use, Plan.stringsOf, Demand.{movingCost, holdOf}, Run.{onBank, waits, left, stopped, charged, seated, spentJob, putJob}}
 use Rattle.base.proofs.Lists.{by-bool, true-not-false}
-use Rattle.laws.proofs.{Slots.at, ReleaseList.{str, Released}}
+use Rattle.laws.proofs.{Slots.at, ReleaseList.{str, Released, dueAt}}
 use Rattle.sound.proofs.{Taking.{Taking, bankFree, bankKept, bankTaken, Took, Taker}, Using.{Using, idleDay, keptDay, givenDay, Used, spent-left, spent-cases, GoneOrOn}}
 
 -- a job on the bank at the start of a day has used a day
@@ -17,7 +17,8 @@ pub record Live (p : Plan) (rs : List Release) (t j : ℕ) (s : Slot) : Type 0 w
   pub released : Released rs j (s .release .0)
   pub named : s .serves ≡ suc (released .0)
   pub before : s .release .0 < t
-  pub due : s .deadline .0 ≡ s .release .0 + str p j .d .0
+  pub due : s .deadline .0 ≡ dueAt rs (released .0) + str p j .d .0
+  pub due-latest : s .deadline .0 ≤ s .release .0 + str p j .d .0
   pub cap : left (s .job) + held (s .job) ≤ holdOf p (str p j)
   pub open-still : t ≤ s .deadline .0
 
@@ -89,6 +90,7 @@ module _ (p : Plan) (rs : List Release) (t j : ℕ) (s : Slot) (job : Job) where
         named = l .named;
         before = l .before;
         due = l .due;
+        due-latest = l .due-latest;
         cap = cap;
         open-still = l .open-still;
       }

@@ -18,13 +18,13 @@ pub data Progress (rs : List Release) (m j owed t works moves : ℕ) (s : Slot) 
 
 module _ (p : Plan) (rs : List Release) (listed : firstUnlawful p rs ≡ 0) (m j : ℕ) (h : m < length rs)
     (place : getD rs m noRelease .place ≡ suc j)
-    (pos : 1 ≤ str p j .t .0) (owed t works moves payer : ℕ) where
+    (below : str p j .j .0 < str p j .t .0) (owed t works moves payer : ℕ) where
   -- ---- The morning: the progress is as of the next day, but for the day's use
 
   -- another release of the place than this one, on day t
   other-day : (i : ℕ) → i < length rs → getD rs i noRelease .place ≡ suc j → getD rs i noRelease .day .0 ≡ t → i ≢ m
       → getD rs m noRelease .day .0 ≢ t
-  other-day i a there day other today = other (released-once p rs listed j t pos (i, a, there, day) (m, h, place, today))
+  other-day i a there day other today = other (released-once p rs listed j t below (i, a, there, day) (m, h, place, today))
 
   this-new : (s k : Slot) → getD rs m noRelease .day .0 ≡ t → (getD rs m noRelease .day .0 ≡ t → fee p payer j ≡ owed)
       → k ≡ putJob (newSlot p (getD rs m noRelease) (suc m)) (Waiting (getD rs m noRelease .need) (days (fee p payer j)))

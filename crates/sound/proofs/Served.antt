@@ -3,9 +3,10 @@
 use Rattle.base.proofs.Prelude.{ℕ, zero, suc, _+_, _-_, _≤_, _<_, _≡_, refl, sym, ap, _∙_, subst, List, arith, decLe, length, getD}
 use Rattle.rules.specs.{declared.Plan.Plan, declared.Release.Release, Plan.stringsOf, Release.{noRelease, firstUnlawful}, Demand.Passes, Run.{left, given, spent, useOf, joined, taken, morning, stateAt, useOn, lateOn, history}}
 use Rattle.base.specs.Count.{countOf}
-use Rattle.laws.proofs.{Lawful.LawfulPlan, JobParts.parts-left, Slots.at, History.history-next, ReleaseList.{str, release-lawful}}
+use Rattle.laws.proofs.{Lawful.LawfulPlan, JobParts.parts-left, Slots.at, History.history-next, ReleaseList.{str, dueAt, release-lawful, released-late}}
+use Rattle.sound.specs.Sharp.{SharplyPasses}
 use Rattle.sound.specs.Served.{released, dueOf, worksFor, movesFor, payerIn, payerOn, paid, movingCaused, Served, Untouched}
-use Rattle.sound.proofs.{Using.spent-using, Orderly.live-if-left, Arriving.{lawful-str, later-due, morning-orderly}, Morning.{fee, morning-place}, Clean.{Punctual, orderly-at, punctual}, Progress.{Progress, toCome, serving, past, morning-progress, using-progress}}
+use Rattle.sound.proofs.{Using.spent-using, Orderly.live-if-left, Arriving.{lawful-str, later-due, morning-orderly}, Morning.{fee, morning-place}, Clean.{Punctual, orderly-at, sharply-punctual}, Sharp.passes-sharply, Progress.{Progress, toCome, serving, past, morning-progress, using-progress}}
 
 module _ (p : Plan) (rs : List Release) (lawful : LawfulPlan p) (listed : firstUnlawful p rs ≡ 0)
     (m j : ℕ) (h : m < length rs) (place : getD rs m noRelease .place ≡ suc j) where
@@ -35,9 +36,10 @@ module _ (p : Plan) (rs : List Release) (lawful : LawfulPlan p) (listed : firstU
       let js = joined p rs t ss in
       let ks = taken p t js in
       let owes : getD rs m noRelease .day .0 ≡ t → fee p (payerIn t js) j ≡ owed = λ e. ap (λ d. fee p (payerOn p rs d) j) (sym e) in
+      let string = lawful-str p lawful j there in
       let mid =
-      morning-progress p rs listed m j h place (lawful-str p lawful j there .tPos) owed t (works t) (moves t) (payerIn t js) (at ss j)
-      (at ks j)
+      morning-progress p rs listed m j h place (omega (arith, string .jMax, string .dMax)) owed t (works t) (moves t) (payerIn t js)
+      (at ss j) (at ks j)
       owes (morning-place p rs lawful listed t ss o today j there) before in
       let done =
       using-progress p rs m j place owed (suc t) (works t) (moves t) ks (spent (given ks)) (useOf (given ks))
@@ -50,7 +52,7 @@ module _ (p : Plan) (rs : List Release) (lawful : LawfulPlan p) (listed : firstU
   progress-at (suc t) so-far = progress-day t so-far (progress-at t (λ i a. so-far i (omega arith)))
 
   -- by its deadline the slot has nothing left for it, where nobody has been late
-  nothing-owed : (e : ℕ) → Punctual p rs (suc e) → getD rs m noRelease .day .0 + str p j .d .0 ≤ e → at (stateAt p rs e) j .serves ≡ suc m
+  nothing-owed : (e : ℕ) → Punctual p rs (suc e) → dueAt rs m + str p j .d .0 ≤ e → at (stateAt p rs e) j .serves ≡ suc m
       → left (at (stateAt p rs e) j .job) ≡ 0
   unfolding lateOn
   nothing-owed e so-far due named =
@@ -60,16 +62,17 @@ module _ (p : Plan) (rs : List Release) (lawful : LawfulPlan p) (listed : firstU
         | yes some ↦
             let l = live-if-left p rs e j s (o .sits j there) some in
             let this : l .released .0 ≡ m = omega (arith, l .named) in
-            let day : getD rs (l .released .0) noRelease .day .0 ≡ getD rs m noRelease .day .0 = ap (λ i. getD rs i noRelease .day .0)
-            this in
+            let same : dueAt rs (l .released .0) ≡ dueAt rs m = ap (dueAt rs) this in
             let later = later-due p rs lawful listed e (stateAt p rs e) o (so-far e (omega arith)) j there l in
-            absurd (omega (arith, l .released .3, l .due))
+            absurd (omega (arith, l .due))
         | no none ↦ omega arith
       ]
 
-  served-by : (e : ℕ) → Punctual p rs (suc e) → getD rs m noRelease .day .0 + str p j .d .0 ≤ e → Sofar e
+  served-by : (e : ℕ) → Punctual p rs (suc e) → dueAt rs m + str p j .d .0 ≤ e → Sofar e
       → (works e ≡ getD rs m noRelease .need .0) × (moves e ≡ owed)
-  served-by e so-far due (toCome before w v) = absurd (omega (arith, lawful-str p lawful j there .dPos))
+  served-by e so-far due (toCome before w v) =
+      let late = released-late p rs listed j (getD rs m noRelease .day .0) (m, h, place, refl) in
+      absurd (omega (arith, lawful-str p lawful j there .jMax))
   served-by e so-far due (serving before named w v) =
       let s = at (stateAt p rs e) j in
       let none = nothing-owed e so-far due named in
@@ -127,7 +130,20 @@ module _ (p : Plan) (rs : List Release) (lawful : LawfulPlan p) (listed : firstU
       let number : suc (k - 1) ≡ k = omega arith in
       subst (λ n. Served p rs n e) number (served-index (k - 1) e (omega arith) so-far due)
 
+  -- In a run that is late on no day up to N, whatever the verdict: each job whose deadline lies within the run has had all its work, and
+  -- any moving it caused, on days from its release on and before its deadline.
+  pub served-clean : Punctual p rs (suc (p .run .0)) → (k : ℕ) → 1 ≤ k → k ≤ length rs → dueOf p (released rs k) ≤ p .run .0
+      → Untouched p rs k (released rs k .day .0) × Served p rs k (dueOf p (released rs k))
+  served-clean so-far k low high due =
+      let early = release-lawful p rs listed (k - 1) (omega arith) .early in (
+        untouched k (released rs k .day .0) low high (λ i a. so-far i (omega arith)) (omega arith),
+        served-punctual k (dueOf p (released rs k)) low high (λ i a. so-far i (omega arith)) (omega arith),
+      )
+
   -- In a run of a plan that passes. Where e is at most N this is the history of the run; after it the definition goes on with no further
   -- release.
+  pub sharply-served : SharplyPasses p → (k e : ℕ) → 1 ≤ k → k ≤ length rs → dueOf p (released rs k) ≤ e → Served p rs k e
+  sharply-served sharp k e low high due = served-punctual k e low high (sharply-punctual p rs lawful listed sharp (suc e)) due
+
   pub served : Passes p → (k e : ℕ) → 1 ≤ k → k ≤ length rs → dueOf p (released rs k) ≤ e → Served p rs k e
-  served passes k e low high due = served-punctual k e low high (punctual p rs lawful listed passes (suc e)) due
+  served passes = sharply-served (passes-sharply p passes)

@@ -50,6 +50,6 @@ module _ (p : Plan) (rs : List Release) (t d : ℕ) (ks es : List Slot) (u : Use
 
   -- and if he is near, the bank flows
   pub used-flowing : {start b : ℕ} {c : ℕ → ℕ} → ((i : ℕ) → i < length (stringsOf p) → onBank (at ks i .job) ≡ true → i ≡ h)
-      → at ks h .deadline .0 ≤ d → Phase p d t es start b c
+      → at ks h .deadline .0 ≤ d → Phase p rs d t es start b c
   used-flowing only near =
       flowing (λ i a on. subst (λ j. at es j .deadline .0 ≤ d) (sym (used-on only i a on)) (omega (arith, turn-due)))

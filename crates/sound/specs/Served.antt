@@ -1,6 +1,5 @@
 -- What the history of a run says of one release (document 01, "The day-by-day run").
---     released rs k         the k-th release of the list, from 1
---     dueOf p r             the deadline of the release r: its day plus its string's D
+--     dueOf p r             the deadline of the release r
 --     worksFor k u          on a day used as u the bank works for the k-th release of the list
 --     movesFor k u          on a day used as u the bank moves for the k-th release of the list
 --     payerIn t ss          the place of the payer of day t, ss being the slots once the day's releases have joined; 0 where nobody takes
@@ -14,12 +13,12 @@
 --     ForRelease p rs t i k a day t used for place i and for the k-th release: the place is that release's, which has joined and is not
 -- yet due
 --     Named p rs t u        the day t, used as u, is idle or used for such a release
-use Prim.Native.Nat.{ℕ, _+_, _-_, _≤_, _<_}
+use Prim.Native.Nat.{ℕ, _≤_, _<_}
 use mathlib.Core.Path.{_≡_}
 use mathlib.Core.Bool.{Bool, false, cond}
 use mathlib.Core.List.{List}
 use lib.Dec.{eqb}
-use lib.ListN.{length, getD}
+use lib.ListN.{length}
 use Rattle.base.specs.Count.{countOf}
 use Rattle.rules.specs.declared.Plan.{Plan}
 use Rattle.rules.specs.declared.Release.{Release}
@@ -28,14 +27,12 @@ use Rattle.rules.specs.declared.Use.{Use}
 use Rattle.rules.specs.declared.Use.the-variants.{Idle, Work, Move}
 use Rattle.rules.specs.Plan.{stringAt}
 use Rattle.rules.specs.Demand.{movingCost}
-use Rattle.rules.specs.Release.{noRelease}
+pub use Rattle.rules.specs.Release.{released}
+use Rattle.rules.specs.Release.{deadlineOf}
 use Rattle.rules.specs.Run.{holder, payer, joined, stateAt, history}
 
-abbrev pub released : List Release → ℕ → Release
-released rs k = getD rs (k - 1) noRelease
-
 abbrev pub dueOf : Plan → Release → ℕ
-dueOf p r = r .day .0 + stringAt p (r .place) .d .0
+dueOf p r = deadlineOf p r
 
 abbrev pub worksFor : ℕ → Use → Bool
 worksFor k Idle = false

@@ -1,17 +1,16 @@
--- What the tries find: a try that is found has a list of at most 1,000 releases over which the plan misses; and where the rule with free
--- moving breaks and the list there has at most 1,000 releases, one is found.
+-- What the tries find: a try that is found has a list of at most 1,000 releases over which the plan misses; and where the sharp rule with
+-- free moving breaks and the list there has at most 1,000 releases, one is found.
 use Rattle.base.proofs.Prelude.{ℕ, _-_, _≤_, min, _≡_, refl, sym, ap, _∙_, true, List, _∷_, _++_, none, some, arith, length, replicate, take-all, take-append-seam}
 use Rattle.days.specs.{Days.day, declared.Day.Day}
 use Rattle.base.proofs.{Lists.true-not-false, FirstOf.{firstOf-none, firstOf-passes}}
 use Rattle.faults.specs.declared.Checked.the-variants.{Lawful}
 use Rattle.faults.proofs.Checks.{by-checked, then-lawful}
-use Rattle.rules.specs.{declared.Plan.Plan, declared.Release.Release, declared.Outcome.the-variants.{Miss, Clean}, declared.AskedOutcome.AskedOutcome, declared.AskedOutcome.the-variants.{Refused, Given}, Release.{noRelease, releasesOf, firstUnlawful}, Refusal.{planCheck, releasesCheck, runCheck, runAnswer}, Run.runOf, Verdict.Pair, Plan.withRun}
-use Rattle.laws.proofs.{Lawful.{LawfulPlan, dMax-le}, LawfulChecked.lawful-checked, Releases.{LawfulRun, runCheck-lawful, releasesCheck-good}, Answers.run-lawful}
-use Rattle.demand.proofs.Verdict.{firstBroken-names, firstBroken-in-range}
-use Rattle.demand.specs.FirstBreak.{FirstBreak}
-use Rattle.exact.specs.Missing.{freely, missing, MissesBy}
-use Rattle.exact.proofs.{Freely.freely-lawful, Exact.{withRun-lawful, break-misses-by}, Longer.{miss-soon, longer-misses}}
-use Rattle.tries.specs.Tries.{Try, endOfTry, listOf, freeBreak, ownBreak, blockTry, freeTries, heldTries, stoppedTries, paidTries, tries, packed, isMiss, missesOn, found, raised}
+use Rattle.rules.specs.{declared.Plan.Plan, declared.Release.Release, declared.Outcome.the-variants.{Miss, Clean}, declared.AskedOutcome.AskedOutcome, declared.AskedOutcome.the-variants.{Refused, Given}, Release.{noRelease, releasesOf, firstUnlawful}, Refusal.{planCheck, releasesCheck, runCheck, runAnswer}, Run.runOf, Plan.withRun}
+use Rattle.laws.proofs.{Lawful.LawfulPlan, LawfulChecked.lawful-checked, Releases.{LawfulRun, runCheck-lawful, releasesCheck-good}, Answers.run-lawful}
+use Rattle.exact.specs.Missing.{SharpBreak, missing, MissesBy}
+use Rattle.exact.proofs.{Exact.{withRun-lawful, mostLate-le, sharp-break-misses}, Longer.{miss-soon, longer-misses}}
+use Rattle.tries.specs.Tries.{Break, Try, endOfTry, listOf, freeBreak, ownBreak, blockTry, freeTries, heldTries, stoppedTries, paidTries, tries, packed, isMiss, missesOn, found, raised}
+use Rattle.tries.proofs.FreeBreaks.{break-names, break-near}
 
 -- ---- A list as the code has it
 
@@ -95,31 +94,27 @@ module _ (p : Plan) (y : Try) (h : found p ≡ some y) where
       longer-misses p (listOf p y) (endOfTry y) (raised p y) (omega arith) (endOfTry y)
       (packed-misses (withRun p (endOfTry y)) (listOf p y) found-on)
 
--- ---- Where the rule with free moving breaks
+-- ---- Where the sharp rule with free moving breaks
 
-module _ (p : Plan) (ok : LawfulPlan p) (q : Pair) (breaks : freeBreak p ≡ some q) (few : length (missing p (q .l) (q .b)) ≤ 1000) where
-  first : FirstBreak (freely p) (q .l) (q .b)
-  first = firstBroken-names (freely p) (q .l) (q .b) breaks
-
+module _ (p : Plan) (ok : LawfulPlan p) (y : Break) (is : freeBreak p ≡ some y) (few : length (missing p (y .l) (y .b) (y .q)) ≤ 1000) where
   abbrev end : ℕ
-  end = endOfTry (blockTry p q)
+  end = endOfTry (blockTry p y)
+
+  broken : SharpBreak p (y .l) (y .b) (y .q)
+  broken = break-names p y is
 
   end-bounded : end ≤ 1000000
-  end-bounded =
-      let free = freely-lawful p ok in
-      omega (arith, firstBroken-in-range (freely p) (q .l) (q .b) breaks, dMax-le (freely p) free, free .hMax)
+  end-bounded = omega (arith, break-near p y is, ok .hMax, mostLate-le p ok)
 
-  block-misses : MissesBy (withRun p end) (missing p (q .l) (q .b)) end
-  block-misses =
-      let low : 1 ≤ end = omega (arith, first .pos) in
-      break-misses-by p ok end (q .l) (q .b) low end-bounded (omega arith) (first .allowed) (first .breaks)
+  block-misses : MissesBy (withRun p end) (missing p (y .l) (y .b) (y .q)) end
+  block-misses = sharp-break-misses p ok end (y .l) (y .b) (y .q) end-bounded (omega arith) broken
 
-  block-found : missesOn p (blockTry p q) ≡ true
+  block-found : missesOn p (blockTry p y) ≡ true
   unfolding missesOn listOf missing isMiss
   block-found =
-      let low : 1 ≤ end = omega (arith, first .pos) in
+      let low : 1 ≤ end = omega (arith, broken .pos) in
       let lawful = lawful-checked (withRun p end) (withRun-lawful p end ok low end-bounded) in
-      ap isMiss (misses-packed (withRun p end) (listOf p (blockTry p q)) end lawful few block-misses)
+      ap isMiss (misses-packed (withRun p end) (listOf p (blockTry p y)) end lawful few block-misses)
 
   -- a list is found
   pub found-where-free : found p ≡ none → ⊥
@@ -127,5 +122,5 @@ module _ (p : Plan) (ok : LawfulPlan p) (q : Pair) (breaks : freeBreak p ≡ som
   found-where-free h =
       let rest = heldTries p (ownBreak p) ++ (stoppedTries p ++ paidTries p) in
       let all = firstOf-none (missesOn p) (tries p) .0 h in
-      let free : tries p ≡ blockTry p q ∷ rest = ap (λ o. freeTries p o ++ rest) breaks in
+      let free : tries p ≡ blockTry p y ∷ rest = ap (λ o. freeTries p o ++ rest) is in
       true-not-false (sym block-found ∙ (rw free at all) .0)

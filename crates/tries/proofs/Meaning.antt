@@ -2,20 +2,23 @@
 --     Refused      as the plan's check refuses
 --     Passes       the plan passes, so no lawful list misses, whatever N
 --     Found        the list that is shown is lawful, and its run misses
---     NoneFound    the plan does not pass; with free moving it would
---     TooMany      the plan does not pass, not even with free moving: there is a list that misses, and it has more than 1,000 releases
-use Rattle.base.proofs.Prelude.{ℕ, _≤_, _<_, _≡_, refl, sym, ap, _∙_, _↔_, true, false, Option, none, some, arith, decLe, length}
+--     NoneFound    the plan does not pass; with free moving it would pass sharply, so that it would never miss
+--     TooMany      the plan does not pass, not even sharply with free moving: there is a list that misses, and it has more than 1,000
+--                  releases
+use Rattle.base.proofs.Prelude.{ℕ, _≤_, _≡_, refl, sym, ap, _∙_, _↔_, true, false, Option, none, some, arith, decLe, length}
 use Rattle.days.specs.{Days.{day, days}, declared.Day.Day, declared.Length.Length}
 use Rattle.base.proofs.Lists.{by-bool, true-not-false}
 use Rattle.faults.specs.declared.Fault.{Fault}
 use Rattle.faults.proofs.Checks.{by-checked}
-use Rattle.rules.specs.{declared.Plan.Plan, declared.Outcome.the-variants.Miss, declared.AskedOutcome.the-variants.Given, Demand.Passes, Verdict.{Pair, verdictOf, isPass}, Release.releasesOf, Run.runOf, Refusal.{planCheck, runAnswer}, Plan.withRun}
-use Rattle.laws.proofs.{Lawful.{LawfulPlan, dMax-le, planCheck-lawful}, LawfulChecked.lawful-checked}
-use Rattle.demand.proofs.{Unbroken.passes-of-none, Verdict.{firstBroken-names, firstBroken-in-range, passes-of-pass, pass-of-passes}}
+use Rattle.rules.specs.{declared.Plan.Plan, declared.Outcome.the-variants.Miss, declared.AskedOutcome.the-variants.Given, Demand.Passes, Verdict.{verdictOf, isPass}, Release.releasesOf, Run.runOf, Refusal.{planCheck, runAnswer}, Plan.withRun}
+use Rattle.laws.specs.Lawful.{OnTime}
+use Rattle.laws.proofs.{Lawful.{LawfulPlan, planCheck-lawful}, LawfulChecked.lawful-checked}
+use Rattle.demand.proofs.Verdict.{passes-of-pass, pass-of-passes}
+use Rattle.sound.specs.Sharp.{SharplyPasses}
 use Rattle.exact.specs.Missing.{freely, missing, NeverMisses, FreeMoving}
-use Rattle.exact.proofs.{Freely.{freely-lawful, free-passes}, Exact.{withRun-lawful, break-misses, passes-never}}
-use Rattle.tries.specs.{declared.Missing.Missing, Tries.{Try, listOf, freeBreak, packed, found, raised, unfound, foundAs, missingOf, missingAnswer}, Shown.{Shows, MissesOverMany}}
-use Rattle.tries.proofs.Found.{packed-holds, misses-packed, found-bounded, found-few, found-misses, found-where-free}
+use Rattle.exact.proofs.{Exact.{withRun-lawful, mostLate-le, sharp-break-misses, sharply-never, passes-never, free-sharp}, NoLateDays.sharp-is-rule}
+use Rattle.tries.specs.{declared.Missing.Missing, Tries.{Break, Try, listOf, freeBreak, packed, found, raised, unfound, foundAs, missingOf, missingAnswer}, Shown.{Shows, MissesOverMany}}
+use Rattle.tries.proofs.{FreeBreaks.{break-names, break-near, none-sharp}, Found.{packed-holds, misses-packed, found-bounded, found-few, found-misses, found-where-free}}
 use Rattle.faults.specs.declared.Checked.the-variants as checked
 use Rattle.tries.specs.declared.Missing.the-variants as answer
 
@@ -50,11 +53,11 @@ module _ (p : Plan) where
   module _ {B : Type 0} (refused : (f : Fault) (at : ℕ) → planCheck p ≡ checked.Refused f at → B)
       (passes : planCheck p ≡ checked.Lawful → isPass (verdictOf p) ≡ true → B)
       (nothing : Tried → found p ≡ none → freeBreak p ≡ none → B)
-      (many : Tried → found p ≡ none → (q : Pair) → freeBreak p ≡ some q → B)
+      (many : Tried → found p ≡ none → (y : Break) → freeBreak p ≡ some y → B)
       (shown : Tried → (y : Try) → found p ≡ some y → B) where
-    by-free : Tried → found p ≡ none → (o : Option Pair) → freeBreak p ≡ o → B
+    by-free : Tried → found p ≡ none → (o : Option Break) → freeBreak p ≡ o → B
     by-free tried e none whole = nothing tried e whole
-    by-free tried e (some q) breaks = many tried e q breaks
+    by-free tried e (some y) breaks = many tried e y breaks
 
     by-found : Tried → (o : Option Try) → found p ≡ o → B
     by-found tried none e = by-free tried e (freeBreak p) refl
@@ -73,8 +76,8 @@ module _ (p : Plan) where
   nothing-says : Tried → found p ≡ none → freeBreak p ≡ none → missingAnswer p .missing ≡ answer.NoneFound
   nothing-says tried none-is whole = unfound-says tried none-is ∙ ap unfound whole
 
-  many-says : Tried → found p ≡ none → (q : Pair) → freeBreak p ≡ some q → missingAnswer p .missing ≡ answer.TooMany
-  many-says tried none-is q breaks = unfound-says tried none-is ∙ ap unfound breaks
+  many-says : Tried → found p ≡ none → (y : Break) → freeBreak p ≡ some y → missingAnswer p .missing ≡ answer.TooMany
+  many-says tried none-is y breaks = unfound-says tried none-is ∙ ap unfound breaks
 
   shown-is : Tried → (y : Try) → found p ≡ some y → missingAnswer p ≡ foundAs p (some y)
   shown-is tried y is = tried-says tried ∙ ap (foundAs p) is
@@ -100,7 +103,7 @@ module _ (p : Plan) where
           e ∙ ap (λ x. checked.Refused x k) fault ∙ ap (checked.Refused f) place)
           (λ lawful pass. absurd (omega (arith, not-same _ _ (pass-says lawful pass) h)))
           (λ tried none-is whole. absurd (omega (arith, not-same _ _ (nothing-says tried none-is whole) h)))
-          (λ tried none-is q breaks. absurd (omega (arith, not-same _ _ (many-says tried none-is q breaks) h)))
+          (λ tried none-is y breaks. absurd (omega (arith, not-same _ _ (many-says tried none-is y breaks) h)))
           (λ tried y is. absurd (omega (arith, not-same _ _ (shown-says tried y is) h)))
 
   -- ---- Passes
@@ -114,7 +117,7 @@ module _ (p : Plan) where
           (λ f at e. absurd (omega (arith, not-same _ _ (refused-says f at e) h)))
           (λ lawful pass. (lawful, pass))
           (λ tried none-is whole. absurd (omega (arith, not-same _ _ (nothing-says tried none-is whole) h)))
-          (λ tried none-is q breaks. absurd (omega (arith, not-same _ _ (many-says tried none-is q breaks) h)))
+          (λ tried none-is y breaks. absurd (omega (arith, not-same _ _ (many-says tried none-is y breaks) h)))
           (λ tried y is. absurd (omega (arith, not-same _ _ (shown-says tried y is) h)))
 
   -- in the user's words: the plan is lawful and the rule holds at every interval
@@ -162,7 +165,7 @@ module _ (p : Plan) where
         (λ f at e. absurd (omega (arith, not-same _ _ (refused-says f at e) h)))
         (λ lawful pass. absurd (omega (arith, not-same _ _ (pass-says lawful pass) h)))
         (λ tried none-is whole. absurd (omega (arith, not-same _ _ (nothing-says tried none-is whole) h)))
-        (λ tried none-is q breaks. absurd (omega (arith, not-same _ _ (many-says tried none-is q breaks) h)))
+        (λ tried none-is y breaks. absurd (omega (arith, not-same _ _ (many-says tried none-is y breaks) h)))
         (λ tried y is.
         let said = sym (shown-says tried y is) ∙ h in
         let run : days (raised p y) ≡ n = cc in
@@ -195,7 +198,7 @@ module _ (p : Plan) where
   tried-breaks : Tried → Passes p → ⊥
   tried-breaks tried rule = true-not-false (sym (pass-of-passes p (planCheck-lawful p (tried .0)) rule) ∙ tried .1)
 
-  -- none was found: with free moving the rule would hold
+  -- none was found: with free moving the sharp rule would hold
   module _ (h : missingAnswer p .missing ≡ answer.NoneFound) where
     none-tried : Tried × (freeBreak p ≡ none)
     none-tried =
@@ -203,29 +206,32 @@ module _ (p : Plan) where
         (λ f at e. absurd (omega (arith, not-same _ _ (refused-says f at e) h)))
         (λ lawful pass. absurd (omega (arith, not-same _ _ (pass-says lawful pass) h)))
         (λ tried none-is whole. (tried, whole))
-        (λ tried none-is q breaks. absurd (omega (arith, not-same _ _ (many-says tried none-is q breaks) h)))
+        (λ tried none-is y breaks. absurd (omega (arith, not-same _ _ (many-says tried none-is y breaks) h)))
         (λ tried y is. absurd (omega (arith, not-same _ _ (shown-says tried y is) h)))
 
     pub answer-none-rule : LawfulPlan p × (Passes p → ⊥)
     answer-none-rule = (planCheck-lawful p (none-tried .0 .0), tried-breaks (none-tried .0))
 
-    pub answer-none-free : Passes (freely p)
-    answer-none-free =
-        passes-of-none (freely p) (freely-lawful p (planCheck-lawful p (none-tried .0 .0))) (none-tried .1)
+    pub answer-none-free : SharplyPasses (freely p)
+    answer-none-free = none-sharp p (none-tried .1) (answer-none-rule .0)
 
-    -- so where moving is free it is never answered
-    pub answer-none-paid : FreeMoving p → ⊥
-    answer-none-paid free = answer-none-rule .1 (free-passes p free answer-none-free)
+    -- so where moving is free no list misses
+    pub answer-none-never : FreeMoving p → NeverMisses p
+    answer-none-never free = sharply-never p (answer-none-rule .0) (free-sharp p free answer-none-free)
 
-  -- there are too many: the rule breaks with free moving too, and the list that misses there cannot be shown
+    -- and where nothing comes late besides, it is never answered
+    pub answer-none-paid : OnTime p → FreeMoving p → ⊥
+    answer-none-paid on-time free = answer-none-rule .1 (sharp-is-rule p on-time .0 (free-sharp p free answer-none-free))
+
+  -- there are too many: the sharp rule breaks with free moving too, and the list that misses there cannot be shown
   module _ (h : missingAnswer p .missing ≡ answer.TooMany) where
-    many-tried : Tried × (found p ≡ none) × ((q : Pair) × (freeBreak p ≡ some q))
+    many-tried : Tried × (found p ≡ none) × ((y : Break) × (freeBreak p ≡ some y))
     many-tried =
         by-answer
         (λ f at e. absurd (omega (arith, not-same _ _ (refused-says f at e) h)))
         (λ lawful pass. absurd (omega (arith, not-same _ _ (pass-says lawful pass) h)))
         (λ tried none-is whole. absurd (omega (arith, not-same _ _ (nothing-says tried none-is whole) h)))
-        (λ tried none-is q breaks. (tried, none-is, (q, breaks)))
+        (λ tried none-is y breaks. (tried, none-is, (y, breaks)))
         (λ tried y is. absurd (omega (arith, not-same _ _ (shown-says tried y is) h)))
 
     pub answer-many-rule : LawfulPlan p × (Passes p → ⊥)
@@ -233,25 +239,19 @@ module _ (p : Plan) where
 
     pub answer-many : MissesOverMany p
     answer-many =
-        let ok = planCheck-lawful p (many-tried .0 .0) in
-        let q = many-tried .2 .0 in
+        let ok = answer-many-rule .0 in
+        let y = many-tried .2 .0 in
         let breaks = many-tried .2 .1 in
-        let first = firstBroken-names (freely p) (q .l) (q .b) breaks in
         record {
-          l = q .l;
-          b = q .b;
+          l = y .l;
+          b = y .b;
+          q = y .q;
           many =
-              elim (decLe (length (missing p (q .l) (q .b))) 1000) [
-                | yes few ↦ absurd (found-where-free p ok q breaks few (many-tried .1))
+              elim (decLe (length (missing p (y .l) (y .b) (y .q))) 1000) [
+                | yes few ↦ absurd (found-where-free p ok y breaks few (many-tried .1))
                 | no over ↦ omega arith
               ];
           misses =
-              break-misses p ok 1000000 (q .l) (q .b) (omega arith)
-              (omega (
-                arith,
-                firstBroken-in-range (freely p) (q .l) (q .b) breaks,
-                dMax-le (freely p) (freely-lawful p ok),
-                freely-lawful p ok .hMax,
-              ))
-              (first .allowed) (first .breaks);
+              sharp-break-misses p ok 1000000 (y .l) (y .b) (y .q) (omega arith)
+              (omega (arith, break-near p y breaks, ok .hMax, mostLate-le p ok)) (break-names p y breaks);
         }

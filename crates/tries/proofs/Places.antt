@@ -1,9 +1,9 @@
 -- Walks over the places of a plan, the first i of them done.
 --     after i n             the places after the first i of n
-use Rattle.base.proofs.Prelude.{ℕ, suc, _+_, _-_, _≤_, _<_, _≡_, ap, _∙_, Bool, true, false, List, [], _∷_, arith, add-one, getD, getD-take}
-use Rattle.base.specs.Count.{upFrom, leastFrom}
+use Rattle.base.proofs.Prelude.{ℕ, suc, _+_, _-_, _≤_, _<_, _≡_, ap, _∙_, List, [], _∷_, arith, add-one, getD, getD-take}
+use Rattle.base.specs.Count.{sumOf, upFrom}
 use Rattle.rules.specs.{declared.Plan.Plan, Plan.{stringsOf, stringAt, noString}}
-use Rattle.base.proofs.{Order.upFrom-cons, Least.{leastFrom-here, leastFrom-later}}
+use Rattle.base.proofs.Order.{upFrom-cons}
 use Rattle.laws.proofs.Lawful.{PlanString}
 use Rattle.verdict.specs.inner.Asked.{Ready}
 use Rattle.verdict.proofs.StringSums.{string-at}
@@ -24,20 +24,15 @@ module _ (i n : ℕ) where
       let none-left : n - i ≡ 0 = omega arith in
       rw none-left
 
-  -- the least place that passes
-  module _ (f : ℕ → Bool) where
-    pub least-here : i < n → f (i + 1) ≡ true → leastFrom f (i + 1) (n - i) ≡ i + 1
-    least-here h t = ap (leastFrom f (i + 1)) (next-left h) ∙ leastFrom-here f (i + 1) (n - (i + 1)) t
+  -- what the place asks that is next, and those behind it
+  module _ (f : ℕ → ℕ) where
+    pub after-sum : i < n → sumOf f (after i n) ≡ f (i + 1) + sumOf f (after (i + 1) n)
+    unfolding sumOf
+    after-sum h = ap (sumOf f) (after-next h)
 
-    pub least-later : i < n → f (i + 1) ≡ false → leastFrom f (i + 1) (n - i) ≡ leastFrom f (i + 1 + 1) (n - (i + 1))
-    least-later h e =
-        ap (leastFrom f (i + 1)) (next-left h) ∙ leastFrom-later f (i + 1) (n - (i + 1)) e ∙ rw (add-one (i + 1))
-
-    pub least-end : n ≤ i → leastFrom f (i + 1) (n - i) ≡ i + 1
-    unfolding leastFrom
-    least-end h =
-        let none-left : n - i ≡ 0 = omega arith in
-        rw none-left
+    pub after-sum-end : n ≤ i → sumOf f (after i n) ≡ 0
+    unfolding sumOf
+    after-sum-end h = ap (sumOf f) (after-end h)
 
 -- the string at a place
 module _ (p : Plan) (ready : Ready p) (i : ℕ) (h : i < p .n) where

@@ -2,11 +2,13 @@
 use Rattle.base.proofs.Prelude.{ℕ, _≡_, refl, List, [], _∷_, map}
 use mathlib.Core.List.{flatMap}
 use Rattle.days.specs.Days.{days}
-use Rattle.rules.specs.{declared.Plan.Plan, declared.Release.Release, Plan.{stringLawful, commonMultiple, multipleOf, dMin, dMax, withRun}, Demand.{movingCost, holdOf, jobs, blockerHold, blockLimit, need, demand, load, overloaded}, Verdict.{pairsAt, allPairs, broken, compared, judged, verdictOver, isPass}, Search.{permit, withSet}, Release.{tooClose, outOfOrder, releaseLawful, unlawfulFrom, firstUnlawful}, Run.{chosen, lateAt, newSlot, joinFrom, joined, holder, payer, taken, nextUp, given, useOf, spent, morning, stateAt, useOn, lateOn, history, daysOf, missDay, runOf}, Refusal.{countCheck, runLengthCheck, stringsCheck, multipleCheck, planCheck, releasesCheck, runCheck, runAnswer}}
-use Rattle.base.specs.Count.{sumOf, largest, smallest, smallestWith, every, keep, countOf, upFrom, leastFrom, firstOf}
-use Rattle.rules.proofs.Worked.{string, paying, planOf, plan, release, two, five}
-use Rattle.exact.specs.Missing.{blockerPlace, blockerRelease, delayOf, comesIn, releasesIn, othersIn}
-use Rattle.tries.specs.{declared.Missing.the-variants.{Passes, NoneFound, Found}, declared.Shown.Shown, Tries.{listOf, stoppedTries, paidTries, tries, packed, isMiss, missesOn, found, missingOf, missingAnswer, unlisted}}
+use Rattle.rules.specs.{declared.Plan.Plan, declared.Release.Release, Plan.{stringLawful, commonMultiple, multipleOf, leewayMin, dMax, withRun}, Demand.{movingCost, holdOf, jobs, blockerHold, blockLimit, need, demand, load, overloaded}, Verdict.{pairsAt, allPairs, broken, compared, judged, verdictOver, isPass}, Search.{permit, withSet}, Release.{tooClose, outOfOrder, releaseLawful, unlawfulFrom, firstUnlawful}, Run.{chosen, lateAt, newSlot, joinFrom, joined, holder, payer, taken, nextUp, given, useOf, spent, morning, stateAt, useOn, lateOn, history, daysOf, missDay, runOf}, Refusal.{countCheck, runLengthCheck, stringsCheck, multipleCheck, planCheck, releasesCheck, runCheck, runAnswer}}
+use Rattle.base.specs.Count.{sumOf, largest, smallest, smallestWith, every, any, keep, countOf, upFrom, leastFrom, firstOf}
+use Rattle.rules.proofs.Worked.{string, paying, opening, planOf, plan, release, releaseDue, two, five}
+use Rattle.exact.proofs.Worked.{openingLate, lateAndFull, spared}
+use Rattle.sound.specs.Sharp.{needBut, demandBut}
+use Rattle.exact.specs.Missing.{mostLate, blockerRelease, delayOf, dueComing, comesIn, comesFirst, releasesIn, othersIn}
+use Rattle.tries.specs.{declared.Missing.the-variants.{Passes, NoneFound, Found}, declared.Shown.Shown, Tries.{longestBlock, allBreaks, isBroken, freeBreak, listOf, stoppedTries, paidTries, tries, packed, isMiss, missesOn, found, missingOf, missingAnswer, unlisted}}
 
 -- the first string takes the bank from the second, pays two days and is late
 unfoldable pub dear : Plan
@@ -39,13 +41,16 @@ table =
     ∷ row (withSet later 2) (shown 40 (release 0 1 5 ∷ release 1 3 2 ∷ release 4 2 1 ∷ []))
     ∷ row (withSet five 2) (shown 20 (release 0 3 2 ∷ release 1 2 1 ∷ release 2 1 3 ∷ []))  -- P6
     ∷ row (withSet alone 1) (unlisted NoneFound)
+    ∷ row openingLate (shown 20 (release 1 2 2 ∷ releaseDue 1 2 1 1 ∷ []))  -- the theorem's list, late where that hurts
+    ∷ row lateAndFull (shown 20 (release 2 2 2 ∷ releaseDue 1 3 1 2 ∷ []))
+    ∷ row spared (unlisted NoneFound)  -- fails by the rule, and can never miss
     ∷ []
 
 pub answers : map (λ r. missingAnswer (r .plan)) table ≡ map (λ r. r .said) table
 unfolding
-    dear alone later row shown table string paying planOf plan release two five
-    flatMap sumOf largest smallest smallestWith every keep countOf upFrom leastFrom firstOf
-    stringLawful commonMultiple multipleOf dMin dMax
+    dear alone later openingLate lateAndFull spared row shown table string paying opening planOf plan release releaseDue two five
+    flatMap sumOf largest smallest smallestWith every any keep countOf upFrom leastFrom firstOf
+    stringLawful commonMultiple multipleOf leewayMin dMax
     movingCost holdOf jobs blockerHold blockLimit need demand load overloaded
     pairsAt allPairs broken compared judged verdictOver isPass
     permit withSet
@@ -53,6 +58,6 @@ unfolding
     chosen lateAt newSlot joinFrom joined holder payer taken nextUp given useOf spent morning stateAt useOn lateOn history daysOf missDay
     runOf
     countCheck runLengthCheck stringsCheck multipleCheck planCheck releasesCheck runCheck runAnswer
-    blockerPlace blockerRelease delayOf comesIn releasesIn othersIn
-    listOf stoppedTries paidTries tries isMiss missesOn found missingOf missingAnswer
+    needBut demandBut mostLate blockerRelease delayOf dueComing comesIn comesFirst releasesIn othersIn
+    longestBlock allBreaks isBroken freeBreak listOf stoppedTries paidTries tries isMiss missesOn found missingOf missingAnswer
 answers = refl

@@ -1,15 +1,22 @@
--- The release lists that are tried on a plan which does not pass, in their order, and which of them is shown.
+-- The release lists that are tried on a plan which does not pass, in their order, and which of them is shown. The first is the theorem's,
+-- where the sharp rule with free moving breaks: it misses. Any other is shown only if it was run and did miss.
+--     Break                 where the sharp rule may break: an interval, a blocking and the place of the string that blocks, 0 for nobody
+--     longestBlock p l      the longest that a job which is due beyond an interval of l days blocks it where moving is free
+--     allBreaks p           those in reach, in order of the interval, then the blocking, then the place
+--     isBroken p y          the sharp rule with free moving breaks at y
+--     freeBreak p           the first at which it does, if it does anywhere
 --     Try                   how a list begins, and what comes after it: its first releases; the day on which the interval begins; the days
 --                           of the interval before takers come; and the interval's length
---     endOf y               the day on which the interval of the try y ends
---     listOf p y            the list of the try y
---     freeBreak p           the first pair at which the rule with free moving breaks, if it does
---     blockTry p q          the list that misses where it breaks at the pair q: a job that blocks, then the others
+--     endOfTry y            the day on which the interval of the try y ends
+--     listOf p y            the list of the try y: the strings that are not among the first releases come behind them, as often as is
+--                           lawful, and late where that hurts most
+--     fullRelease p t i     a release of the string at place i on day t, due on that day, with need C
+--     blockTry p y          the list that misses where the sharp rule breaks at y: a job that blocks, then the others
 --     ownBreak p            the first pair at which the plan's own rule breaks
---     stoppedTry p b v l    the string at place v is on the bank from day 0 on; the others join on day 1, takers b days later, and one of
---                           these takes the bank and pays
---     paidTry p k v l       on day 1 the string at place k takes the bank from it, pays and blocks; the others join on day 2, takers only
---                           when E − 1 more days are over
+--     stoppedTry p b v l    the string at place v is on the bank from the first day on; the others join a day later, takers b days after
+--                           them, and one of these takes the bank and pays
+--     paidTry p k v l       a day later the string at place k takes the bank from it, pays and blocks; the others join another day later,
+--                           takers only when E − 1 more days are over
 --     tries p               blockTry; then, for each v, stoppedTry at the pair at which the plan's own rule breaks; then, with the D of
 --                           each string as the interval, stoppedTry with no day between for each v, and paidTry for each k and v
 --     packed rs             the code's list of rs; more than 1,000 are not listed, and the count says so
@@ -17,34 +24,72 @@
 --     found p               the first try that misses
 --     raised p y            N, raised to the interval's end where that lies beyond it
 --     unlisted m            the answer m with an empty list
---     unfound q             what is answered where no list that was tried misses, q being the free break: if there is one, so is a list
+--     unfound y             what is answered where no list that was tried misses, y being the free break: if there is one, there is a list
 --                           that misses, the theorem's, but it has more than 1,000 releases; else none was found
 --     missingAnswer p       what is answered: the refusal, that the plan passes, why no list is shown, or N and the list
 use Prim.Native.Nat.{ℕ, _+_, _-_, min, max}
-use mathlib.Core.Bool.{Bool, true, false, cond}
+use mathlib.Core.Bool.{Bool, true, false, cond, _&&_}
 use mathlib.Core.List.{List, [], _∷_, _++_, map, flatMap}
 use mathlib.Core.Option.{Option, none, some}
+use lib.Dec.{eqb, ltb}
 use lib.ListN.{length, take}
-use Rattle.days.specs.Days.{days}
-use Rattle.base.specs.Count.{upFrom, firstOf, filled}
+use Rattle.days.specs.Days.{day, days}
+use Rattle.base.specs.Count.{largest, upFrom, firstOf, filled}
 use Rattle.faults.specs.declared.Checked.{Checked}
 use Rattle.faults.specs.declared.Checked.the-variants as checked
+use Rattle.rules.specs.declared.BatteryString.{BatteryString}
 use Rattle.rules.specs.declared.Plan.{Plan}
 use Rattle.rules.specs.declared.Release.{Release}
 use Rattle.rules.specs.declared.Releases.{Releases}
 use Rattle.rules.specs.declared.Outcome.the-variants as outcome
 use Rattle.rules.specs.declared.AskedOutcome.{AskedOutcome}
 use Rattle.rules.specs.declared.AskedOutcome.the-variants as asked
-use Rattle.rules.specs.Plan.{stringAt}
+use Rattle.rules.specs.Plan.{stringsOf, stringAt, multipleOf, withRun}
 use Rattle.rules.specs.Demand.{holdOf}
 use Rattle.rules.specs.Verdict.{Pair, allPairs, firstBroken, verdictOf, isPass}
 use Rattle.rules.specs.Release.{noRelease}
 use Rattle.rules.specs.Refusal.{planCheck, runAnswer}
-use Rattle.rules.specs.Plan.{withRun}
-use Rattle.exact.specs.Missing.{freely, leadOf, blockerRelease, fullRelease, othersIn}
+use Rattle.sound.specs.Sharp.{demandBut}
+use Rattle.exact.specs.Missing.{freely, mostLate, intervalStart, blockerRelease, othersIn}
 use Rattle.tries.specs.declared.Missing.{Missing}
 use Rattle.tries.specs.declared.Missing.the-variants.{Refused, Passes, NoneFound, TooMany, Found}
 use Rattle.tries.specs.declared.Shown.{Shown}
+
+-- ---- Where the sharp rule breaks with free moving
+
+pub record Break : Type 0 where
+  pub l : ℕ
+  pub b : ℕ
+  pub q : ℕ
+
+abbrev pub breakAt : ℕ → ℕ → ℕ → Break
+breakAt l b q = record { l = l; b = b; q = q }
+
+abbrev pub blockDays : ℕ → BatteryString → ℕ
+blockDays l s = cond (ltb l (s .d .0)) (s .c .0 - 1) 0
+
+unfoldable pub longestBlock : Plan → ℕ → ℕ
+longestBlock p l = min l (largest (blockDays l) (stringsOf p))
+
+abbrev pub blockedBreaks : Plan → ℕ → ℕ → List Break
+blockedBreaks p l b = map (breakAt l b) (upFrom 1 (length (stringsOf p)))
+
+abbrev pub breaksIn : Plan → ℕ → List Break
+breaksIn p l = breakAt l 0 0 ∷ flatMap (blockedBreaks p l) (upFrom 1 (longestBlock p l))
+
+unfoldable pub allBreaks : Plan → List Break
+allBreaks p = flatMap (breaksIn p) (upFrom 1 (multipleOf p + 999))
+
+abbrev pub canBlock : ℕ → ℕ → BatteryString → Bool
+canBlock l b s = ltb l (s .d .0) && ltb b (s .c .0)
+
+unfoldable pub isBroken : Plan → Break → Bool
+isBroken p y =
+    cond (eqb (y .b) 0) true (canBlock (y .l) (y .b) (stringAt p (y .q)))
+    && ltb (y .l) (demandBut (freely p) (y .l) (y .b) (y .q))
+
+unfoldable pub freeBreak : Plan → Option Break
+freeBreak p = firstOf (isBroken p) (allBreaks p)
 
 pub record Try : Type 0 where
   pub head : List Release
@@ -56,29 +101,34 @@ abbrev pub endOfTry : Try → ℕ
 endOfTry y = y .lead + y .l
 
 unfoldable pub listOf : Plan → Try → List Release
-listOf p y = y .head ++ othersIn p (y .lead) (y .delay) (y .l)
+listOf p y = y .head ++ othersIn p (y .head) (y .lead) (y .delay) (y .l)
 
 -- ---- The tries
-
-abbrev pub freeBreak : Plan → Option Pair
-freeBreak p = firstBroken (freely p) (allPairs (freely p))
 
 abbrev pub ownBreak : Plan → Option Pair
 ownBreak p = firstBroken p (allPairs p)
 
-abbrev pub blockTry : Plan → Pair → Try
-blockTry p q = record { head = blockerRelease p (q .l) (q .b); lead = leadOf (q .b); delay = q .b; l = q .l }
+abbrev pub fullRelease : Plan → ℕ → ℕ → Release
+fullRelease p t i = record { day = day t; place = i; need = stringAt p i .c; due = day t }
+
+abbrev pub blockTry : Plan → Break → Try
+blockTry p y = record { head = blockerRelease p (y .b) (y .q); lead = intervalStart p (y .b); delay = y .b; l = y .l }
 
 abbrev pub stoppedTry : Plan → ℕ → ℕ → ℕ → Try
-stoppedTry p b v l = record { head = fullRelease p 0 v ∷ []; lead = 1; delay = b; l = l }
+stoppedTry p b v l = record { head = fullRelease p (mostLate p) v ∷ []; lead = mostLate p + 1; delay = b; l = l }
 
 abbrev pub paidTry : Plan → ℕ → ℕ → ℕ → Try
 paidTry p k v l =
-    record { head = fullRelease p 0 v ∷ fullRelease p 1 k ∷ []; lead = 2; delay = holdOf p (stringAt p k) - 1; l = l }
+    record {
+      head = fullRelease p (mostLate p) v ∷ fullRelease p (mostLate p + 1) k ∷ [];
+      lead = mostLate p + 2;
+      delay = holdOf p (stringAt p k) - 1;
+      l = l;
+    }
 
-abbrev pub freeTries : Plan → Option Pair → List Try
+abbrev pub freeTries : Plan → Option Break → List Try
 freeTries p none = []
-freeTries p (some q) = blockTry p q ∷ []
+freeTries p (some y) = blockTry p y ∷ []
 
 abbrev pub places : Plan → List ℕ
 places p = upFrom 1 (p .n)
@@ -124,9 +174,9 @@ raised p y = max (p .run .0) (endOfTry y)
 abbrev pub unlisted : Missing → Shown
 unlisted m = record { missing = m; releases = packed [] }
 
-abbrev pub unfound : Option Pair → Missing
+abbrev pub unfound : Option Break → Missing
 unfound none = NoneFound
-unfound (some q) = TooMany
+unfound (some y) = TooMany
 
 abbrev pub foundAs : Plan → Option Try → Shown
 foundAs p none = unlisted (unfound (freeBreak p))

@@ -14,7 +14,8 @@ fn moved_freely(s: BatteryString) -> BatteryString
     let d = s.d;
     let x = s.x;
     let a = Length(0);
-    BatteryString { t, c, d, x, a }
+    let j = s.j;
+    BatteryString { t, c, d, x, a, j }
 }
 
 pub(crate) fn with_free_moving(p: Plan) -> Plan

@@ -1,20 +1,21 @@
-// Releases that make a plan miss a deadline: the theorem's list where the rule with free moving breaks, and lists in which a taker pays.
+// Releases that make a plan miss a deadline: the theorem's list where the sharp rule with free moving breaks, and lists in which a taker
+// pays.
 mod asking;
+mod breaks;
 mod free;
 mod listing;
 mod openings;
 mod search;
 
 use asking::passes;
-use asking::where_broken;
 use bounds::plan_check;
+use breaks::FreeBreak;
+use breaks::free_break;
 use days::Length;
 use faults::Checked;
 use faults::Fault;
-use free::with_free_moving;
 use listing::listed;
 use openings::no_release;
-use rules::Broken;
 use rules::Plan;
 use rules::Releases;
 use search::Tried;
@@ -25,8 +26,8 @@ ghost use Rattle.days.specs.Days.{days};
 ghost use Rattle.verdict.specs.inner.Asked.{Ready};
 ghost use Rattle.tries.specs.Tries.{freeBreak, unlisted, unfound, missingOf, missingAnswer};
 
-// What is found for a plan: N of a run that misses; or that the plan passes, so that none does; or that none of the lists tried does, and
-// whether there is one, of more than 1,000 releases.
+// What is found for a plan: N of a run that misses; or that the plan passes, so that none does; or that none of the lists tried does; or
+// that none does, but there is one, of more than 1,000 releases.
 pub enum Missing {
     Refused { fault: Fault, at: usize },
     Passes,
@@ -62,17 +63,13 @@ fn raised(run: Length, end: u32) -> Length
     if run.0 < end { Length(end) } else { run }
 }
 
-// Why no list is shown: where the rule with free moving breaks there is one that misses, and it has more than 1,000 releases.
+// Why no list is shown: where the sharp rule with free moving breaks there is one that misses, and it has more than 1,000 releases.
 fn not_shown(p: Plan) -> Missing
     requires { ⌜ Ready p ⌝ }
     ensures { λ r. ⌜ r ≡ unfound (freeBreak p) ⌝ }
 {
-    let broken = where_broken(with_free_moving(p));
-    let Broken::At {
-        interval: _,
-        blocking: _,
-    } = broken
-    else {
+    let found = free_break(p);
+    let FreeBreak::Breaks { l: _, b: _, q: _ } = found else {
         return Missing::NoneFound;
     };
     Missing::TooMany

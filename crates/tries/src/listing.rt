@@ -12,31 +12,76 @@ ghost use Rattle.base.specs.Count.{filled};
 ghost use Rattle.rules.specs.Release.{noRelease};
 ghost use Rattle.laws.proofs.Lawful.{LawfulString};
 ghost use Rattle.verdict.specs.inner.Asked.{Ready};
-ghost use Rattle.exact.specs.Missing.{delayOf, comesIn};
+ghost use Rattle.exact.specs.Missing.{delayOf, dueComing, comesIn, comesFirst};
 ghost use Rattle.tries.specs.Tries.{listOf, packed};
-ghost use Rattle.tries.specs.inner.Openings.{headOf, tryOf, Small};
+ghost use Rattle.tries.specs.inner.Openings.{headOf, tryOf, comesBehind, Small};
 
 // The days of the interval before a job of the string comes.
-fn delay_of(delay: u32, s: BatteryString) -> u32
+pub(crate) fn delay_of(delay: u32, s: BatteryString) -> u32
     ensures { λ r. ⌜ r ≡ delayOf delay s ⌝ }
 {
     if s.x == 1 { delay } else { 0 }
 }
 
-// Whether a job of the string is released on day t.
-fn comes_in(lead: u32, delay: u32, l: u32, s: BatteryString, t: u32) -> bool
-    requires { ⌜ LawfulString s ⌝ }
-    requires { ⌜ (lead ≤ 2) × (delay ≤ 2000) × (l ≤ 101000) × (t ≤ 103000) ⌝ }
-    ensures { λ r. ⌜ r ≡ comesIn lead delay l s t ⌝ }
+// The due day of the job that comes on day t, the first coming on the day `first`.
+fn due_coming(first: u32, s: BatteryString, t: u32) -> u32
+    ensures { λ r. ⌜ r ≡ dueComing first s t ⌝ }
 {
-    let first = lead + delay_of(delay, s);
+    if t != first {
+        return t;
+    }
+    if first < s.j.0 {
+        return 0;
+    }
+    first - s.j.0
+}
+
+// Whether a job of the string is released on day t.
+fn comes_in(first: u32, end: u32, s: BatteryString, t: u32) -> bool
+    requires { ⌜ LawfulString s ⌝ }
+    requires { ⌜ (first ≤ 104000) × (t ≤ 104000) ⌝ }
+    ensures { λ r. ⌜ r ≡ comesIn first end s t ⌝ }
+{
     if t < first {
         return false;
     }
-    if (t - first) % s.t.0 != 0 {
+    let due = due_coming(first, s, t);
+    if (due + s.j.0 - first) % s.t.0 != 0 {
         return false;
     }
-    t + s.d.0 <= lead + l
+    due + s.d.0 <= end
+}
+
+// Whether a release of the first ones is of the place.
+fn comes_first(o: Opening, place: usize) -> bool
+    requires { ⌜ o .count ≤ 2 ⌝ }
+    ensures { λ r. ⌜ r ≡ comesFirst (headOf o) place ⌝ }
+{
+    if o.count < 1 {
+        return false;
+    }
+    let first = o.first;
+    if place == first.place {
+        return true;
+    }
+    if o.count < 2 {
+        return false;
+    }
+    let second = o.second;
+    place == second.place
+}
+
+// Whether a job of the string at the place is released on day t, behind the first releases.
+fn comes_behind(o: Opening, l: u32, s: BatteryString, place: usize, t: u32) -> bool
+    requires { ⌜ LawfulString s ⌝ }
+    requires { ⌜ Small o ⌝ }
+    requires { ⌜ (l ≤ 101000) × (t ≤ 104000) ⌝ }
+    ensures { λ r. ⌜ r ≡ comesBehind o l s place t ⌝ }
+{
+    if comes_first(o, place) {
+        return false;
+    }
+    comes_in(o.lead + delay_of(o.delay, s), o.lead + l, s, t)
 }
 
 // The first releases, and room behind them.
@@ -76,17 +121,20 @@ pub(crate) fn listed(p: Plan, o: Opening, l: u32) -> Releases
         while place < p.n {
             let s = strings[place];
             place += 1;
-            if !comes_in(o.lead, o.delay, l, s, t) {
+            if !comes_behind(o, l, s, place, t) {
                 continue;
             }
             if 999 < count {
                 return Releases { count: 1001, list };
             }
+            let due = Day(due_coming(o.lead + delay_of(o.delay, s), s, t));
             let need = s.c;
+            let day = Day(t);
             list[count] = Release {
-                day: Day(t),
+                day,
                 place,
                 need,
+                due,
             };
             count += 1;
         }

@@ -1,4 +1,5 @@
 // How the lists begin: a job that blocks; a job on the bank; a job on the bank, and one that takes it.
+use super::breaks::larger;
 use days::Day;
 use days::Length;
 use rules::BatteryString;
@@ -9,10 +10,9 @@ ghost use Prim.Native.Nat.{_+_, _≤_};
 ghost use Rattle.rules.specs.Demand.{holdOf};
 ghost use Rattle.rules.specs.Release.{noRelease};
 ghost use Rattle.laws.proofs.Lawful.{PlanString};
-ghost use Rattle.demand.proofs.Pairs.{pair};
 ghost use Rattle.verdict.specs.inner.Asked.{Ready};
-ghost use Rattle.exact.specs.Missing.{blockerPlace, canBlock, fullRelease};
-ghost use Rattle.tries.specs.Tries.{blockTry, stoppedTry, paidTry};
+ghost use Rattle.exact.specs.Missing.{mostLate};
+ghost use Rattle.tries.specs.Tries.{breakAt, fullRelease, blockTry, stoppedTry, paidTry};
 ghost use Rattle.tries.specs.inner.Openings.{tryOf, Small};
 
 // The first releases, as many as `count` says, of the two; the day on which the interval begins; and the days of it before takers come.
@@ -32,10 +32,11 @@ pub(crate) fn no_release() -> Release
         day: Day(0),
         place: 0,
         need: Length(0),
+        due: Day(0),
     }
 }
 
-// A release on day t of the string at a place, with as much work as is lawful.
+// A release on day t, due on that day, of the string at a place, with as much work as is lawful.
 fn full_release(p: Plan, t: u32, place: usize) -> Release
     requires { ⌜ Ready p ⌝ }
     requires { ⌜ (1 ≤ place) × (place ≤ p .n) ⌝ }
@@ -44,10 +45,12 @@ fn full_release(p: Plan, t: u32, place: usize) -> Release
     let strings = p.strings;
     let s = strings[place - 1];
     let need = s.c;
+    let day = Day(t);
     Release {
-        day: Day(t),
+        day,
         place,
         need,
+        due: day,
     }
 }
 
@@ -59,65 +62,60 @@ fn longest_hold(p: Plan, s: BatteryString) -> u32
     s.c.0 + p.moving_cost(s).0 * s.x
 }
 
-// Whether a job of the string can block an interval of l days for b days.
-fn can_block(l: u32, b: u32, s: BatteryString) -> bool
-    ensures { λ r. ⌜ r ≡ canBlock l b s ⌝ }
-{
-    if l < s.d.0 {
-        return b < s.c.0;
-    }
-    false
-}
-
-// The place of the first string that can.
-fn blocker_place(p: Plan, l: u32, b: u32) -> usize
+// The largest J of a string.
+fn most_late(p: Plan) -> u32
     requires { ⌜ Ready p ⌝ }
-    ensures { λ r. ⌜ r ≡ blockerPlace p l b ⌝ }
+    ensures { λ r. ⌜ r ≡ mostLate p ⌝ }
 {
     let n = p.n;
     let strings = p.strings;
+    let mut most: u32 = 0;
     let mut i: usize = 0;
     while i < n {
         let s = strings[i];
-        if can_block(l, b, s) {
-            return i + 1;
-        }
+        most = larger(most, s.j.0);
         i += 1;
     }
-    i + 1
+    most
 }
 
-// A job that blocks for b days, released alone on day 0; none where b is 0.
-pub(crate) fn blocking(p: Plan, l: u32, b: u32) -> Opening
+// A job of the string at place q that blocks for b days, released alone; none where b is 0.
+pub(crate) fn blocking(p: Plan, l: u32, b: u32, q: usize) -> Opening
     requires { ⌜ Ready p ⌝ }
     requires { ⌜ b ≤ 1000 ⌝ }
-    ensures opens { λ r. ⌜ tryOf r l ≡ blockTry p (pair l b) ⌝ }
+    ensures opens { λ r. ⌜ tryOf r l ≡ blockTry p (breakAt l b q) ⌝ }
     ensures small { λ r. ⌜ Small r ⌝ }
 {
     let none = no_release();
+    let most = most_late(p);
     if b == 0 {
         return Opening {
             count: 0,
             first: none,
             second: none,
-            lead: 0,
+            lead: most,
             delay: 0,
         };
     }
-    let day = Day(0);
-    let place = blocker_place(p, l, b);
+    let day = Day(most);
+    let place = q;
     let need = Length(b + 1);
-    let first = Release { day, place, need };
+    let first = Release {
+        day,
+        place,
+        need,
+        due: day,
+    };
     Opening {
         count: 1,
         first,
         second: none,
-        lead: 1,
+        lead: most + 1,
         delay: b,
     }
 }
 
-// The string at place v is on the bank from day 0 on; takers come b days later than the others.
+// The string at place v is on the bank from the first day on; takers come b days later than the others.
 pub(crate) fn stopping(p: Plan, b: u32, v: usize) -> Opening
     requires { ⌜ Ready p ⌝ }
     requires { ⌜ b ≤ 1000 ⌝ }
@@ -125,18 +123,19 @@ pub(crate) fn stopping(p: Plan, b: u32, v: usize) -> Opening
     ensures opens { λ r. ⌜ tryOf r ≡ stoppedTry p b v ⌝ }
     ensures small { λ r. ⌜ Small r ⌝ }
 {
-    let first = full_release(p, 0, v);
+    let most = most_late(p);
+    let first = full_release(p, most, v);
     let second = no_release();
     Opening {
         count: 1,
         first,
         second,
-        lead: 1,
+        lead: most + 1,
         delay: b,
     }
 }
 
-// On day 1 the string at place k takes the bank from it and blocks.
+// A day later the string at place k takes the bank from it and blocks.
 pub(crate) fn paying(p: Plan, k: usize, v: usize) -> Opening
     requires { ⌜ Ready p ⌝ }
     requires { ⌜ (1 ≤ k) × (k ≤ p .n) ⌝ }
@@ -144,8 +143,9 @@ pub(crate) fn paying(p: Plan, k: usize, v: usize) -> Opening
     ensures opens { λ r. ⌜ tryOf r ≡ paidTry p k v ⌝ }
     ensures small { λ r. ⌜ Small r ⌝ }
 {
-    let first = full_release(p, 0, v);
-    let second = full_release(p, 1, k);
+    let most = most_late(p);
+    let first = full_release(p, most, v);
+    let second = full_release(p, most + 1, k);
     let strings = p.strings;
     let taker = strings[k - 1];
     let delay = longest_hold(p, taker) - 1;
@@ -153,7 +153,7 @@ pub(crate) fn paying(p: Plan, k: usize, v: usize) -> Opening
         count: 2,
         first,
         second,
-        lead: 2,
+        lead: most + 2,
         delay,
     }
 }

@@ -1,6 +1,7 @@
 // The search for a try that misses, in the order of the tries.
 use super::asking::where_broken;
-use super::free::with_free_moving;
+use super::breaks::FreeBreak;
+use super::breaks::free_break;
 use super::listing::listed;
 use super::openings::Opening;
 use super::openings::blocking;
@@ -71,21 +72,16 @@ fn by_interval(p: Plan, o: Opening) -> Tried
     Tried::NoneMisses
 }
 
-// The list of the theorem, where the rule with free moving breaks.
+// The list of the theorem, where the sharp rule with free moving breaks.
 fn blocked(p: Plan) -> Tried
     requires { ⌜ Ready p ⌝ }
     ensures { λ r. ⌜ Finds r (firstOf (missesOn p) (freeTries p (freeBreak p))) ⌝ }
 {
-    let broken = where_broken(with_free_moving(p));
-    let Broken::At {
-        interval,
-        blocking: days,
-    } = broken
-    else {
+    let found = free_break(p);
+    let FreeBreak::Breaks { l, b, q } = found else {
         return Tried::NoneMisses;
     };
-    let l = interval.0;
-    let o = blocking(p, l, days.0);
+    let o = blocking(p, l, b, q);
     if misses_on(p, o, l) {
         return Tried::Misses { opening: o, l };
     }

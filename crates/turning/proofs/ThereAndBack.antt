@@ -1,6 +1,6 @@
 -- Files of version 01 to 02 and back (document 02, W-208): what is turned and turned back has the bytes that it had; a file of version 02
 -- goes into version 01 exactly when its moving costs are one; and a file says the same before and after.
-use Rattle.base.proofs.Prelude.{ℕ, _+_, _-_, _≤_, _<_, _≡_, sym, ap, _∙_, subst, _↔_, true, false, not, List, [], _∷_, arith, eq-eqb, eqb-true, not-false, lt-leb, leb, length, getD, length-take-le}
+use Rattle.base.proofs.Prelude.{ℕ, _+_, _-_, _≤_, _<_, _≡_, refl, sym, ap, _∙_, subst, _↔_, true, false, not, List, [], _∷_, arith, eq-eqb, eqb-true, not-false, lt-leb, leb, length, getD, length-take-le}
 use borrow.Author.Tests.{leb-false}
 use Rattle.days.specs.{declared.Length.Length, Days.days}
 use Rattle.base.specs.Count.{All}
@@ -8,9 +8,9 @@ use Rattle.base.proofs.{Lists.{all-at, all-by, all-map, by-bool}, Least.{leastF
 use Rattle.faults.specs.{declared.Fault.Fault, declared.Fault.the-variants.{FrameWrong, CostsDiffer}, declared.Checked.the-variants.Lawful}
 use Rattle.faults.proofs.Checks.{refused-not-lawful, refuseIf-not}
 use Rattle.rules.specs.{declared.BatteryString.BatteryString, declared.Plan.Plan, Plan.{stringsOf, stringAt, noString}, Refusal.runCheck, Layout.{Version, hasField, version01, version02, heldTo}, Text.{Line, linesOf, versionOf, aIn, planIn, linesCheck, readingIn, readingOf}, Answer.{answered, answerOf}}
-use Rattle.laws.proofs.{Versions.{one-cost, lines-checked, reading-plan}, ReadLawful.text-read}
+use Rattle.laws.proofs.{Versions.{one-cost, lines-checked, reading-plan, reading-on-time}, ReadLawful.text-read}
 use Rattle.writing.specs.{declared.Saved.the-variants.{Refused, Text}, Saved.{noRoom, costDiffers, firstOther, alikeCheck, savedText}}
-use Rattle.roundtrip.proofs.{ReadBack.{reading-what-was-written, written-names, alike-02}, WriteBack.writing-what-was-read, As02.{read-trimmed, run-is, ten-places, thousand}}
+use Rattle.roundtrip.proofs.{ReadBack.{reading-what-was-written, written-names, sayable-02}, WriteBack.writing-what-was-read, As02.{read-trimmed, run-is, ten-places, thousand}}
 use Rattle.roundtrip.specs.OneText.{OneCost}
 use Rattle.turning.specs.Turned.{lineOf, turnedText, turnCheck, turnedAnswer}
 
@@ -89,8 +89,9 @@ module _ (text : List ℕ) (h : readingIn version01 text .checked ≡ Lawful) wh
   pub reads-02 : readingIn version02 in-02 ≡ readingIn version01 text
   unfolding turnedText heldTo
   reads-02 =
+      let on-time = reading-on-time version01 text refl refl h in
       reading-what-was-written 2 (said version01 text h) (readingIn version01 text .releases) (savable version01 text h)
-      (alike-02 (said version01 text h))
+      (sayable-02 (said version01 text h) (readingIn version01 text .releases) (on-time .0) (on-time .1))
       ∙ read-trimmed version01 text h
 
   lawful-02 : readingIn version02 in-02 .checked ≡ Lawful
@@ -163,7 +164,9 @@ module _ (text : List ℕ) (h : readingIn version02 text .checked ≡ Lawful) wh
     reads-01 : readingIn version01 in-01 ≡ readingIn version02 text
     unfolding turnedText heldTo
     reads-01 =
-        reading-what-was-written 1 plan (readingIn version02 text .releases) (savable version02 text h) (λ moving. one)
+        let on-time = reading-on-time version02 text refl refl h in
+        reading-what-was-written 1 plan (readingIn version02 text .releases) (savable version02 text h)
+        (record { costs = λ moving. one; late = λ unsaid. on-time .0; due = λ unsaid. on-time .1 })
         ∙ read-trimmed version02 text h
 
     -- the version 02 bytes come back

@@ -1,4 +1,5 @@
--- Files of version 01 to 02 and back (document 02, W-208). A text of the version v is turned into the version w and put into a page:
+-- Files of version 01 to 02 and back (document 02, W-208; W-213 keeps it between these two). A text of the version v is turned into the
+-- version w and put into a page:
 --     lineOf place          the line of the string at a place, after the header's; 0 stays 0
 --     onLine a, placeIn a   what the writer answers, with the line of a refusal for its place; and that place, 0 where there is none
 --     turnedText v w text   the text in the version w of the plan that the text says

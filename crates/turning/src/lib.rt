@@ -43,7 +43,7 @@ pub fn to_02(text: &[u8], page: &mut [u8], at: usize) -> Saved
     let plan = reading.plan;
     let releases = reading.releases;
     match checked {
-        Checked::Lawful => on_line(writing::write(plan, releases, page, at)),
+        Checked::Lawful => on_line(writing::write_02(plan, releases, page, at)),
         Checked::Refused { fault, at } => Saved::Refused { fault, at },
     }
 }

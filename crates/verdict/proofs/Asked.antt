@@ -15,10 +15,10 @@ moving-le p s ok = omega (arith, mul-le-mul (ok .costMax) (ok .lawful .xMax))
 
 pub jobs-le : (s : BatteryString) (w : ℕ) → LawfulString s → jobs s w ≤ w
 jobs-le s w ok =
-    elim (decLe (s .d .0) w) [
+    elim (decLe (s .d .0) (w + s .j .0)) [
       | yes long ↦
-          let d = ok .dPos in
-          omega (arith, jobs-from s w long, div-le-self (w - s .d .0) (s .t .0))
+          let late = ok .jMax in
+          omega (arith, jobs-from s w long, div-le-self (w + s .j .0 - s .d .0) (s .t .0))
       | no short ↦ omega (arith, jobs-short s w (omega arith))
     ]
 
@@ -114,6 +114,6 @@ askedBy-none p x ok =
     none : (s : BatteryString) → LawfulString s → askedOf p x 0 s ≡ 0
     none s lawful =
         elim (ℕ-discrete (s .x) x) [
-          | yes e ↦ askedOf-yes p x 0 s e ∙ ap (λ k. k * holdOf p s) (jobs-zero s (lawful .dPos)) ∙ zero-mul (holdOf p s)
+          | yes e ↦ askedOf-yes p x 0 s e ∙ ap (λ k. k * holdOf p s) (jobs-zero s (lawful .jMax)) ∙ zero-mul (holdOf p s)
           | no e ↦ askedOf-no p x 0 s e
         ]

@@ -3,7 +3,7 @@
 --     Next p l left b       of the blockings that leave the takers less than `left` of l days, b is the first at which a count grows
 use Rattle.base.proofs.Prelude.{ℕ, _+_, _-_, _≤_, _<_, _≡_, sym, ap, _∙_, true, false, cond, List, _++_, arith, decLe, ℕ-discrete, lt-ltb, le-ltb, ltb, length, set}
 use Rattle.days.specs.Days.{days}
-use Rattle.rules.specs.{declared.Plan.Plan, declared.Verdict.the-variants.Fail, Plan.dMin, Demand.{blockLimit, demand}, Verdict.Pair}
+use Rattle.rules.specs.{declared.Plan.Plan, declared.Verdict.the-variants.Fail, Plan.leewayMin, Demand.{blockLimit, demand}, Verdict.Pair}
 use Rattle.base.specs.Count.{keep}
 use Rattle.base.proofs.Filling.{below-set}
 use Rattle.laws.proofs.Lawful.{LawfulPlan}
@@ -34,8 +34,8 @@ module _ (p : Plan) (ok : LawfulPlan p) (l b : ℕ) (pos : 1 ≤ l) where
   pub none-rises : askedBy p 0 l ≡ askedBy p 0 (l - 1) → askedBy p 1 (l - b) ≡ askedBy p 1 (l - b - 1) → grows p (pair l b) ≡ false
   none-rises keepers takers = grows-no p (ok .each) l b pos (omega (arith, before, demand-parts p l b ok))
 
--- before the smallest D none grows
-pub early-still : (p : Plan) (ok : LawfulPlan p) (l b : ℕ) → 1 ≤ l → l < dMin p → grows p (pair l b) ≡ false
+-- before the smallest D − J none grows
+pub early-still : (p : Plan) (ok : LawfulPlan p) (l b : ℕ) → 1 ≤ l → l < leewayMin p → grows p (pair l b) ≡ false
 early-still p ok l b pos h =
     none-rises p ok l b pos (asked-early p 0 l h ∙ sym (asked-early p 0 (l - 1) (omega arith)))
     (asked-early p 1 (l - b) (omega arith) ∙ sym (asked-early p 1 (l - b - 1) (omega arith)))
@@ -73,8 +73,8 @@ next-looked p ok l more left m b pos kept within mark e =
 
 -- ---- Marks
 
--- before the smallest D there is none
-pub mark-early : (p : Plan) (j : ℕ) → j ≤ dMin p → Mark p j 0
+-- before the smallest D − J there is none
+pub mark-early : (p : Plan) (j : ℕ) → j ≤ leewayMin p → Mark p j 0
 mark-early p j h = record {
   within = omega arith;
   still = λ w low high. asked-early p 1 w (omega arith) ∙ sym (asked-early p 1 (w - 1) (omega arith));

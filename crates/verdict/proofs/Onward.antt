@@ -2,7 +2,7 @@
 use Rattle.base.proofs.Prelude.{ℕ, _+_, _-_, _≤_, _<_, _≡_, refl, sym, ap, _∙_, true, false, List, [], _∷_, _++_, arith, ℕ-discrete, lt-ltb, ltb, length, getD}
 use denote.Enum.Declared.{tagOf}
 use Rattle.days.specs.Days.{days}
-use Rattle.rules.specs.{declared.BatteryString.BatteryString, declared.Plan.Plan, declared.Verdict.Verdict, declared.Verdict.the-variants.{Overload, Fail, Pass}, Plan.{stringsOf, noString, dMin, dMax}, Demand.{jobs, blockLimit, demand}, Verdict.Pair}
+use Rattle.rules.specs.{declared.BatteryString.BatteryString, declared.Plan.Plan, declared.Verdict.Verdict, declared.Verdict.the-variants.{Overload, Fail, Pass}, Plan.{stringsOf, noString, leeway, leewayMin, dMax}, Demand.{jobs, blockLimit, demand}, Verdict.Pair}
 use Rattle.rules.proofs.Verdict.{the-type}
 use Rattle.base.specs.Count.{keep, smallestWith}
 use Rattle.base.proofs.Lists.{all-map, all-at, any-at, largest-ge, largest-some, smallestWith-some, smallest-above, smallest-le}
@@ -50,33 +50,23 @@ module _ (p : Plan) (ready : Ready p) where
   some-string : 0 < length (stringsOf p)
   some-string = omega (arith, strings-count p ready, ready .lawful .nPos)
 
-  pub dMin-pos : 1 ≤ dMin p
-  unfolding dMin
-  dMin-pos =
-      smallest-above (λ s. s .d .0) 0 (stringsOf p) some-string
-      (all-map LawfulString (λ s. 0 < s .d .0) (λ s lawful. lawful .dPos) (stringsOf p) (ready .lawful .each))
+  pub leewayMin-pos : 1 ≤ leewayMin p
+  unfolding leewayMin
+  leewayMin-pos =
+      smallest-above leeway 0 (stringsOf p) some-string
+      (all-map LawfulString (λ s. 0 < leeway s) (λ s lawful. omega (arith, lawful .jMax)) (stringsOf p) (ready .lawful .each))
 
-  pub dMin-dMax : dMin p ≤ dMax p
-  unfolding dMin
-  dMin-dMax =
-      let least : dMin p ≤ getD (stringsOf p) 0 noString .d .0 =
-      all-at (λ s. dMin p ≤ s .d .0) (stringsOf p) noString (smallest-le (λ s. s .d .0) (stringsOf p)) 0 some-string in
+  pub leewayMin-dMax : leewayMin p ≤ dMax p
+  unfolding leewayMin
+  leewayMin-dMax =
+      let least : leewayMin p ≤ leeway (getD (stringsOf p) 0 noString) =
+      all-at (λ s. leewayMin p ≤ leeway s) (stringsOf p) noString (smallest-le leeway (stringsOf p)) 0 some-string in
       omega (arith, dMax-over 0 some-string)
 
   pub dMax-pos : 1 ≤ dMax p
-  dMax-pos = omega (arith, dMin-pos, dMin-dMax)
+  dMax-pos = omega (arith, leewayMin-pos, leewayMin-dMax)
 
-  -- the largest D is the first step of a string
-  pub dMax-grows : grows p (pair (dMax p) 0) ≡ true
-  unfolding dMax
-  dMax-grows =
-      let found = largest-some (λ s. s .d .0) (dMax p - 1) (stringsOf p) noString (omega (arith, dMax-pos)) in
-      let s = getD (stringsOf p) (found .0) noString in
-      let above = found .2 in
-      grows-at (found .0) (dMax p) (found .1)
-      (omega (arith, jobs-short s (dMax p - 1) above, jobs-first s (dMax p) (dMax-over (found .0) (found .1))))
-
-  -- and so is the soonest step of all
+  -- the soonest step of all is a step of some string
   soonest-grows : (l end : ℕ) → l < end → soonest p ready l end < end → grows p (pair (soonest p ready l end) 0) ≡ true
   soonest-grows l end h before =
       let m = soonest p ready l end in
@@ -156,6 +146,17 @@ module _ (p : Plan) (k l end : ℕ) where
       none w b under over held =
           let no-blocking : b ≡ 0 = omega (arith, blockLimit-late p w (omega arith)) in
           ap (λ c. grows p (pair w c)) no-blocking ∙ still w (omega arith) over
+
+  -- from the largest D on, intervals at which none grows are passed over
+  pub onward-start :
+      (m : ℕ) → dMax p ≤ l → l ≤ m → m ≤ end → ((w : ℕ) → l ≤ w → w < m → grows p (pair w 0) ≡ false)
+      → scanFrom p k (keep (grows p) (rows p l (end - l))) ≡ scanFrom p k (keep (grows p) (rows p m (end - m)))
+  onward-start m late low high still = ap (scanFrom p k) (kept-rows p (grows p) l m end low high none)
+    where
+      none : (w b : ℕ) → l ≤ w → w < m → b ≤ blockLimit p w → grows p (pair w b) ≡ false
+      none w b under over held =
+          let no-blocking : b ≡ 0 = omega (arith, blockLimit-late p w (omega arith)) in
+          ap (λ c. grows p (pair w c)) no-blocking ∙ still w under over
 
   pub onward-end : end ≤ l → scanFrom p k (keep (grows p) (rows p l (end - l))) ≡ Pass k
   unfolding keep

@@ -1,6 +1,6 @@
 -- Laws of the steps of job counts: where the next one is, that nothing changes before it, and what changes at it.
 use Rattle.base.proofs.Prelude.{ℕ, suc, _+_, _-_, _*_, _≤_, _<_, _≡_, sym, ap, _∙_, cond, List, arith, decLe, ℕ-discrete, mul-le-mul, le-refl, suc-mul, add-mul, one-mul, mul-zero, zero-mul, eq-eqb, ne-eqb, eqb, length, getD, getD-take}
-use Rattle.rules.specs.{declared.BatteryString.BatteryString, declared.Plan.Plan, Plan.{stringsOf, noString, dMin}, Demand.{holdOf, jobs}}
+use Rattle.rules.specs.{declared.BatteryString.BatteryString, declared.Plan.Plan, Plan.{stringsOf, noString, leeway, leewayMin}, Demand.{holdOf, jobs}}
 use Rattle.base.specs.Count.{smallestWith}
 use Rattle.base.proofs.{Lists.{All, all-map, all-at, sumOf-eq, smallestWith-le, smallestWith-all, smallestWith-above}, Order.{all-both, sumOf-zero}}
 use Rattle.laws.proofs.{Jobs.{jobs-short, jobs-last, jobs-step-after, jobs-until, jobs-at-step}, Lawful.LawfulString}
@@ -13,26 +13,31 @@ use Rattle.verdict.proofs.{Asked.{askedOf-yes, askedOf-no}, StringSums.
 module _ (s : BatteryString) (ok : LawfulString s) where
   step-past : (l : ℕ) → l < stepAfter l s
   unfolding stepAfter
-  step-past l = jobs-step-after s l (ok .tPos)
+  step-past l = omega (arith, jobs-step-after s l (ok .tPos), ok .jMax)
 
   pub step-jobs : (l w : ℕ) → l ≤ w → w < stepAfter l s → jobs s w ≡ jobs s l
   unfolding stepAfter
-  step-jobs l w h k = jobs-until s l w (ok .tPos) h k
+  step-jobs l w h k =
+      let late = ok .jMax in
+      jobs-until s l w (ok .tPos) h (omega arith)
 
   -- before the step it is still the next
   step-stays : (l w : ℕ) → l ≤ w → w < stepAfter l s → stepAfter w s ≡ stepAfter l s
-  unfolding stepAfter
-  step-stays l w h k = ap (λ j. j * s .t .0 + s .d .0) (jobs-until s l w (ok .tPos) h k)
+  step-stays l w h k =
+      let same = step-jobs l w h k in
+      unfold stepAfter in ap (λ j. j * s .t .0 + leeway s) same
 
   pub step-jobs-more : (l w : ℕ) → w ≡ stepAfter l s → jobs s w ≡ jobs s l + 1
   unfolding stepAfter
-  step-jobs-more l w e = jobs-at-step s l w (ok .tPos) e
+  step-jobs-more l w e =
+      let late = ok .jMax in
+      jobs-at-step s l w (ok .tPos) (omega arith)
 
   -- at the step the next is T days on
   step-next : (l w : ℕ) → w ≡ stepAfter l s → stepAfter w s ≡ w + s .t .0
   unfolding stepAfter
   step-next l w e =
-      let more = ap (λ j. j * s .t .0) (jobs-at-step s l w (ok .tPos) e) ∙ add-mul (jobs s l) 1 (s .t .0) in
+      let more = ap (λ j. j * s .t .0) (step-jobs-more l w e) ∙ add-mul (jobs s l) 1 (s .t .0) in
       omega (arith, one-mul (s .t .0))
 
   pub step-soon : (l : ℕ) → stepAfter l s ≤ l + 1000
@@ -40,7 +45,8 @@ module _ (s : BatteryString) (ok : LawfulString s) where
   step-soon l =
       let t = ok .tMax in
       let d = ok .dMax in
-      elim (decLe (s .d .0) l) [
+      let late = ok .jMax in
+      elim (decLe (s .d .0) (l + s .j .0)) [
         | yes long ↦
             let parts : jobs s l * s .t .0 ≤ (suc (jobs s l - 1)) * s .t .0 = mul-le-mul (omega arith) (le-refl (s .t .0)) in
             omega (arith, jobs-last s l (ok .tPos) long, suc-mul (jobs s l - 1) (s .t .0))
@@ -100,8 +106,8 @@ module _ (p : Plan) (x : ℕ) (s : BatteryString) where
               ∙ omega (arith, asked-stays (l - 1) l (omega arith) (omega arith))
         ]
 
--- before the smallest D nobody asks for anything
-pub asked-early : (p : Plan) (x w : ℕ) → w < dMin p → askedBy p x w ≡ 0
+-- before the smallest D − J nobody asks for anything
+pub asked-early : (p : Plan) (x w : ℕ) → w < leewayMin p → askedBy p x w ≡ 0
 unfolding askedBy
 asked-early p x w h =
     sumOf-zero (askedOf p x w) (stringsOf p)

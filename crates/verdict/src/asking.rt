@@ -3,6 +3,7 @@ use rules::BatteryString;
 use rules::Plan;
 ghost use mathlib.Core.Path.{_≡_};
 ghost use Prim.Native.Nat.{_≤_};
+ghost use Rattle.rules.specs.Plan.{leeway};
 ghost use Rattle.rules.specs.Demand.{holdOf, jobs};
 ghost use Rattle.laws.proofs.Lawful.{LawfulString, PlanString};
 ghost use Rattle.verdict.specs.inner.Asked.{Ready, askedOf, askedBy};
@@ -13,17 +14,24 @@ pub(crate) struct Work {
     pub(crate) takers: u32,
 }
 
+// D − J: a window of fewer days holds no job of the string.
+pub(crate) fn leeway_of(s: BatteryString) -> u32
+    requires { ⌜ LawfulString s ⌝ }
+    ensures { λ r. ⌜ r ≡ leeway s ⌝ }
+{
+    s.d.0 - s.j.0
+}
+
 // The jobs of a string in a window of w days.
 pub(crate) fn jobs_in(s: BatteryString, w: u32) -> u32
     requires { ⌜ LawfulString s ⌝ }
     ensures { λ r. ⌜ r ≡ jobs s w ⌝ }
 {
-    let d = s.d.0;
-    let t = s.t.0;
-    if w < d {
+    let least = leeway_of(s);
+    if w < least {
         return 0;
     }
-    (w - d) / t + 1
+    (w - least) / s.t.0 + 1
 }
 
 // The longest that a job of the string holds the bank.

@@ -3,9 +3,10 @@ use super::asking::work_within;
 use super::limits::largest_d;
 use super::limits::limit;
 use super::limits::load_over;
-use super::limits::smallest_d;
+use super::limits::smallest_leeway;
 use super::pairs::none_known;
 use super::steps::advance;
+use super::steps::first_step;
 use super::steps::parts_of;
 use super::steps::steps_after;
 use days::Length;
@@ -19,7 +20,7 @@ ghost use mathlib.Core.List.{List, _++_};
 ghost use lib.Dec.{ltb};
 ghost use lib.ListN.{getD};
 ghost use Rattle.base.specs.Count.{keep};
-ghost use Rattle.rules.specs.Plan.{multipleOf, dMin, dMax};
+ghost use Rattle.rules.specs.Plan.{multipleOf, leewayMin, dMax};
 ghost use Rattle.rules.specs.Demand.{demand};
 ghost use Rattle.rules.specs.Verdict.{Pair, allPairs, firstBroken, brokenAt};
 ghost use Rattle.demand.specs.Quick.{grows, quickPairs, quickOf};
@@ -76,7 +77,7 @@ fn row(
     before: u32,
 ) -> Verdict
     requires { ⌜ Ready p ⌝ }
-    requires { ⌜ first ≡ dMin p ⌝ }
+    requires { ⌜ first ≡ leewayMin p ⌝ }
     requires { ⌜ last ≡ dMax p ⌝ }
     requires { ⌜ RowKnown p l keepers more (now takers) (now marks) ⌝ }
     requires { ⌜ before ≤ 1001 * l ⌝ }
@@ -103,14 +104,14 @@ fn row(
     Verdict::Pass { pairs }
 }
 
-// The intervals from the smallest D, before which no job fits, up to the largest, day by day: a blocking moves a taker's step to a later
-// interval.
+// The intervals from the smallest D − J, before which no job fits, up to the largest D, day by day: a blocking moves a taker's step to a
+// later interval.
 fn early(p: Plan) -> Verdict
     requires { ⌜ Ready p ⌝ }
     ensures onward { λ r. ⌜ onward p r (keep (grows p) (rows p (dMax p) (multipleOf p))) ≡ scanFrom p 0 (quickPairs p) ⌝ }
     ensures few { λ r. ⌜ pairsOf r ≤ 1001 * dMax p ⌝ }
 {
-    let first = smallest_d(p);
+    let first = smallest_leeway(p);
     let last = largest_d(p);
     let parts = parts_of(p);
     let every = parts.every;
@@ -170,7 +171,7 @@ fn late(p: Plan, h: u32, before: u32) -> Verdict
     let work = work_within(p, last - 1);
     let mut demand = work.keepers + work.takers;
     let mut pairs = before;
-    let mut l = last;
+    let mut l = first_step(p, last - 1, end);
     while l < end {
         let step = advance(p, l, end, &every, &keeps, &takes, &mut next);
         demand += step.keepers + step.takers;

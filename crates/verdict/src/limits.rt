@@ -1,11 +1,12 @@
-// The smallest and the largest D, the blocking limit, and the load.
+// The smallest D − J and the largest D, the blocking limit, and the load.
 use super::asking::hold;
+use super::asking::leeway_of;
 use rules::BatteryString;
 use rules::Plan;
 ghost use mathlib.Core.Path.{_≡_};
 ghost use Prim.Native.Nat.{_≤_, _*_, _/_, min, max};
 ghost use Rattle.base.specs.Count.{largest};
-ghost use Rattle.rules.specs.Plan.{stringsOf, multipleOf, dMin, dMax};
+ghost use Rattle.rules.specs.Plan.{stringsOf, multipleOf, leewayMin, dMax};
 ghost use Rattle.rules.specs.Demand.{holdOf, blockerHold, blockLimit, load};
 ghost use Rattle.laws.proofs.Lawful.{PlanString};
 ghost use Rattle.verdict.specs.inner.Asked.{Ready};
@@ -22,18 +23,18 @@ fn larger(a: u32, b: u32) -> u32
     if a < b { b } else { a }
 }
 
-pub(crate) fn smallest_d(p: Plan) -> u32
+pub(crate) fn smallest_leeway(p: Plan) -> u32
     requires { ⌜ Ready p ⌝ }
-    ensures { λ r. ⌜ r ≡ dMin p ⌝ }
+    ensures { λ r. ⌜ r ≡ leewayMin p ⌝ }
 {
     let n = p.n;
     let strings = p.strings;
     let first = strings[0];
-    let mut least = first.d.0;
+    let mut least = leeway_of(first);
     let mut i: usize = 1;
     while i < n {
         let s = strings[i];
-        least = smaller(least, s.d.0);
+        least = smaller(least, leeway_of(s));
         i += 1;
     }
     least
@@ -82,10 +83,10 @@ fn longest_blocker(p: Plan, l: u32) -> u32
     most
 }
 
-// The blocking limit at interval l, given the smallest and the largest D. The strings are looked at only between the two.
+// The blocking limit at interval l, given the smallest D − J and the largest D. The strings are looked at only between the two.
 pub(crate) fn limit(p: Plan, first: u32, last: u32, l: u32) -> u32
     requires { ⌜ Ready p ⌝ }
-    requires { ⌜ first ≡ dMin p ⌝ }
+    requires { ⌜ first ≡ leewayMin p ⌝ }
     requires { ⌜ last ≡ dMax p ⌝ }
     ensures { λ r. ⌜ r ≡ blockLimit p l ⌝ }
 {

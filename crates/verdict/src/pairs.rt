@@ -3,7 +3,7 @@ use super::asking::work_within;
 use super::limits::largest_d;
 use super::limits::limit;
 use super::limits::load_over;
-use super::limits::smallest_d;
+use super::limits::smallest_leeway;
 use days::Length;
 use rules::Plan;
 use rules::Verdict;
@@ -28,7 +28,7 @@ fn scan(p: Plan, h: u32) -> Verdict
     requires { ⌜ h ≡ multipleOf p ⌝ }
     ensures { λ r. ⌜ r ≡ scanFrom p 0 (allPairs p) ⌝ }
 {
-    let first = smallest_d(p);
+    let first = smallest_leeway(p);
     let last = largest_d(p);
     let end = last + h;
     let mut takers = none_known();

@@ -20,13 +20,14 @@ ghost use Rattle.verdict.specs.inner.Unblocked.{namesUnblocked};
 
 // The string with permission x.
 fn permitted(s: BatteryString, x: u32) -> BatteryString
-    ensures { λ r. ⌜ r ≡ record { t = s .t; c = s .c; d = s .d; x = x; a = s .a } ⌝ }
+    ensures { λ r. ⌜ r ≡ record { t = s .t; c = s .c; d = s .d; x = x; a = s .a; j = s .j } ⌝ }
 {
     let t = s.t;
     let c = s.c;
     let d = s.d;
     let a = s.a;
-    BatteryString { t, c, d, x, a }
+    let j = s.j;
+    BatteryString { t, c, d, x, a, j }
 }
 
 // The plan with the permissions of a set.

@@ -4,13 +4,13 @@ use super::asking::work_within;
 use super::growing::quickly_judged;
 use super::limits::largest_d;
 use super::limits::limit;
-use super::limits::smallest_d;
+use super::limits::smallest_leeway;
 use rules::Plan;
 use rules::Verdict;
 ghost use Prim.Native.Nat.{_<_};
 ghost use mathlib.Core.Path.{_≡_};
 ghost use mathlib.Core.Bool.{true, false};
-ghost use Rattle.rules.specs.Plan.{multipleOf, dMin, dMax};
+ghost use Rattle.rules.specs.Plan.{multipleOf, leewayMin, dMax};
 ghost use Rattle.rules.specs.Verdict.{verdictOf, isPass};
 ghost use Rattle.verdict.specs.inner.Asked.{Ready};
 
@@ -28,10 +28,10 @@ pub(crate) fn nothing() -> Remembered {
     }
 }
 
-// Whether the rule breaks at a pair that the plan's own limit allows, given the smallest and the largest D.
+// Whether the rule breaks at a pair that the plan's own limit allows, given the smallest D − J and the largest D.
 fn breaks_at(p: Plan, first: u32, last: u32, l: u32, b: u32) -> bool
     requires { ⌜ Ready p ⌝ }
-    requires { ⌜ first ≡ dMin p ⌝ }
+    requires { ⌜ first ≡ leewayMin p ⌝ }
     requires { ⌜ last ≡ dMax p ⌝ }
     ensures { λ r. ⌜ (r ≡ true → isPass (verdictOf p) ≡ false) ⌝ }
 {
@@ -54,7 +54,7 @@ fn serving(p: Plan, known: Remembered) -> usize
     requires { ⌜ Ready p ⌝ }
     ensures { λ r. ⌜ (r < 16 → isPass (verdictOf p) ≡ false) ⌝ }
 {
-    let first = smallest_d(p);
+    let first = smallest_leeway(p);
     let last = largest_d(p);
     let intervals = known.intervals;
     let blockings = known.blockings;

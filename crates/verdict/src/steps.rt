@@ -1,6 +1,8 @@
-// The intervals at which job counts step. A string's count steps at D and then every T days, so that a step gives the next by one addition.
+// The intervals at which job counts step. A string's count steps at D − J and then every T days, so that a step gives the next by one
+// addition.
 use super::asking::hold;
 use super::asking::jobs_in;
+use super::asking::leeway_of;
 use super::limits::smaller;
 use rules::BatteryString;
 use rules::Plan;
@@ -10,7 +12,7 @@ ghost use mathlib.Core.Bool.{cond};
 ghost use lib.Dec.{eqb};
 ghost use Rattle.base.specs.Count.{smallestWith};
 ghost use Rattle.rules.specs.Plan.{stringsOf};
-ghost use Rattle.laws.proofs.Lawful.{PlanString};
+ghost use Rattle.laws.proofs.Lawful.{LawfulString, PlanString};
 ghost use Rattle.verdict.specs.inner.Asked.{Ready, askedBy};
 ghost use Rattle.verdict.specs.inner.Steps.{jobOf, Parted, stepAfter, Due};
 
@@ -64,6 +66,33 @@ pub(crate) fn parts_of(p: Plan) -> Parts
     }
 }
 
+// The first interval after l at which the string's count steps.
+fn step_of(s: BatteryString, l: u32) -> u32
+    requires { ⌜ LawfulString s ⌝ }
+    requires { ⌜ l ≤ 1000 ⌝ }
+    ensures { λ r. ⌜ r ≡ stepAfter l s ⌝ }
+{
+    jobs_in(s, l) * s.t.0 + leeway_of(s)
+}
+
+// The soonest of all strings' steps after l, or `end` where none comes before that.
+pub(crate) fn first_step(p: Plan, l: u32, end: u32) -> u32
+    requires { ⌜ Ready p ⌝ }
+    requires { ⌜ l ≤ 1000 ⌝ }
+    ensures { λ r. ⌜ r ≡ smallestWith (stepAfter l) end (stringsOf p) ⌝ }
+{
+    let n = p.n;
+    let strings = p.strings;
+    let mut soonest = end;
+    let mut i: usize = 0;
+    while i < n {
+        let s = strings[i];
+        soonest = smaller(soonest, step_of(s, l));
+        i += 1;
+    }
+    soonest
+}
+
 // For each string the first interval after l at which its count steps.
 pub(crate) fn steps_after(p: Plan, l: u32) -> [u32; 10]
     requires { ⌜ Ready p ⌝ }
@@ -76,7 +105,7 @@ pub(crate) fn steps_after(p: Plan, l: u32) -> [u32; 10]
     let mut i: usize = 0;
     while i < n {
         let s = strings[i];
-        next[i] = jobs_in(s, l) * s.t.0 + s.d.0;
+        next[i] = step_of(s, l);
         i += 1;
     }
     next

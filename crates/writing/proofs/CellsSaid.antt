@@ -20,12 +20,13 @@ headerCells w n a run =
 abbrev pub stringCells : code.Version → BatteryString → List Cell
 stringCells w s =
     cell 1 (w .string .kind)
-    ∷ cell 1 (s .x) ∷ cell 2 (s .t .0) ∷ cell 2 (s .c .0) ∷ cell 2 (s .d .0) ∷ cell (w .own .size) (s .a .0) ∷ cell 0 0 ∷ []
+    ∷ cell 1 (s .x) ∷ cell 2 (s .t .0) ∷ cell 2 (s .c .0) ∷ cell 2 (s .d .0) ∷ cell (w .own .size) (s .a .0)
+    ∷ cell (w .late .size) (s .j .0) ∷ []
 
 abbrev pub releaseCells : code.Version → Release → List Cell
 releaseCells w r =
     cell 1 (w .release .kind)
-    ∷ cell 1 (r .place) ∷ cell 4 (r .day .0) ∷ cell 2 (r .need .0) ∷ cell 0 0 ∷ cell 0 0 ∷ cell 0 0 ∷ []
+    ∷ cell 1 (r .place) ∷ cell 4 (r .day .0) ∷ cell 2 (r .need .0) ∷ cell (w .due .size) (r .due .0) ∷ cell 0 0 ∷ cell 0 0 ∷ []
 
 -- ---- In every version
 
@@ -33,10 +34,10 @@ abbrev HeaderSaid : Plan → code.Version → Version → Type 0
 HeaderSaid p w v = SaysFrame (headerCells w (p .n) (stringAt p 1 .a .0) (p .run .0)) 5 (headerFrame v) (headerSays (v .number) p)
 
 abbrev StringSaid : BatteryString → code.Version → Version → Type 0
-StringSaid s w v = SaysFrame (stringCells w s) 6 (stringFrame v) (stringSays s)
+StringSaid s w v = SaysFrame (stringCells w s) 7 (stringFrame v) (stringSays s)
 
 abbrev ReleaseSaid : Release → code.Version → Version → Type 0
-ReleaseSaid r w v = SaysFrame (releaseCells w r) 4 (releaseFrame v) (releaseSays r)
+ReleaseSaid r w v = SaysFrame (releaseCells w r) 5 (releaseFrame v) (releaseSays r)
 
 module _ (k : ℕ) where
   header-every : (p : Plan) → HeaderSaid p (codeOf (heldTo k)) (heldTo k)
@@ -70,8 +71,8 @@ module _ (version : code.Version) (known : Known version) where
   header-says p a first =
       rw first (subst (λ (w : code.Version). HeaderSaid p w (meantBy version)) (sym known) (header-every (version .number) p))
 
-  pub string-says : (s : BatteryString) → SaysFrame (stringCells version s) 6 (stringFrame (meantBy version)) (stringSays s)
+  pub string-says : (s : BatteryString) → SaysFrame (stringCells version s) 7 (stringFrame (meantBy version)) (stringSays s)
   string-says s = subst (λ (w : code.Version). StringSaid s w (meantBy version)) (sym known) (string-every (version .number) s)
 
-  pub release-says : (r : Release) → SaysFrame (releaseCells version r) 4 (releaseFrame (meantBy version)) (releaseSays r)
+  pub release-says : (r : Release) → SaysFrame (releaseCells version r) 5 (releaseFrame (meantBy version)) (releaseSays r)
   release-says r = subst (λ (w : code.Version). ReleaseSaid r w (meantBy version)) (sym known) (release-every (version .number) r)

@@ -3,10 +3,10 @@
 --     fitCheck c text page at    what the check c finds, then 9 with 0 where the text does not fit
 --     textAnswer c text     the refusal of the check c, or the length of the text
 --     textPage c text page at    the page afterwards: a refusal keeps every byte
--- Writing a plan (document 02, W-201, W-207, W-208):
+-- Writing a plan (document 02, W-201, W-207, W-208, W-213):
 --     costDiffers p i       the string at place i has another moving cost than the one at place 1
 --     firstOther p          the first place whose string has another; n + 1 where none has
--- v is the version that is written; W-201 writes version 02, W-208 version 01 too:
+-- v is the version that is written; W-201 writes version 03, W-208 versions 01 and 02, which do not say late days and due days:
 --     alikeCheck v at p     12 where the header says one moving cost for all strings and those of the plan p differ, reported at `at`
 --     savedText v p rs      the text that is written
 --     writableCheck v p rs  4 to 8 as for numbers, then 12 with the first place that differs

@@ -1,4 +1,4 @@
--- The text of a plan (document 02, W-201, W-207): its frames, written from the layouts that the reader uses.
+-- The text of a plan (document 02, W-201, W-207, W-213): its frames, written from the layouts that the reader uses.
 --     numberBytes size n    n in size bytes, high byte first
 --     digitText v           the lowercase hexadecimal digit of v, which is below 16
 --     byteText b            the two digits of a byte
@@ -49,11 +49,13 @@ stringSays s layout.T = s .t .0
 stringSays s layout.C = s .c .0
 stringSays s layout.D = s .d .0
 stringSays s layout.Own = s .a .0
+stringSays s layout.Late = s .j .0
 
 abbrev pub releaseSays : Release → ReleaseField → ℕ
 releaseSays r layout.Place = r .place
 releaseSays r layout.Day = r .day .0
 releaseSays r layout.Need = r .need .0
+releaseSays r layout.Due = r .due .0
 
 -- ---- The text
 

@@ -10,12 +10,13 @@ use faults::Checked;
 use faults::Fault;
 use layouts::VERSION_01;
 use layouts::VERSION_02;
+use layouts::VERSION_03;
 use layouts::Version;
 use lines::put_plan;
 use rules::Plan;
 use rules::Releases;
 ghost use mathlib.Core.Path.{_≡_};
-ghost use Rattle.rules.specs.Layout.{version01, version02};
+ghost use Rattle.rules.specs.Layout.{version01, version02, version03};
 ghost use Rattle.layouts.specs.inner.Versions.{meantBy, Known};
 ghost use Rattle.writing.specs.Saved.{writableCheck, savedAnswer, savedPage};
 
@@ -65,16 +66,24 @@ fn write_in(p: Plan, rs: Releases, page: &mut [u8], at: usize, version: Version)
     }
 }
 
-// The plan's text, in version 02, goes into the page from `at` on; the bytes ahead of it and behind it stay. 4 to 8 as for numbers, then
+// The plan's text, in version 03, goes into the page from `at` on; the bytes ahead of it and behind it stay. 4 to 8 as for numbers, then
 // 9 with 0 where there is no room; then no byte of the page is another.
 pub fn write(p: Plan, rs: Releases, page: &mut [u8], at: usize) -> Saved
+    ensures exact { λ r. ⌜ r ≡ savedAnswer version03 p rs (now (page .entry)) at ⌝ }
+    ensures page { λ r. ⌜ now (page .exit) ≡ savedPage version03 p rs (now (page .entry)) at ⌝ }
+{
+    write_in(p, rs, page, at, VERSION_03)
+}
+
+// The same in version 02, for a plan without late days: it says none, and no due day.
+pub fn write_02(p: Plan, rs: Releases, page: &mut [u8], at: usize) -> Saved
     ensures exact { λ r. ⌜ r ≡ savedAnswer version02 p rs (now (page .entry)) at ⌝ }
     ensures page { λ r. ⌜ now (page .exit) ≡ savedPage version02 p rs (now (page .entry)) at ⌝ }
 {
     write_in(p, rs, page, at, VERSION_02)
 }
 
-// The same in version 01, which has one moving cost for all strings: where they differ, 12 with the place of the first string that
+// The same in version 01, which moreover has one moving cost for all strings: where they differ, 12 with the place of the first string that
 // differs from place 1, after 8 and before 9.
 pub fn write_01(p: Plan, rs: Releases, page: &mut [u8], at: usize) -> Saved
     ensures exact { λ r. ⌜ r ≡ savedAnswer version01 p rs (now (page .entry)) at ⌝ }

@@ -30,7 +30,7 @@ fn put_strings(part: &mut [u8], p: Plan, version: Version)
     let mut i: usize = 0;
     while i < n {
         let s = strings[i];
-        put_frame(&mut part[i * line..], string_cells(s, version), 6);
+        put_frame(&mut part[i * line..], string_cells(s, version), 7);
         i += 1;
     }
 }
@@ -48,7 +48,7 @@ fn put_releases(part: &mut [u8], rs: Releases, version: Version)
     let mut i: usize = 0;
     while i < count {
         let r = list[i];
-        put_frame(&mut part[i * line..], release_cells(r, version), 4);
+        put_frame(&mut part[i * line..], release_cells(r, version), 5);
         i += 1;
     }
 }

@@ -55,12 +55,11 @@ pub(crate) fn header_cells(p: Plan, version: Version) -> [Cell; 7]
     ]
 }
 
-// A string: its kind and five fields.
+// A string: its kind and six fields.
 pub(crate) fn string_cells(s: BatteryString, version: Version) -> [Cell; 7]
     requires { ⌜ Known version ⌝ }
-    ensures exact { λ r. ⌜ SaysFrame r 6 (stringFrame (meantBy version)) (stringSays s) ⌝ }
+    ensures exact { λ r. ⌜ SaysFrame r 7 (stringFrame (meantBy version)) (stringSays s) ⌝ }
 {
-    let none = Cell { size: 0, value: 0 };
     [
         Cell {
             size: KIND.size,
@@ -86,15 +85,18 @@ pub(crate) fn string_cells(s: BatteryString, version: Version) -> [Cell; 7]
             size: version.own.size,
             value: s.a.0,
         },
-        none,
+        Cell {
+            size: version.late.size,
+            value: s.j.0,
+        },
     ]
 }
 
-// A release: its kind and three fields.
+// A release: its kind and four fields.
 pub(crate) fn release_cells(r: Release, version: Version) -> [Cell; 7]
     requires { ⌜ Known version ⌝ }
     requires { ⌜ r .place ≤ 10 ⌝ }
-    ensures exact { λ cells. ⌜ SaysFrame cells 4 (releaseFrame (meantBy version)) (releaseSays r) ⌝ }
+    ensures exact { λ cells. ⌜ SaysFrame cells 5 (releaseFrame (meantBy version)) (releaseSays r) ⌝ }
 {
     let none = Cell { size: 0, value: 0 };
     [
@@ -114,7 +116,10 @@ pub(crate) fn release_cells(r: Release, version: Version) -> [Cell; 7]
             size: RELEASE_NEED.size,
             value: r.need.0,
         },
-        none,
+        Cell {
+            size: version.due.size,
+            value: r.due.0,
+        },
         none,
         none,
     ]

@@ -18,14 +18,15 @@ use std::path::{Path, PathBuf};
 use std::process::{Command, Stdio};
 use std::time::Instant;
 
-/// Many starts by one shell: a start with an empty first word tells its status on descriptor 3, and what the system says of its end stands
-/// behind that.
-const STARTS: &str = r#"while read -r name; do
-    "$1" "" "$name.plan" <"$name.input" >"$name.board" 2>"$name.said" 3>"$name.status"
-    echo " ended $?" >>"$name.status"
+/// Many starts by one shell: a start with an empty first word tells its status on descriptor 3, where standard error goes too, and what
+/// the system says of its end stands behind that.
+const STARTS: &str = r#"exec 3>"$2"
+while read -r name; do
+    "$1" "" "$name.plan" <"$name.input" >"$name.board" 2>&3
+    echo " ended $?" >&3
 done"#;
 
-const ENDINGS: [&str; 5] = ["plan", "input", "board", "said", "status"];
+const ENDINGS: [&str; 3] = ["plan", "input", "board"];
 
 struct Case {
     /// The file's number under the seed.
@@ -53,9 +54,10 @@ pub fn compare_batch(
     tally.own = begin.elapsed();
     let begin = Instant::now();
     let board = program(board)?;
-    start_each(&board, folder, &cases)?;
+    compare_told(job, folder, &cases, &start_each(&board, folder, &cases)?)?;
     for case in &cases {
-        compare(job, folder, case)?;
+        let given = fs::read(path(folder, case, "board"))?;
+        same(job, folder, case, "difference", &case.board, &given)?;
         if job.asks_alone(case.file) {
             compare_alone(job, &board, folder, case)?;
         }
@@ -120,11 +122,13 @@ fn prepare(
     Ok(case)
 }
 
-fn start_each(board: &Path, folder: &Path, cases: &[Case]) -> io::Result<()> {
+/// All that is told, a line for each start.
+fn start_each(board: &Path, folder: &Path, cases: &[Case]) -> io::Result<Vec<u8>> {
+    let told = folder.join(name(cases[0].file) + ".told");
     let names: String = cases.iter().map(|case| name(case.file) + "\n").collect();
     let mut shell = Command::new("sh")
         .args(["-c", STARTS, "sh"])
-        .arg(board)
+        .args([board, &told])
         .current_dir(folder)
         .stdin(Stdio::piped())
         .spawn()?;
@@ -133,18 +137,28 @@ fn start_each(board: &Path, folder: &Path, cases: &[Case]) -> io::Result<()> {
     input
         .expect("the shell's input is a pipe")
         .write_all(names.as_bytes())?;
-    shell.wait().map(|_| ())
+    shell.wait()?;
+    let lines = fs::read(&told)?;
+    fs::remove_file(&told)?;
+    Ok(lines)
 }
 
-fn compare(job: &Comparison, folder: &Path, case: &Case) -> Result<(), Stop> {
-    let given = |ending| fs::read(path(folder, case, ending));
-    let told = if case.refused { 1 } else { 0 };
-    let status = format!("{told} ended 0\n");
-    let same =
-        |what, expected: &str, given: Vec<u8>| same(job, folder, case, what, expected, &given);
-    same("difference", &case.board, given("board")?)?;
-    same("difference on standard error", "", given("said")?)?;
-    same("difference of the status", &status, given("status")?)
+/// For each start its status, 0 or 1 for a refusal, and nothing on standard error.
+fn compare_told(job: &Comparison, folder: &Path, cases: &[Case], told: &[u8]) -> Result<(), Stop> {
+    let mut rest = told;
+    for (at, case) in cases.iter().enumerate() {
+        let status = if case.refused { 1 } else { 0 };
+        let line = format!("{status} ended 0\n");
+        // the last line is all that is left
+        match rest.strip_prefix(line.as_bytes()) {
+            Some(after) if at + 1 < cases.len() || after.is_empty() => rest = after,
+            _ => {
+                let what = "difference of the status or on standard error";
+                return same(job, folder, case, what, &line, rest);
+            }
+        }
+    }
+    Ok(())
 }
 
 /// Without the empty word nobody asks for the status; all else is the same.

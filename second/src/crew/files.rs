@@ -57,16 +57,15 @@ fn spread(chance: &mut Chance, days: Length, most: usize) -> Vec<u8> {
 
 /// Adds releases so many days later, but for those that would come too soon after the last of their string, or before another.
 fn put_off(plan: &mut Plan, list: Vec<Release>, by: Length) {
-    for mut release in list {
-        release.day += by;
+    for release in list.into_iter().map(|release| release.put_off(by)) {
         let ahead = plan.releases.last().map_or(0, |last| last.day);
         let same = plan
             .releases
             .iter()
             .rev()
             .find(|last| last.place == release.place);
-        let free_from = same.map_or(0, |last| last.day + plan.string_of(last).t);
-        if release.day >= free_from.max(ahead) {
+        let free_from = same.map_or(0, |last| last.due + plan.string_of(last).t);
+        if release.due >= free_from && release.day >= ahead {
             plan.releases.push(release);
         }
     }

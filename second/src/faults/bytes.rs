@@ -3,10 +3,10 @@
 use super::sheet::{Kind, Sheet};
 use crate::chance::Chance;
 
-/// Bytes of the longest header line with its 0a, of the longest string line, and of a release line.
+/// Bytes of the longest header line with its 0a, of the longest string line, and of the longest release line.
 const HEADER: u64 = 19;
-const STRING: u64 = 21;
-const RELEASE: u64 = 17;
+const STRING: u64 = 25;
+const RELEASE: u64 = 25;
 const POSITIONS: u64 = HEADER + STRING + RELEASE;
 
 /// A version's shorter line has its first positions twice.

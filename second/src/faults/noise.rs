@@ -17,7 +17,11 @@ pub fn noise(chance: &mut Chance, turn: u64) -> Vec<u8> {
 /// A line of a fitting length with a fitting kind, and with anything in it.
 fn frame(chance: &mut Chance) -> Vec<u8> {
     let kind = chance.between(1, 3);
-    let length = if kind == 1 { 8 } else { 7 };
+    let length = match kind {
+        1 => chance.pick(&[6, 8]),
+        2 => chance.pick(&[7, 9, 11]),
+        _ => chance.pick(&[7, 11]),
+    };
     let mut line = format!("{kind:02x}");
     for _ in 0..length {
         line += &format!("{:02x}", chance.below(4));

@@ -28,13 +28,7 @@ fn dense_plan(chance: &mut Chance, count: usize) -> Plan {
             let t = chance.between(1, 8);
             let d = chance.between(1, t);
             let c = chance.pick(&[1, 1, (d + 1) / 2]);
-            BatteryString {
-                x: 0,
-                t,
-                c,
-                d,
-                moving: 0,
-            }
+            BatteryString::plain(t, c, d)
         })
         .collect();
     let mut plan = with_permissions(chance, strings);
@@ -48,11 +42,7 @@ fn dense_list(plan: &Plan, count: usize) -> Vec<Release> {
     for day in 0..plan.days {
         for (string, place) in plan.strings.iter().zip(1..) {
             if day % string.t == 0 {
-                list.push(Release {
-                    place,
-                    day,
-                    need: string.c,
-                });
+                list.push(Release::new(place, day, string.c));
             }
         }
     }

@@ -5,8 +5,8 @@ use super::sheet::{Kind, Sheet};
 use super::{lines, releases};
 use crate::chance::Chance;
 use crate::writing::{
-    put, Field, Version, C, COUNT, D, DAY, DAYS, KIND, MOVING, NEED, OLD_DAYS, OLD_MOVING, PLACE,
-    T, VERSION, X,
+    put, Field, Version, C, COUNT, D, DAY, DAYS, DUE, KIND, LATE, MOVING, NEED, OLD_DAYS,
+    OLD_MOVING, PLACE, T, VERSION, X,
 };
 
 /// Two to four faults; often on one line, where 2, 3, 4 and 5, or 2, 3 and 8, compete.
@@ -63,10 +63,12 @@ fn spoil_line(chance: &mut Chance, sheet: &mut Sheet, at: usize) {
 
 fn fields(kind: Kind, version: Version) -> &'static [Field] {
     match (kind, version) {
-        (Kind::Header, Version::Old) => &[KIND, VERSION, COUNT, OLD_MOVING, OLD_DAYS],
-        (Kind::Header, Version::New) => &[KIND, VERSION, COUNT, DAYS],
-        (Kind::String, Version::Old) => &[KIND, X, T, C, D],
-        (Kind::String, Version::New) => &[KIND, X, T, C, D, MOVING],
+        (Kind::Header, Version::V01) => &[KIND, VERSION, COUNT, OLD_MOVING, OLD_DAYS],
+        (Kind::Header, _) => &[KIND, VERSION, COUNT, DAYS],
+        (Kind::String, Version::V01) => &[KIND, X, T, C, D],
+        (Kind::String, Version::V02) => &[KIND, X, T, C, D, MOVING],
+        (Kind::String, Version::V03) => &[KIND, X, T, C, D, MOVING, LATE],
+        (Kind::Release, Version::V03) => &[KIND, PLACE, DAY, NEED, DUE],
         (Kind::Release, _) => &[KIND, PLACE, DAY, NEED],
     }
 }

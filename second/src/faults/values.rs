@@ -3,7 +3,9 @@
 use super::sheet::{Kind, Sheet};
 use crate::chance::Chance;
 use crate::rules::plan::BatteryString;
-use crate::writing::{put, Field, Version, C, COUNT, D, KIND, MOVING, OLD_MOVING, T, VERSION, X};
+use crate::writing::{
+    put, Field, Version, C, COUNT, D, KIND, LATE, MOVING, OLD_MOVING, T, VERSION, X,
+};
 
 /// Every value of n in turn.
 pub fn count(chance: &mut Chance, turn: u64) -> Vec<u8> {
@@ -41,7 +43,7 @@ pub fn header_bounds(chance: &mut Chance, turn: u64) -> Vec<u8> {
     let mut sheet = Sheet::draw(chance);
     let turn = turn as usize % (MOVING_EDGES.len() + DAYS.len());
     match MOVING_EDGES.get(turn) {
-        Some(value) if sheet.version == Version::Old => {
+        Some(value) if sheet.version == Version::V01 => {
             put(&mut sheet.lines[0], OLD_MOVING, *value);
         }
         Some(value) => {
@@ -59,8 +61,8 @@ pub fn header_bounds(chance: &mut Chance, turn: u64) -> Vec<u8> {
 /// A moving cost on each side of each of its bounds.
 const MOVING_EDGES: [u64; 7] = [0, 1, 999, 1_000, 1_001, 0x8000, 0xffff];
 
-/// X, T, C, D and a moving cost of its own on each side of each of their bounds, those by the other
-/// numbers too. In version 01 a string has no such cost.
+/// X, T, C, D, a moving cost of its own and late days on each side of each of their bounds, those by the
+/// other numbers too. Older versions have no such cost, or no late days.
 pub fn string_bounds(chance: &mut Chance, turn: u64) -> Vec<u8> {
     let mut sheet = Sheet::draw(chance);
     let at = chance.index(sheet.plan.strings.len());
@@ -73,7 +75,7 @@ pub fn string_bounds(chance: &mut Chance, turn: u64) -> Vec<u8> {
 
 /// Numbers put together into one string, one or more at a time.
 fn string_edges(string: &BatteryString) -> Vec<Vec<(Field, u64)>> {
-    let BatteryString { t, c, d, .. } = *string;
+    let BatteryString { t, c, d, late, .. } = *string;
     let mut edges: Vec<Vec<(Field, u64)>> = Vec::new();
     for x in [0, 1, 2, 3, 0x10, 0x80, 0xff] {
         edges.push(vec![(X, x)]);
@@ -83,6 +85,14 @@ fn string_edges(string: &BatteryString) -> Vec<Vec<(Field, u64)>> {
     }
     for value in [0, 1, d - 1, d, d + 1, t, 1_001, 0xffff] {
         edges.push(vec![(C, value)]);
+    }
+    for value in [d - late - 1, d - late, d - late + 1] {
+        edges.push(vec![(C, value)]);
+    }
+    for value in [0, 1, d - c, d - c + 1, d - 1, d, d + 1, 0x8000, 0xffff] {
+        edges.push(vec![(LATE, value)]);
+        edges.push(vec![(LATE, value), (C, 1)]);
+        edges.push(vec![(LATE, value), (C, d)]);
     }
     for value in [0, 1, c - 1, c, c + 1, t - 1, t, t + 1, 1_001, 0xffff] {
         edges.push(vec![(D, value)]);

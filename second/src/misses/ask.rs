@@ -1,7 +1,8 @@
 //! Asking the clerk for releases that miss, and counting how often it knows none.
 
 use super::check::{said, Said};
-use super::plans::{any_plan, small_plan};
+use super::free::first_breaks;
+use super::plans::{any_plan, small_late_plan, small_plan};
 use crate::chance::Chance;
 use crate::clerk::ask;
 use crate::rules::every_list::can_miss;
@@ -18,11 +19,16 @@ pub struct Asked {
     pub plans: u64,
     /// How many small plans that fail by their moving costs alone, each held against every list there is.
     pub small: u64,
+    /// How many small plans with late days, every other one of which passes, held against every list too.
+    pub late: u64,
     pub seed: u64,
 }
 
 /// Plans to a start of the clerk.
 const BATCH: u64 = 200;
+
+/// Added to the seed for the plans with late days, so that they are no others again.
+const LATE_SEQUENCE: u64 = 0x1a7e;
 
 #[derive(Default)]
 pub struct Counts {
@@ -33,18 +39,25 @@ pub struct Counts {
     small: u64,
     small_can_miss: u64,
     small_found: u64,
+    late: u64,
+    late_pass: u64,
+    late_can_miss: u64,
+    late_found: u64,
 }
 
 /// Everything that was said is right, or the first that is not.
 pub fn ask_all(asked: &Asked) -> io::Result<Result<Counts, String>> {
     let folder = std::env::temp_dir().join(format!("second-misses-{}", std::process::id()));
     fs::create_dir_all(&folder)?;
-    let counts = any_plans(asked, &folder).and_then(|counts| match counts {
-        Ok(counts) => small_plans(asked, &folder, counts),
-        wrong => Ok(wrong),
-    });
+    let mut counts = any_plans(asked, &folder)?;
+    for part in [small_plans, late_plans] {
+        counts = match counts {
+            Ok(counts) => part(asked, &folder, counts)?,
+            wrong => wrong,
+        };
+    }
     fs::remove_dir_all(&folder)?;
-    counts
+    Ok(counts)
 }
 
 /// Plans of all kinds, until enough of them did not pass.
@@ -96,6 +109,51 @@ fn small_plans(
         }
     }
     Ok(Ok(counts))
+}
+
+/// Small plans with late days: one that passes never misses, by every list there is, and where moving is free the lists that miss are
+/// those that are made.
+fn late_plans(
+    asked: &Asked,
+    folder: &Path,
+    mut counts: Counts,
+) -> io::Result<Result<Counts, String>> {
+    while counts.late < asked.late {
+        let end = asked.late.min(counts.late + BATCH);
+        let sequence = asked.seed.wrapping_add(LATE_SEQUENCE);
+        let plans: Vec<Plan> = (counts.late..end)
+            .map(|number| small_late_plan(&mut Chance::new(sequence, number), number % 2 == 0))
+            .collect();
+        let all = match all_said(asked, folder, &plans)? {
+            Err(wrong) => return Ok(Err(wrong)),
+            Ok(all) => all,
+        };
+        for (plan, one) in plans.iter().zip(all) {
+            let can = can_miss(plan);
+            if let Some(what) = claim_broken(plan, one, can) {
+                return Ok(Err(format!("{what}: {plan:?}")));
+            }
+            counts.late += 1;
+            counts.late_pass += u64::from(one == Said::Passes);
+            counts.late_can_miss += u64::from(can);
+            counts.late_found += u64::from(one == Said::Found);
+        }
+    }
+    Ok(Ok(counts))
+}
+
+/// What every list there is says otherwise of a plan, and of what was said for it.
+fn claim_broken(plan: &Plan, said: Said, can_miss: bool) -> Option<&'static str> {
+    let free = plan.strings.iter().all(|string| string.moving == 0);
+    let cycle = plan.cycle().expect("a small plan's H is in bounds");
+    match said {
+        Said::Passes if can_miss => Some("a plan that passes can miss"),
+        Said::Found if !can_miss => Some("no list misses, and one was found"),
+        _ if free && can_miss == first_breaks(plan, cycle).is_empty() => {
+            Some("moving is free, and every list says another thing than the rule without the blocker's own jobs")
+        }
+        _ => None,
+    }
 }
 
 fn name(number: usize) -> String {
@@ -179,10 +237,15 @@ impl fmt::Display for Counts {
             self.none_found,
             self.passes
         )?;
-        write!(
+        writeln!(
             out,
             "second: {} small plans that fail by their moving costs alone: {} can miss, releases that miss were found for {}",
             self.small, self.small_can_miss, self.small_found
+        )?;
+        write!(
+            out,
+            "second: {} small plans with late days: {} pass and can never miss, {} can miss, releases that miss were found for {}",
+            self.late, self.late_pass, self.late_can_miss, self.late_found
         )
     }
 }

@@ -1,6 +1,6 @@
 //! What the clerk may write for a plan, held against the rules.
 
-use super::free::{first_break, releases};
+use super::free::first_breaks;
 use crate::rules::frames::read;
 use crate::rules::plan::{Length, Plan};
 use crate::rules::rule::passes;
@@ -26,22 +26,31 @@ pub fn said(plan: &Plan, given: &[u8], reason: Option<&str>) -> Result<Said, &'s
         Some("clerk: none: the plan passes") if does_pass => Ok(Said::Passes),
         Some("clerk: none: the plan passes") => Err("the plan does not pass"),
         _ if does_pass => Err("the plan passes"),
-        Some("clerk: none found") => match first_break(plan, cycle) {
-            None => Ok(Said::NoneFound),
-            Some(_) => Err("there is a list"),
-        },
+        Some("clerk: none found") => none_found(plan, cycle),
         Some("clerk: none written: the list has over 1000 releases") => too_many(plan, cycle),
         Some(_) => Err("no reason for none"),
         None => found(plan, given),
     }
 }
 
+/// Where the jobs alone ask too much, the blocker's left out, there is a list, late days or not.
+fn none_found(plan: &Plan, cycle: Length) -> Result<Said, &'static str> {
+    if first_breaks(plan, cycle).is_empty() {
+        Ok(Said::NoneFound)
+    } else {
+        Err("there is a list")
+    }
+}
+
 /// Where the rule with free moving breaks there is a list; it may be too long for a file.
 fn too_many(plan: &Plan, cycle: Length) -> Result<Said, &'static str> {
-    match first_break(plan, cycle) {
-        Some(pair) if releases(plan, pair) > MOST_RELEASES => Ok(Said::TooMany),
-        Some(_) => Err("there is a list that is not too long"),
-        None => Err("with free moving the rule holds"),
+    let breaks = first_breaks(plan, cycle);
+    if breaks.is_empty() {
+        Err("with free moving there is no list")
+    } else if breaks.iter().any(|one| one.releases(plan) > MOST_RELEASES) {
+        Ok(Said::TooMany)
+    } else {
+        Err("there is a list that is not too long")
     }
 }
 

@@ -1,5 +1,6 @@
 //! Plans to be asked about: most of them do not pass.
 
+use super::free::freely;
 use crate::chance::Chance;
 use crate::plans::border::border;
 use crate::plans::shaped::{choices, contrast, equal_deadlines};
@@ -30,10 +31,7 @@ fn crowded(chance: &mut Chance) -> Plan {
     let long: Length = [960, 1_000][chance.below(2) as usize];
     let string = |t, x| BatteryString {
         x,
-        t,
-        c: 1,
-        d: t,
-        moving: 0,
+        ..BatteryString::plain(t, 1, t)
     };
     let mut strings: Vec<BatteryString> = (0..few).map(|_| string(few, 0)).collect();
     strings.push(string(long, chance.below(2)));
@@ -47,14 +45,32 @@ fn crowded(chance: &mut Chance) -> Plan {
 /// A small plan that fails by its moving costs alone: with free moving it would pass.
 pub fn small_plan(chance: &mut Chance) -> Plan {
     loop {
-        let plan = any_small_plan(chance);
-        if fails_by_moving_alone(&plan) {
+        let mut plan = any_small_plan(chance);
+        if chance.one_in(2) {
+            draw_small_late(chance, &mut plan);
+        }
+        if does_pass(&freely(&plan)) && !does_pass(&plan) {
             return plan;
         }
     }
 }
 
-/// A plan of two or three strings whose lists can all be gone through.
+/// A small plan with late days; one that passes, where that is asked.
+pub fn small_late_plan(chance: &mut Chance, passing: bool) -> Plan {
+    loop {
+        let mut plan = any_small_plan(chance);
+        draw_small_late(chance, &mut plan);
+        if chance.one_in(2) {
+            plan.set_moving(0);
+        }
+        let late = plan.strings.iter().any(|string| string.late > 0);
+        if late && (!passing || does_pass(&plan)) {
+            return plan;
+        }
+    }
+}
+
+/// A plan of two or three strings whose lists can all be gone through, without late days.
 pub fn any_small_plan(chance: &mut Chance) -> Plan {
     let strings = (0..chance.between(2, 3)).map(|_| small_string(chance));
     Plan {
@@ -69,14 +85,18 @@ fn small_string(chance: &mut Chance) -> BatteryString {
     let d = chance.between(2, t);
     BatteryString {
         x: chance.below(2),
-        t,
-        c: chance.between(1, d.min(3)),
-        d,
         moving: chance.below(4),
+        ..BatteryString::plain(t, chance.between(1, d.min(3)), d)
     }
 }
 
-fn fails_by_moving_alone(plan: &Plan) -> bool {
-    let does_pass = |plan: &Plan| plan.cycle().map_or(false, |cycle| passes(plan, cycle));
-    does_pass(&super::free::freely(plan)) && !does_pass(plan)
+fn draw_small_late(chance: &mut Chance, plan: &mut Plan) {
+    for string in &mut plan.strings {
+        let most = (string.d - string.c).min(3);
+        string.late = chance.between(0, most);
+    }
+}
+
+fn does_pass(plan: &Plan) -> bool {
+    plan.cycle().map_or(false, |cycle| passes(plan, cycle))
 }

@@ -78,7 +78,7 @@ fn change_one(chance: &mut Chance, plan: &mut Plan) {
     let at = chance.index(plan.strings.len());
     let more = chance.one_in(2);
     let string = &mut plan.strings[at];
-    let number = match chance.below(5) {
+    let number = match chance.below(6) {
         0 => {
             string.x = 1 - string.x;
             return;
@@ -86,6 +86,7 @@ fn change_one(chance: &mut Chance, plan: &mut Plan) {
         1 => &mut string.t,
         2 => &mut string.c,
         3 => &mut string.d,
+        4 => &mut string.late,
         _ => &mut string.moving,
     };
     *number = if more {

@@ -13,6 +13,7 @@ enum Knob {
     MoreWork(usize),
     EarlierDeadline(usize),
     MoreMoving(usize),
+    MoreLateDays(usize),
 }
 
 /// A plan that passes, and the same plan one step harder, which fails or is overloaded.
@@ -51,7 +52,7 @@ fn does_pass(plan: &Plan) -> bool {
     plan.cycle().map_or(false, |cycle| passes(plan, cycle))
 }
 
-/// Gives the plan other permissions, or less work and moving, until it passes.
+/// Gives the plan other permissions, or less work and moving and fewer late days, until it passes.
 fn eased(mut plan: Plan) -> Option<Plan> {
     let cycle = plan.cycle()?;
     for _ in 0..4 {
@@ -63,6 +64,7 @@ fn eased(mut plan: Plan) -> Option<Plan> {
         }
         for string in &mut plan.strings {
             string.moving /= 2;
+            string.late /= 2;
             string.c = (string.c + 1) / 2;
         }
     }
@@ -71,16 +73,18 @@ fn eased(mut plan: Plan) -> Option<Plan> {
 
 fn any_knob(chance: &mut Chance, plan: &Plan) -> Knob {
     let at = chance.index(plan.strings.len());
-    match chance.below(4) {
+    match chance.below(6) {
         0 | 1 => Knob::MoreWork(at),
         2 => Knob::EarlierDeadline(at),
-        _ => Knob::MoreMoving(at),
+        3 => Knob::MoreMoving(at),
+        _ => Knob::MoreLateDays(at),
     }
 }
 
 fn most_steps(plan: &Plan, knob: Knob) -> Length {
+    let room = |at: usize| plan.strings[at].d - plan.strings[at].late - plan.strings[at].c;
     match knob {
-        Knob::MoreWork(at) | Knob::EarlierDeadline(at) => plan.strings[at].d - plan.strings[at].c,
+        Knob::MoreWork(at) | Knob::EarlierDeadline(at) | Knob::MoreLateDays(at) => room(at),
         Knob::MoreMoving(at) => 1_000 - plan.strings[at].moving,
     }
 }
@@ -91,6 +95,7 @@ fn turned(plan: &Plan, knob: Knob, steps: Length) -> Plan {
         Knob::MoreWork(at) => plan.strings[at].c += steps,
         Knob::EarlierDeadline(at) => plan.strings[at].d -= steps,
         Knob::MoreMoving(at) => plan.strings[at].moving += steps,
+        Knob::MoreLateDays(at) => plan.strings[at].late += steps,
     }
     plan
 }

@@ -16,13 +16,7 @@ pub fn near_bound(chance: &mut Chance) -> Plan {
     };
     let strings = periods
         .into_iter()
-        .map(|t| BatteryString {
-            x: 0,
-            t,
-            c: chance.between(1, (t + 7) / 8),
-            d: t,
-            moving: 0,
-        })
+        .map(|t| BatteryString::plain(t, chance.between(1, (t + 7) / 8), t))
         .collect();
     with_permissions(chance, strings)
 }

@@ -22,13 +22,7 @@ pub fn upper_bounds(chance: &mut Chance) -> Plan {
             let t = chance.pick(&[1, 2, 500, 1_000, 1_000]);
             let d: Length = chance.pick(&[1, t, t, t]);
             let c = chance.pick(&[1, 1, d, (d + count - 1) / count]);
-            BatteryString {
-                x: 0,
-                t,
-                c,
-                d,
-                moving: 0,
-            }
+            BatteryString::plain(t, c, d)
         })
         .collect();
     let mut plan = with_permissions(chance, strings);
@@ -45,13 +39,7 @@ pub fn largest_load(chance: &mut Chance) -> Plan {
     chance.shuffle(&mut periods);
     let strings = periods
         .into_iter()
-        .map(|t| BatteryString {
-            x: 0,
-            t,
-            c: t,
-            d: t,
-            moving: 0,
-        })
+        .map(|t| BatteryString::plain(t, t, t))
         .collect();
     let mut plan = with_permissions(chance, strings);
     draw_moving(chance, &mut plan, |chance| 1_000 - chance.below(2));

@@ -1,9 +1,9 @@
 //! Plans in which something happens far out: late days, late breaks of the rule, many pairs.
 
 use super::releases;
-use super::strings::{draw_moving, mixed, without_run};
+use super::strings::{draw_late, draw_moving, mixed, without_run};
 use crate::chance::Chance;
-use crate::rules::plan::{BatteryString, Length, Plan, Release};
+use crate::rules::plan::{BatteryString, Length, Plan};
 
 const LONGEST_RUN: Length = 1_000_000;
 
@@ -25,10 +25,7 @@ pub fn long_run(chance: &mut Chance) -> Plan {
         plan.releases.clear();
     }
     plan.releases
-        .extend(late.into_iter().map(|release| Release {
-            day: start + release.day,
-            ..release
-        }));
+        .extend(late.into_iter().map(|release| release.put_off(start)));
     plan.days += start;
     plan
 }
@@ -43,19 +40,14 @@ pub fn late_fail(chance: &mut Chance) -> Plan {
     let (step, least, most) = chance.pick(&[(2, 185, 222), (3, 150, 181), (4, 130, 157)]);
     let number = chance.between(least, most);
     let part = chance.between(1, step / 2);
+    let (t, next) = (number * step, (number + 1) * step);
     let first = BatteryString {
         x: 1,
-        t: number * step,
-        c: number * part,
-        d: number * step - step,
-        moving: 0,
+        ..BatteryString::plain(t, number * part, t - step)
     };
     let other = BatteryString {
         x: chance.below(2),
-        t: (number + 1) * step,
-        c: (number + 1) * (step - part) - chance.below(2),
-        d: (number + 1) * step,
-        moving: 0,
+        ..BatteryString::plain(next, (number + 1) * (step - part) - chance.below(2), next)
     };
     without_run(chance, vec![first, other])
 }
@@ -64,21 +56,14 @@ pub fn late_fail(chance: &mut Chance) -> Plan {
 /// thousands of pairs.
 pub fn many_pairs(chance: &mut Chance) -> Plan {
     let (t, other) = chance.pick(&[(1_000, 1_000), (1_000, 500), (813, 369), (960, 480)]);
+    let (c, d) = (chance.between(1, 4), chance.between(10, 40));
     let urgent = BatteryString {
         x: 1,
-        t: other,
-        c: chance.between(1, 4),
-        d: chance.between(10, 40),
-        moving: 0,
+        ..BatteryString::plain(other, c, d)
     };
-    let long = BatteryString {
-        x: 0,
-        t,
-        c: t - chance.between(40, 100),
-        d: t,
-        moving: 0,
-    };
+    let long = BatteryString::plain(t, t - chance.between(40, 100), t);
     let mut plan = without_run(chance, vec![urgent, long]);
     draw_moving(chance, &mut plan, |chance| chance.below(5));
+    draw_late(chance, &mut plan);
     plan
 }

@@ -1,6 +1,6 @@
 //! Plans with a load of exactly H, and of a little less or more.
 
-use super::strings::without_run;
+use super::strings::{draw_late, without_run};
 use crate::chance::Chance;
 use crate::rules::plan::{BatteryString, Length, Plan};
 
@@ -21,7 +21,11 @@ pub fn full(chance: &mut Chance, turn: u64) -> Plan {
         _ => {}
     }
     strings.push(last);
-    without_run(chance, strings)
+    let mut plan = without_run(chance, strings);
+    if chance.one_in(2) {
+        draw_late(chance, &mut plan);
+    }
+    plan
 }
 
 /// Some strings that leave at least one day of the cycle to ask for.
@@ -70,5 +74,9 @@ fn string_holding(
     } else {
         t
     };
-    BatteryString { x, t, c, d, moving }
+    BatteryString {
+        x,
+        moving,
+        ..BatteryString::plain(t, c, d)
+    }
 }

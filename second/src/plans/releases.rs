@@ -14,6 +14,17 @@ enum Rhythm {
     Round(Length),
 }
 
+/// How long after their due days a string's releases come.
+#[derive(Clone, Copy)]
+enum Lateness {
+    Never,
+    /// As late as they may be.
+    Always,
+    /// The first as late as it may be, the others on their due days: so they come closest.
+    First,
+    Any,
+}
+
 /// How much work a job needs.
 #[derive(Clone, Copy)]
 enum Needs {
@@ -44,16 +55,23 @@ pub fn list(chance: &mut Chance, plan: &Plan, most: usize) -> Vec<Release> {
     let first = first_days(chance, plan);
     let rhythm = rhythm(chance, plan);
     let needs = chance.pick(&[Needs::Most, Needs::Most, Needs::Any, Needs::Least]);
+    let lateness = lateness(chance);
+    let latest = plan.strings.iter().map(|s| s.late).max().unwrap_or(0);
     let mut list = Vec::new();
     for (at, string) in plan.strings.iter().enumerate() {
-        let mut day = first[at];
-        for _ in 0..most {
+        let mut due = match lateness {
+            // those that come first are to come as they would on their due days
+            Lateness::First => first[at] + latest - string.late,
+            _ => first[at],
+        };
+        for before in 0..most {
             list.push(Release {
                 place: at as u64 + 1,
-                day,
+                day: due + late(chance, lateness, string.late, before),
                 need: need(chance, needs, string.c),
+                due,
             });
-            day += gap(chance, rhythm, string.t);
+            due += gap(chance, rhythm, string.t);
         }
     }
     list.retain(|release| release.day < plan.days);
@@ -128,6 +146,26 @@ fn gap(chance: &mut Chance, rhythm: Rhythm, t: Length) -> Length {
         Rhythm::Tight => t,
         Rhythm::Loose => t + chance.below(t / 2 + 2),
         Rhythm::Round(length) => length,
+    }
+}
+
+fn lateness(chance: &mut Chance) -> Lateness {
+    chance.pick(&[
+        Lateness::Never,
+        Lateness::Always,
+        Lateness::First,
+        Lateness::First,
+        Lateness::Any,
+    ])
+}
+
+/// Of a string's release with so many before it.
+fn late(chance: &mut Chance, lateness: Lateness, most: Length, before: usize) -> Length {
+    match lateness {
+        Lateness::Always => most,
+        Lateness::First if before == 0 => most,
+        Lateness::Never | Lateness::First => 0,
+        Lateness::Any => chance.between(0, most),
     }
 }
 

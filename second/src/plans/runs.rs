@@ -65,28 +65,18 @@ fn is_hard(plan: &Plan) -> bool {
 pub fn back_to_back(chance: &mut Chance, _: u64) -> Vec<u8> {
     let (count, base) = (chance.between(1, 3), chance.between(1, 4));
     let t = count * base;
-    let strings = (0..count).map(|_| plain(t, base, t)).collect();
+    let strings = (0..count)
+        .map(|_| BatteryString::plain(t, base, t))
+        .collect();
     let mut plan = with_permissions(chance, strings);
     plan.days = chance.between(1, 400);
     // one in four has a job shorter, and with it a day idle
     let shorter = chance.one_in(4);
     for (day, at) in (0..plan.days).step_by(base as usize).zip(0..1_000) {
         let need = if shorter && chance.one_in(8) { 1 } else { base };
-        let place = at % count + 1;
-        plan.releases.push(Release { place, day, need });
+        plan.releases.push(Release::new(at % count + 1, day, need));
     }
     writing::any_text(chance, &plan)
-}
-
-/// A string that may not take the bank.
-fn plain(t: Length, c: Length, d: Length) -> BatteryString {
-    BatteryString {
-        x: 0,
-        t,
-        c,
-        d,
-        moving: 0,
-    }
 }
 
 /// Idle on every day, for numbers of each count of digits.
@@ -140,7 +130,7 @@ pub fn stairs(chance: &mut Chance, _: u64) -> Vec<u8> {
     let strings = (0..count)
         .map(|at| BatteryString {
             x: u64::from(!chance.one_in(8)),
-            ..plain(240, chance.between(1, 8), 220 - 12 * at)
+            ..BatteryString::plain(240, chance.between(1, 8), 220 - 12 * at)
         })
         .collect();
     let mut plan = Plan {
@@ -152,7 +142,7 @@ pub fn stairs(chance: &mut Chance, _: u64) -> Vec<u8> {
     for round in 0..3 {
         for (place, string) in (1..).zip(&plan.strings) {
             let (day, need) = (240 * round + gap * place, chance.between(1, string.c));
-            plan.releases.push(Release { place, day, need });
+            plan.releases.push(Release::new(place, day, need));
         }
     }
     let days = plan.days;

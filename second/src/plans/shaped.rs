@@ -25,26 +25,14 @@ fn short_string(chance: &mut Chance, base: Length) -> BatteryString {
     let t = base * chance.pick(&[1, 2, 2, 4]);
     let c = chance.between(1, base / 4);
     let d = chance.between(c + 1, t.min(base));
-    BatteryString {
-        x: 0,
-        t,
-        c,
-        d,
-        moving: 0,
-    }
+    BatteryString::plain(t, c, d)
 }
 
 fn long_string(chance: &mut Chance, base: Length) -> BatteryString {
     let t = base * chance.pick(&[4, 6, 8, 12, 24]);
     let c = chance.between(base / 2, base);
     let d = chance.between(t / 2, t);
-    BatteryString {
-        x: 0,
-        t,
-        c,
-        d,
-        moving: 0,
-    }
+    BatteryString::plain(t, c, d)
 }
 
 /// Strings that together are a little too slow behind one long job. Any of them whose work adds
@@ -59,21 +47,13 @@ pub fn choices(chance: &mut Chance) -> Plan {
     let excess = chance.between(1, 4).min(work);
     let mut strings: Vec<BatteryString> = works
         .into_iter()
-        .map(|c| BatteryString {
-            x: 0,
-            t: d * chance.pick(&[3, 4, 6]),
-            c,
-            d: d + chance.below(2),
-            moving: 0,
+        .map(|c| {
+            let t = d * chance.pick(&[3, 4, 6]);
+            BatteryString::plain(t, c, d + chance.below(2))
         })
         .collect();
-    let long = BatteryString {
-        x: 0,
-        t: 12 * d,
-        c: (d + excess).saturating_sub(work).max(1),
-        d: d * chance.between(4, 12),
-        moving: 0,
-    };
+    let rest = (d + excess).saturating_sub(work).max(1);
+    let long = BatteryString::plain(12 * d, rest, d * chance.between(4, 12));
     strings.insert(chance.index(strings.len() + 1), long);
     let mut plan = with_permissions(chance, strings);
     draw_moving(chance, &mut plan, |chance| chance.below(2));
@@ -86,12 +66,10 @@ pub fn equal_deadlines(chance: &mut Chance) -> Plan {
     let long = chance.pick(&[short, 2 * short]);
     let count = chance.between(2, 6);
     let strings = (0..count)
-        .map(|_| BatteryString {
-            x: 0,
-            t: long * chance.pick(&[1, 2, 3, 4]),
-            c: chance.between(1, (short + 1) / 2),
-            d: chance.pick(&[short, long]),
-            moving: 0,
+        .map(|_| {
+            let t = long * chance.pick(&[1, 2, 3, 4]);
+            let c = chance.between(1, (short + 1) / 2);
+            BatteryString::plain(t, c, chance.pick(&[short, long]))
         })
         .collect();
     with_permissions(chance, strings)
@@ -117,22 +95,13 @@ pub fn ten_strings(chance: &mut Chance) -> Plan {
 }
 
 fn urgent_string(chance: &mut Chance, base: Length) -> BatteryString {
-    BatteryString {
-        x: 0,
-        t: base * chance.pick(&[2, 4]),
-        c: chance.between(1, 2),
-        d: chance.between(base / 3, base),
-        moving: 0,
-    }
+    let t = base * chance.pick(&[2, 4]);
+    let c = chance.between(1, 2);
+    BatteryString::plain(t, c, chance.between(base / 3, base))
 }
 
 fn patient_string(chance: &mut Chance, base: Length) -> BatteryString {
     let t = base * chance.pick(&[8, 12]);
-    BatteryString {
-        x: 0,
-        t,
-        c: chance.between(2, base / 2),
-        d: chance.between(t / 2, t),
-        moving: 0,
-    }
+    let c = chance.between(2, base / 2);
+    BatteryString::plain(t, c, chance.between(t / 2, t))
 }

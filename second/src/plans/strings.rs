@@ -1,4 +1,4 @@
-//! Strings by chance: periods, work, deadlines, permissions and moving costs.
+//! Strings by chance: periods, work, deadlines, permissions, moving costs and late days.
 
 use crate::chance::Chance;
 use crate::rules::plan::{BatteryString, Length, Plan};
@@ -19,7 +19,7 @@ pub fn cost(plan: &Plan) -> u64 {
     let longest = plan.largest_d();
     let hold = plan.strings.iter().map(|s| s.c + s.moving).max();
     let blocking = longest.min(hold.unwrap_or(0));
-    let pairs = cycle + longest + (longest - plan.smallest_d()) * blocking;
+    let pairs = cycle + longest + (longest - plan.smallest_window()) * blocking;
     (pairs * count) << count
 }
 
@@ -50,7 +50,7 @@ fn draw(chance: &mut Chance, count: u64) -> Plan {
     with_permissions(chance, strings)
 }
 
-/// Puts moving costs and permissions to strings: one cost for all, or each its own.
+/// Puts moving costs, late days and permissions to strings: one cost for all, or each its own.
 pub fn with_permissions(chance: &mut Chance, strings: Vec<BatteryString>) -> Plan {
     let mut plan = Plan {
         days: 1,
@@ -58,6 +58,7 @@ pub fn with_permissions(chance: &mut Chance, strings: Vec<BatteryString>) -> Pla
         releases: Vec::new(),
     };
     draw_moving(chance, &mut plan, moving);
+    draw_late(chance, &mut plan);
     let all = (1 << plan.strings.len()) - 1;
     let set = match chance.below(4) {
         0 => 0,
@@ -101,13 +102,7 @@ fn string(chance: &mut Chance, t: Length, load: u64, count: u64) -> BatteryStrin
         1 => chance.between((c + t) / 2, t),
         _ => t,
     };
-    BatteryString {
-        x: 0,
-        t,
-        c,
-        d,
-        moving: 0,
-    }
+    BatteryString::plain(t, c, d)
 }
 
 /// A plan of these strings in any order, for the verdict and the search: nothing is released.
@@ -117,6 +112,23 @@ pub fn without_run(chance: &mut Chance, mut strings: Vec<BatteryString>) -> Plan
         days: 1,
         strings,
         releases: Vec::new(),
+    }
+}
+
+/// Gives no string late days, or some, up to as many as its work leaves.
+pub fn draw_late(chance: &mut Chance, plan: &mut Plan) {
+    if chance.one_in(2) {
+        return;
+    }
+    for string in &mut plan.strings {
+        let most = string.d - string.c;
+        string.late = match chance.below(8) {
+            0..=2 => 0,
+            3 => most.min(1),
+            4 => most,
+            5 => chance.between(0, most),
+            _ => chance.between(0, most / 4),
+        };
     }
 }
 

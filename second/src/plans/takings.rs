@@ -1,6 +1,6 @@
 //! Plans in which the bank is taken, and it matters who pays and who gets it next.
 
-use super::strings::draw_moving;
+use super::strings::{draw_late, draw_moving};
 use crate::chance::Chance;
 use crate::rules::plan::{BatteryString, Length, Plan, Release};
 
@@ -28,12 +28,10 @@ pub fn takers_tie(chance: &mut Chance) -> Plan {
 }
 
 fn string(chance: &mut Chance, x: u64, d: (u64, u64), c: (u64, u64)) -> BatteryString {
+    let (c, d) = (chance.between(c.0, c.1), chance.between(d.0, d.1));
     BatteryString {
         x,
-        t: 120,
-        c: chance.between(c.0, c.1),
-        d: chance.between(d.0, d.1),
-        moving: 0,
+        ..BatteryString::plain(120, c, d)
     }
 }
 
@@ -44,11 +42,7 @@ fn plan_of(chance: &mut Chance, mut visits: Vec<Visit>) -> Plan {
     let mut releases: Vec<Release> = visits
         .iter()
         .zip(1..)
-        .map(|((string, day), place)| Release {
-            place,
-            day: start + day,
-            need: string.c,
-        })
+        .map(|((string, day), place)| Release::new(place, start + day, string.c))
         .collect();
     chance.shuffle(&mut releases);
     releases.sort_by_key(|release| release.day);
@@ -59,5 +53,15 @@ fn plan_of(chance: &mut Chance, mut visits: Vec<Visit>) -> Plan {
         releases,
     };
     draw_moving(chance, &mut plan, |chance| chance.below(6));
+    draw_late(chance, &mut plan);
+    come_late(chance, &mut plan);
     plan
+}
+
+/// Each release, the only one of its string, comes some days after its due day.
+fn come_late(chance: &mut Chance, plan: &mut Plan) {
+    for release in &mut plan.releases {
+        let late = plan.strings[release.place as usize - 1].late;
+        release.due -= chance.between(0, late.min(release.day));
+    }
 }

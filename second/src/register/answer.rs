@@ -7,7 +7,7 @@ use crate::rules::frames;
 use crate::saving::Saved;
 use crate::writing;
 
-/// The plan file, in version 02, of an export with an N beside it, or the export's refusal.
+/// The plan file, in version 03, of an export with an N beside it, or the export's refusal.
 pub fn registered(text: &[u8], run: RunLength) -> Saved {
     reader::read(text, run).map(|plan| writing::text(&plan))
 }

@@ -8,17 +8,20 @@ use crate::saving::{into_page, written, Page, Saved};
 use crate::selftest::{refused, Cases, ROOF, SAMPLE};
 
 /// The strings of the sample file.
-const EXPORT: &[u8] = b"10,3,5,1,1\r\n10,5,10,0,1\r\n";
+const EXPORT: &[u8] = b"10,3,5,1,1,0\r\n10,5,10,0,1,0\r\n";
 
-/// The sample file in version 02, without its releases.
-const REGISTERED: &[u8] = b"01020200000014\n0201000a000300050001\n0200000a0005000a0001\n";
+/// The sample file in version 03, without its releases.
+const REGISTERED: &[u8] = b"01030200000014\n0201000a0003000500010000\n0200000a0005000a00010000\n";
 
 /// The strings of the file with a string on the roof.
-const ROOF_EXPORT: &[u8] = b"20,2,5,1,1\r\n20,3,10,1,4\r\n40,8,30,0,1\r\n";
+const ROOF_EXPORT: &[u8] = b"20,2,5,1,1,0\r\n20,3,10,1,4,0\r\n40,8,30,0,1,0\r\n";
 
 /// The least and the most that a string may say.
-const LEAST: &str = "1,1,1,0,0\r\n";
-const MOST: &str = "1000,1000,1000,1,1000\r\n";
+const LEAST: &str = "1,1,1,0,0,0\r\n";
+const MOST: &str = "1000,1000,1000,1,1000,0\r\n";
+
+/// The most late days that a string may have.
+const LATEST: &str = "1000,1,1000,1,1000,999\r\n";
 
 pub fn cases() -> Cases {
     [
@@ -60,17 +63,17 @@ fn exports() -> Cases {
         ),
         (
             "an eleventh line out of bounds",
-            eleven("0,0,0,2,1001\r\n") == refused(4, 11),
+            eleven("0,0,0,2,1001,0\r\n") == refused(4, 11),
         ),
         ("65,536 bytes", said(&"1".repeat(65_536)) == refused(13, 1)),
         ("65,537 bytes", said(&"1".repeat(65_537)) == refused(1, 0)),
         (
-            "66,000 bytes of lawful lines",
+            "78,000 bytes of lawful lines",
             said(&LEAST.repeat(6_000)) == refused(1, 0),
         ),
         (
-            "65,527 bytes of lawful lines",
-            said(&LEAST.repeat(5_957)) == refused(4, 11),
+            "65,533 bytes of lawful lines",
+            said(&LEAST.repeat(5_041)) == refused(4, 11),
         ),
     ]
 }
@@ -96,80 +99,81 @@ fn orders() -> Cases {
         ),
         (
             "13 before 5 on a line",
-            said("0,1,1,0,x\r\n") == refused(13, 1),
+            said("0,1,1,0,x,0\r\n") == refused(13, 1),
         ),
         (
             "13 before 5 on a line without its end",
-            said("0,1,1,0,0") == refused(13, 1),
+            said("0,1,1,0,0,0") == refused(13, 1),
         ),
         (
             "5 on an earlier line",
-            said("0,1,1,0,0\r\nx\r\n") == refused(5, 1),
+            said("0,1,1,0,0,0\r\nx\r\n") == refused(5, 1),
         ),
         (
             "13 on an earlier line",
-            said("x\r\n0,1,1,0,0\r\n") == refused(13, 1),
+            said("x\r\n0,1,1,0,0,0\r\n") == refused(13, 1),
         ),
         (
             "13 on the tenth of eleven",
-            last_two("1,1,1,0\r\n") == refused(13, 10),
+            last_two("1,1,1,0,0\r\n") == refused(13, 10),
         ),
         (
             "5 on the tenth of eleven",
-            last_two("1,1,2,0,0\r\n") == refused(5, 10),
+            last_two("1,1,2,0,0,0\r\n") == refused(5, 10),
         ),
         (
             "13 before 6",
-            said("997,1,1,0,0\r\n991,1,1,0,0\r\nx") == refused(13, 3),
+            said("997,1,1,0,0,0\r\n991,1,1,0,0,0\r\nx") == refused(13, 3),
         ),
         (
             "5 before 6",
-            said("997,1,1,0,0\r\n991,1,1,0,0\r\n1,1,1,2,0\r\n") == refused(5, 3),
+            said("997,1,1,0,0,0\r\n991,1,1,0,0,0\r\n1,1,1,2,0,0\r\n") == refused(5, 3),
         ),
         (
             "4 before 6",
-            said(&format!("997,1,1,0,0\r\n991,1,1,0,0\r\n{nine}")) == refused(4, 11),
+            said(&format!("997,1,1,0,0,0\r\n991,1,1,0,0,0\r\n{nine}")) == refused(4, 11),
         ),
     ]
 }
 
-/// Lines that are not five numbers with CR LF, behind a line that is. A line ends at its 0a.
+/// Lines that are not six numbers with CR LF, behind a line that is. A line ends at its 0a.
 fn spellings() -> Cases {
     let second = |line: &str| said(&format!("{LEAST}{line}")) == refused(13, 2);
     let amid = |line: &str| said(&format!("{LEAST}{line}{LEAST}")) == refused(13, 2);
     vec![
-        ("a leading zero", second("01,1,1,0,0\r\n")),
-        ("00", second("1,1,1,00,0\r\n")),
-        ("00 for a moving cost", second("1,1,1,0,00\r\n")),
-        ("a single 0", said("1,1,1,0,0\r\n").is_ok()),
-        ("an empty field", second("1,,1,0,0\r\n")),
-        ("an empty first field", second(",1,1,0,0\r\n")),
-        ("an empty last field", second("1,1,1,0,\r\n")),
-        ("a blank before a number", second("1, 1,1,0,0\r\n")),
-        ("a blank behind the line", second("1,1,1,0,0 \r\n")),
-        ("a plus", second("+1,1,1,0,0\r\n")),
-        ("a minus", second("1,1,1,-0,0\r\n")),
-        ("a quote", second("\"1\",1,1,0,0\r\n")),
-        ("a fifth digit", second("10000,1,1,0,0\r\n")),
-        ("a fifth digit of 0", second("00001,1,1,0,0\r\n")),
-        ("four numbers", second("1,1,1,0\r\n")),
-        ("six numbers", second("1,1,1,0,0,0\r\n")),
-        ("a comma behind the line", second("1,1,1,0,0,\r\n")),
-        ("semicolons", second("1;1;1;0;0\r\n")),
+        ("a leading zero", second("01,1,1,0,0,0\r\n")),
+        ("00", second("1,1,1,00,0,0\r\n")),
+        ("00 for a moving cost", second("1,1,1,0,00,0\r\n")),
+        ("00 for late days", second("1,1,1,0,0,00\r\n")),
+        ("a single 0", said("1,1,1,0,0,0\r\n").is_ok()),
+        ("an empty field", second("1,,1,0,0,0\r\n")),
+        ("an empty first field", second(",1,1,0,0,0\r\n")),
+        ("an empty last field", second("1,1,1,0,0,\r\n")),
+        ("a blank before a number", second("1, 1,1,0,0,0\r\n")),
+        ("a blank behind the line", second("1,1,1,0,0,0 \r\n")),
+        ("a plus", second("+1,1,1,0,0,0\r\n")),
+        ("a minus", second("1,1,1,-0,0,0\r\n")),
+        ("a quote", second("\"1\",1,1,0,0,0\r\n")),
+        ("a fifth digit", second("10000,1,1,0,0,0\r\n")),
+        ("a fifth digit of 0", second("00001,1,1,0,0,0\r\n")),
+        ("five numbers", second("1,1,1,0,0\r\n")),
+        ("seven numbers", second("1,1,1,0,0,0,0\r\n")),
+        ("a comma behind the line", second("1,1,1,0,0,0,\r\n")),
+        ("semicolons", second("1;1;1;0;0;0\r\n")),
         (
             "a header line",
-            said(&format!("T,C,D,X,A\r\n{LEAST}")) == refused(13, 1),
+            said(&format!("T,C,D,X,A,J\r\n{LEAST}")) == refused(13, 1),
         ),
         ("an empty line", second("\r\n")),
         ("an empty line amid others", amid("\r\n")),
-        ("a missing end", second("1,1,1,0,0")),
-        ("a lone CR at the end", second("1,1,1,0,0\r")),
-        ("a lone CR amid lines", amid("1,1,1,0,0\r")),
-        ("a lone LF", second("1,1,1,0,0\n")),
-        ("a lone LF amid lines", amid("1,1,1,0,0\n")),
-        ("CR twice", second("1,1,1,0,0\r\r\n")),
-        ("CR in a line", second("1,1\r,1,0,0\r\n")),
-        ("LF and CR", second("1,1,1,0,0\n\r")),
+        ("a missing end", second("1,1,1,0,0,0")),
+        ("a lone CR at the end", second("1,1,1,0,0,0\r")),
+        ("a lone CR amid lines", amid("1,1,1,0,0,0\r")),
+        ("a lone LF", second("1,1,1,0,0,0\n")),
+        ("a lone LF amid lines", amid("1,1,1,0,0,0\n")),
+        ("CR twice", second("1,1,1,0,0,0\r\r\n")),
+        ("CR in a line", second("1,1\r,1,0,0,0\r\n")),
+        ("LF and CR", second("1,1,1,0,0,0\n\r")),
         ("a 0a behind all lines", second("\n")),
     ]
 }
@@ -179,16 +183,21 @@ fn bounds() -> Cases {
     vec![
         ("the least string", said(LEAST).is_ok()),
         ("the largest string", said(MOST).is_ok()),
-        ("T 0", out("0,1,1,0,0")),
-        ("T 1,001", out("1001,1,1,0,0")),
-        ("T 9,999", out("9999,1,1,0,0")),
-        ("C 0", out("10,0,5,0,0")),
-        ("C over D", out("10,6,5,0,0")),
-        ("D 0", out("10,1,0,0,0")),
-        ("D over T", out("10,1,11,0,0")),
-        ("X 2", out("10,1,5,2,0")),
-        ("a moving cost of 1,001", out("10,1,5,0,1001")),
-        ("a moving cost of 9,999", out("10,1,5,1,9999")),
+        ("T 0", out("0,1,1,0,0,0")),
+        ("T 1,001", out("1001,1,1,0,0,0")),
+        ("T 9,999", out("9999,1,1,0,0,0")),
+        ("C 0", out("10,0,5,0,0,0")),
+        ("C over D", out("10,6,5,0,0,0")),
+        ("D 0", out("10,1,0,0,0,0")),
+        ("D over T", out("10,1,11,0,0,0")),
+        ("X 2", out("10,1,5,2,0,0")),
+        ("a moving cost of 1,001", out("10,1,5,0,1001,0")),
+        ("a moving cost of 9,999", out("10,1,5,1,9999,0")),
+        ("the latest string", said(LATEST).is_ok()),
+        ("J that is D", out("10,1,5,0,0,5")),
+        ("J over D", out("10,1,5,0,0,9999")),
+        ("C over what J leaves", out("10,3,5,0,0,3")),
+        ("C that is what J leaves", said("10,2,5,0,0,3\r\n").is_ok()),
     ]
 }
 
@@ -197,7 +206,7 @@ fn cycles() -> Cases {
     let periods = |periods: &[u64]| {
         let lines: String = periods
             .iter()
-            .map(|t| format!("{t},1,{t},0,0\r\n"))
+            .map(|t| format!("{t},1,{t},0,0,0\r\n"))
             .collect();
         said(&lines)
     };
@@ -264,23 +273,23 @@ fn tables() -> Cases {
     vec![
         ("the sample's table", whole == Ok(EXPORT.to_vec())),
         (
-            "the table of a version 02 file",
+            "the table of a version 03 file",
             tabled(REGISTERED) == Ok(EXPORT.to_vec()),
         ),
         ("the roof's table", tabled(ROOF) == Ok(ROOF_EXPORT.to_vec())),
-        ("a table in a page that fits exactly", page(25, 0) == EXPORT),
+        ("a table in a page that fits exactly", page(29, 0) == EXPORT),
         (
             "a table in a page one byte too short",
-            page(24, 0) == no_room,
+            page(28, 0) == no_room,
         ),
         (
             "a table amid its page",
-            page(30, 3) == [b"...", EXPORT, b".."].concat(),
+            page(34, 3) == [b"...", EXPORT, b".."].concat(),
         ),
-        ("a table from the page's end", page(25, 25) == no_room),
+        ("a table from the page's end", page(29, 29) == no_room),
         (
             "a table from beyond the page's end",
-            page(25, 26) == no_room,
+            page(29, 30) == no_room,
         ),
         ("a table of no plan", tabled(EXPORT) == refused(2, 1)),
         ("a table of an empty file", refused_file == refused(3, 1)),
@@ -321,7 +330,7 @@ fn round_trips() -> Cases {
         ),
         (
             "the ends of all bounds read and written back",
-            bytes_stay(format!("{LEAST}{MOST}").as_bytes()),
+            bytes_stay(format!("{LEAST}{MOST}{LATEST}").as_bytes()),
         ),
         (
             "no releases",

@@ -15,9 +15,9 @@ pub fn set_bounds(row: &mut Row, string: &BatteryString, way: usize) {
 /// Any of these, on top of what is wrong already. Bounds come often, as 13 has to come before them.
 pub fn add_any(chance: &mut Chance, row: &mut Row, string: &BatteryString) {
     match chance.below(8) {
-        0 | 1 => spell(row, chance.index(5), chance.index(SPELT)),
+        0 | 1 => spell(row, chance.index(6), chance.index(SPELT)),
         2 => end(row, chance.index(ENDED)),
-        3 => set_count(row, chance.index(8)),
+        3 => set_count(row, chance.index(9)),
         4 => join(chance, row),
         5 => reorder(chance, row),
         _ => {

@@ -57,18 +57,18 @@ fn number_of_lines(chance: &mut Chance, turn: u64) -> Vec<u8> {
 fn eleventh_line(chance: &mut Chance, turn: u64) -> Vec<u8> {
     const LINES: [&str; 14] = [
         "",
+        "1,1,1,0,0,0\r\n",
+        "0,0,0,2,1001,1\r\n",
         "1,1,1,0,0\r\n",
-        "0,0,0,2,1001\r\n",
-        "1,1,1,0\r\n",
-        "1,1,1,0,0\n",
-        "1,1,1,0,0\r",
-        "1,1,1,0,0",
+        "1,1,1,0,0,0\n",
+        "1,1,1,0,0,0\r",
+        "1,1,1,0,0,0",
         "\r\n",
         "\n",
         "\r",
         "1",
         ",",
-        "997,1,1,0,0\r\n991,1,1,0,0\r\n",
+        "997,1,1,0,0\r\n991,1,1,0,0,0\r\n",
         "\0",
     ];
     let mut export = Export::draw(chance);
@@ -113,7 +113,7 @@ fn spelling(chance: &mut Chance, turn: u64) -> Vec<u8> {
     let mut export = Export::draw(chance);
     let at = export.any_row(chance);
     let turn = turn as usize;
-    rows::spell(&mut export.rows[at], turn % 5, turn / 5 % SPELT);
+    rows::spell(&mut export.rows[at], turn % 6, turn / 6 % SPELT);
     export.text()
 }
 
@@ -136,7 +136,7 @@ fn count_of_numbers(chance: &mut Chance, turn: u64) -> Vec<u8> {
     let at = export.any_row(chance);
     let row = &mut export.rows[at];
     rows::set_count(row, COUNTS[turn as usize % COUNTS.len()]);
-    // a number that is missing between its commas is still one of five, but no number
+    // a number that is missing between its commas is still one of six, but no number
     if chance.one_in(4) {
         let place = chance.index(row.numbers.len() + 1);
         row.numbers.insert(place, String::new());
@@ -173,7 +173,7 @@ fn text_cut(chance: &mut Chance, turn: u64) -> Vec<u8> {
 
 /// About as long as a text may be: a lawful table, a spoilt one or none, filled up with something.
 fn long_text(chance: &mut Chance, turn: u64) -> Vec<u8> {
-    const FILLINGS: [&str; 6] = ["0", "\r\n", "\n", ",", "1,1,1,0,0\r\n", "\0"];
+    const FILLINGS: [&str; 6] = ["0", "\r\n", "\n", ",", "1,1,1,0,0,0\r\n", "\0"];
     let mut export = Export::draw(chance);
     match chance.below(3) {
         0 => spoil_any(chance, &mut export),
@@ -188,12 +188,12 @@ fn long_text(chance: &mut Chance, turn: u64) -> Vec<u8> {
 /// A line that a spreadsheet might have put there, before all others or amid them or behind.
 fn another_line(chance: &mut Chance, turn: u64) -> Vec<u8> {
     const LINES: [&str; 10] = [
-        "T,C,D,X,moving\r\n",
-        "\"T\",\"C\",\"D\",\"X\",\"A\"\r\n",
+        "T,C,D,X,moving,J\r\n",
+        "\"T\",\"C\",\"D\",\"X\",\"A\",\"J\"\r\n",
         "\r\n",
         "\n",
         " \r\n",
-        ",,,,\r\n",
+        ",,,,,\r\n",
         "# strings\r\n",
         "\u{feff}",
         "\u{1a}",
@@ -220,11 +220,11 @@ fn noise(chance: &mut Chance, turn: u64) -> Vec<u8> {
         "\n\r",
         "0",
         ",",
-        ",,,,",
-        ",,,,\r\n",
-        "0,0,0,0,0\r\n",
-        "1,1,1,0,0",
-        "1,1,1,0,0\r\n",
+        ",,,,,",
+        ",,,,,\r\n",
+        "0,0,0,0,0,0\r\n",
+        "1,1,1,0,0,0",
+        "1,1,1,0,0,0\r\n",
     ];
     match turn % 4 {
         0 => (0..chance.below(80)).map(|_| chance.byte()).collect(),
@@ -239,7 +239,7 @@ fn noise(chance: &mut Chance, turn: u64) -> Vec<u8> {
 }
 
 fn any_numbers(chance: &mut Chance) -> Row {
-    let count = chance.pick(&[4, 5, 5, 5, 5, 5, 6]);
+    let count = chance.pick(&[5, 6, 6, 6, 6, 6, 7]);
     Row {
         numbers: (0..count).map(|_| any_number(chance).to_string()).collect(),
         end: "\r\n".into(),
@@ -293,7 +293,7 @@ fn part_periods(export: &mut Export) {
         for (row, numbers) in export
             .rows
             .iter_mut()
-            .zip(["997,1,997,0,0", "991,1,991,1,0"])
+            .zip(["997,1,997,0,0,0", "991,1,991,1,0,3"])
         {
             row.numbers = numbers.split(',').map(String::from).collect();
         }

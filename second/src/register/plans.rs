@@ -60,8 +60,12 @@ pub fn each_count_of_digits(chance: &mut Chance) -> Plan {
         let t = chance.pick(periods);
         let d = up_to(chance, t);
         let c = up_to(chance, d);
-        let (x, moving) = (chance.below(2), chance.pick(&EDGES));
-        BatteryString { x, t, c, d, moving }
+        BatteryString {
+            x: chance.below(2),
+            moving: chance.pick(&EDGES),
+            late: chance.pick(&EDGES).min(d - c),
+            ..BatteryString::plain(t, c, d)
+        }
     };
     let strings = (0..chance.between(1, 10)).map(|_| string(chance)).collect();
     Plan {

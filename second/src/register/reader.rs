@@ -1,4 +1,4 @@
-//! Reading an export of the register: lines of T,C,D,X,moving cost, and what is refused in which order.
+//! Reading an export of the register: lines of T,C,D,X,moving cost,J, and what is refused in which order.
 
 use super::run_length::RunLength;
 use crate::decimal::numbers_of;
@@ -38,10 +38,17 @@ fn read_line(text: &[u8], line: usize) -> Result<BatteryString, Refusal> {
     Ok(string)
 }
 
-/// The string that a line spells, if it is five numbers between commas, ended by CR LF.
+/// The string that a line spells, if it is six numbers between commas, ended by CR LF.
 fn string_of(text: &[u8]) -> Option<BatteryString> {
     match numbers_of(text, MOST_DIGITS)?[..] {
-        [t, c, d, x, moving] => Some(BatteryString { x, t, c, d, moving }),
+        [t, c, d, x, moving, late] => Some(BatteryString {
+            x,
+            t,
+            c,
+            d,
+            moving,
+            late,
+        }),
         _ => None,
     }
 }

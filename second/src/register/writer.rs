@@ -13,7 +13,13 @@ pub fn line(string: &BatteryString) -> Vec<u8> {
 }
 
 /// In the order of a line.
-pub fn numbers(string: &BatteryString) -> [u64; 5] {
-    let BatteryString { x, t, c, d, moving } = *string;
-    [t, c, d, x, moving]
+pub fn numbers(string: &BatteryString) -> [u64; 6] {
+    [
+        string.t,
+        string.c,
+        string.d,
+        string.x,
+        string.moving,
+        string.late,
+    ]
 }

@@ -1,15 +1,22 @@
 //! Whether any lawful list of releases makes a plan miss, however long it is: all states that a run can come into are looked at. Only for
 //! small plans.
 
-use super::plan::{Day, Length, Plan, Release};
+use super::plan::{BatteryString, Day, Length, Plan, Release};
 use super::run::{job, Hall, Policy};
 use std::collections::HashSet;
 
-/// The morning of a day: the jobs, and the days since each string's last release, counted no further than T.
+/// The morning of a day: the jobs, and the days since each string's last due day, counted no further than matters.
 #[derive(Clone, PartialEq, Eq, Hash)]
 struct Morning {
     hall: Hall,
     since: Vec<Length>,
+}
+
+/// A string's release today: its work, and the days since it was due.
+#[derive(Clone, Copy)]
+struct Join {
+    need: Length,
+    late: Length,
 }
 
 /// Every morning is that of this day: the jobs' days are moved instead, so that there are finitely many mornings.
@@ -26,7 +33,7 @@ pub fn can_miss(plan: &Plan) -> bool {
 pub fn can_miss_by(policy: Policy, plan: &Plan) -> bool {
     let first = Morning {
         hall: Hall::empty(),
-        since: plan.strings.iter().map(|string| string.t).collect(),
+        since: plan.strings.iter().map(far_enough).collect(),
     };
     let mut seen = HashSet::from([first.clone()]);
     let mut open = vec![first];
@@ -44,37 +51,53 @@ pub fn can_miss_by(policy: Policy, plan: &Plan) -> bool {
     false
 }
 
-/// Every choice of needs for the strings that may be released today; 0 where nothing is.
-fn all_joins(plan: &Plan, since: &[Length]) -> Vec<Vec<Length>> {
+/// So many days after its last due day a string may be released whatever its late days are.
+fn far_enough(string: &BatteryString) -> Length {
+    string.t + string.late
+}
+
+/// Every choice of what is released today, for each string something or nothing.
+fn all_joins(plan: &Plan, since: &[Length]) -> Vec<Vec<Option<Join>>> {
     let mut choices = vec![Vec::new()];
     for (string, since) in plan.strings.iter().zip(since) {
-        let most = if *since == string.t { string.c } else { 0 };
-        let longer = |begin: &Vec<Length>| {
+        let ways = ways(string, *since);
+        let longer = |begin: &Vec<Option<Join>>| {
             let begin = begin.clone();
-            (0..=most).map(move |need| [begin.as_slice(), &[need]].concat())
+            let with = move |way: &Option<Join>| [begin.as_slice(), &[*way]].concat();
+            ways.iter().map(with).collect::<Vec<_>>()
         };
         choices = choices.iter().flat_map(longer).collect();
     }
     choices
 }
 
+/// No release, or one of any need whose due day is at least T days after the last.
+fn ways(string: &BatteryString, since: Length) -> Vec<Option<Join>> {
+    let mut ways = vec![None];
+    for late in (0..=string.late).filter(|late| since >= string.t + late) {
+        ways.extend((1..=string.c).map(|need| Some(Join { need, late })));
+    }
+    ways
+}
+
 /// The next morning.
-fn after(policy: Policy, plan: &Plan, morning: &Morning, joins: &[Length]) -> Morning {
+fn after(policy: Policy, plan: &Plan, morning: &Morning, joins: &[Option<Join>]) -> Morning {
     let mut next = morning.clone();
-    for (at, need) in joins.iter().enumerate().filter(|(_, need)| **need > 0) {
-        let release = Release {
-            place: at as u64 + 1,
-            day: TODAY,
-            need: *need,
-        };
-        next.hall.waiting.push(job(plan, &release, IN_NO_LIST));
-        next.since[at] = 0;
+    for (at, join) in joins.iter().enumerate() {
+        if let Some(Join { need, late }) = *join {
+            let release = Release {
+                due: TODAY - late,
+                ..Release::new(at as u64 + 1, TODAY, need)
+            };
+            next.hall.waiting.push(job(plan, &release, IN_NO_LIST));
+            next.since[at] = late;
+        }
     }
     next.hall.take_and_give(policy, TODAY, plan);
     next.hall.use_day();
     next.hall.move_back_a_day();
     for (since, string) in next.since.iter_mut().zip(&plan.strings) {
-        *since = string.t.min(*since + 1);
+        *since = far_enough(string).min(*since + 1);
     }
     next
 }

@@ -1,4 +1,4 @@
-//! Reading a plan file of version 01 or 02: its lines and frames, and the refusal table.
+//! Reading a plan file of version 01, 02 or 03: its lines and frames, and the refusal table.
 
 use super::plan::{BatteryString, Plan, Release, RUN};
 
@@ -20,13 +20,14 @@ pub fn read(text: &[u8]) -> Result<Plan, Refusal> {
     }
     // Each piece keeps its 0a, so that the last one can be seen to lack it.
     let lines: Vec<&[u8]> = text.split_inclusive(|byte| *byte == b'\n').collect();
-    let (count, moving, mut plan) = read_header(&lines)?;
-    for line in 2..=count + 1 {
-        plan.strings.push(read_string(&lines, line, moving)?);
+    let (header, mut plan) = read_header(&lines)?;
+    let last = header.count + 1;
+    for line in 2..=last {
+        plan.strings.push(read_string(&lines, line, &header)?);
     }
-    require(plan.cycle().is_some(), 6, count + 1)?;
-    for line in count + 2..=lines.len() {
-        let release = read_release(&lines, line, &plan)?;
+    require(plan.cycle().is_some(), 6, last)?;
+    for line in last + 1..=lines.len() {
+        let release = read_release(&lines, line, &header, &plan)?;
         plan.releases.push(release);
     }
     Ok(plan)
@@ -50,13 +51,20 @@ pub fn require(holds: bool, number: usize, line: usize) -> Result<(), Refusal> {
     }
 }
 
-/// The count of strings, the moving cost that the header says for all of them, if it does, and the
-/// plan without strings and releases. In version 02 each string says its own.
-fn read_header(lines: &[&[u8]]) -> Result<(usize, Option<u64>, Plan), Refusal> {
+/// What a header says beside N.
+struct Header {
+    version: u8,
+    count: usize,
+    /// The moving cost of all strings: version 01 says it here, the others with each string.
+    moving: Option<u64>,
+}
+
+/// The header, and the plan without strings and releases. Versions 02 and 03 have one layout, version 01 another.
+fn read_header(lines: &[&[u8]]) -> Result<(Header, Plan), Refusal> {
     let second = lines
         .first()
         .and_then(|line| bytes_of(line)?.get(1).copied());
-    let own = second == Some(0x02);
+    let own = matches!(second, Some(0x02 | 0x03));
     let frame = frame_of(lines, 1, 0x01, if own { 7 } else { 9 })?;
     require(own || frame[1] == 0x01, 3, 1)?;
     let count = usize::from(frame[2]);
@@ -68,37 +76,54 @@ fn read_header(lines: &[&[u8]]) -> Result<(usize, Option<u64>, Plan), Refusal> {
     };
     let bounded = moving.map_or(true, |moving| moving <= 1_000) && RUN.contains(&days);
     require(bounded, 5, 1)?;
+    let header = Header {
+        version: frame[1],
+        count,
+        moving,
+    };
     let plan = Plan {
         days,
         strings: Vec::new(),
         releases: Vec::new(),
     };
-    Ok((count, moving, plan))
+    Ok((header, plan))
 }
 
-fn read_string(
-    lines: &[&[u8]],
-    line: usize,
-    moving: Option<u64>,
-) -> Result<BatteryString, Refusal> {
-    let frame = frame_of(lines, line, 0x02, if moving.is_some() { 8 } else { 10 })?;
+fn read_string(lines: &[&[u8]], line: usize, header: &Header) -> Result<BatteryString, Refusal> {
+    let length = match header.version {
+        0x01 => 8,
+        0x02 => 10,
+        _ => 12,
+    };
+    let frame = frame_of(lines, line, 0x02, length)?;
     let string = BatteryString {
         x: number(&frame[1..2]),
         t: number(&frame[2..4]),
         c: number(&frame[4..6]),
         d: number(&frame[6..8]),
-        moving: moving.unwrap_or_else(|| number(&frame[8..10])),
+        moving: header.moving.unwrap_or_else(|| number(&frame[8..10])),
+        // older versions know no late days
+        late: frame.get(10..12).map_or(0, number),
     };
     require(string.is_bounded(), 5, line)?;
     Ok(string)
 }
 
-fn read_release(lines: &[&[u8]], line: usize, plan: &Plan) -> Result<Release, Refusal> {
-    let frame = frame_of(lines, line, 0x03, 8)?;
+fn read_release(
+    lines: &[&[u8]],
+    line: usize,
+    header: &Header,
+    plan: &Plan,
+) -> Result<Release, Refusal> {
+    let length = if header.version == 0x03 { 12 } else { 8 };
+    let frame = frame_of(lines, line, 0x03, length)?;
+    let day = number(&frame[2..6]);
     let release = Release {
         place: number(&frame[1..2]),
-        day: number(&frame[2..6]),
+        day,
         need: number(&frame[6..8]),
+        // older versions are due on the release day
+        due: frame.get(8..12).map_or(day, number),
     };
     require(plan.releases.len() < MOST_RELEASES, 7, line)?;
     require(is_lawful(plan, &release), 8, line)?;
@@ -120,8 +145,9 @@ fn is_lawful(plan: &Plan, release: &Release) -> bool {
         .find(|earlier| earlier.place == release.place);
     (1..=string.c).contains(&release.need)
         && release.day < plan.days
+        && (release.due..=release.due + string.late).contains(&release.day)
         && ahead.map_or(true, |ahead| ahead.day <= release.day)
-        && same.map_or(true, |same| same.day + string.t <= release.day)
+        && same.map_or(true, |same| same.due + string.t <= release.due)
 }
 
 /// The bytes of one line's frame. A missing line is 3, a bad line 2, an unexpected frame 3.

@@ -16,7 +16,7 @@ pub const LONGEST_CYCLE: Length = 100_000;
 /// The least and the most that N may be.
 pub const RUN: RangeInclusive<Length> = 1..=1_000_000;
 
-/// One string. The letters are those of document 01; A is each string's own (document 02, W-207).
+/// One string. The letters are those of document 01; A is each string's own (document 02, W-207), and so is J (W-213).
 #[derive(Clone, Debug, PartialEq)]
 pub struct BatteryString {
     /// 1: its jobs may take the bank, 0: they may not.
@@ -25,20 +25,35 @@ pub struct BatteryString {
     pub t: Length,
     /// Most working days of a job.
     pub c: Length,
-    /// Days from release to deadline.
+    /// Days from the due day to the deadline.
     pub d: Length,
     /// A, the moving days that a taker of this string pays.
     pub moving: Length,
+    /// J, the most days by which a release may come after its due day.
+    pub late: Length,
 }
 
 impl BatteryString {
+    /// A string as the document writes one, (T, C, D): it may not take the bank, moving is free, and it comes on its due days.
+    pub fn plain(t: Length, c: Length, d: Length) -> BatteryString {
+        BatteryString {
+            x: 0,
+            t,
+            c,
+            d,
+            moving: 0,
+            late: 0,
+        }
+    }
+
     /// Whether each of its numbers is within its bounds.
     pub fn is_bounded(&self) -> bool {
         self.x <= 1
             && (1..=1_000).contains(&self.t)
             && (1..=self.t).contains(&self.d)
-            && (1..=self.d).contains(&self.c)
             && self.moving <= 1_000
+            && self.late < self.d
+            && (1..=self.d - self.late).contains(&self.c)
     }
 }
 
@@ -48,6 +63,29 @@ pub struct Release {
     pub place: u64,
     pub day: Day,
     pub need: Length,
+    /// The day from which on its string's D and T count.
+    pub due: Day,
+}
+
+impl Release {
+    /// One that comes on its due day.
+    pub fn new(place: u64, day: Day, need: Length) -> Release {
+        Release {
+            place,
+            day,
+            need,
+            due: day,
+        }
+    }
+
+    /// The same job, so many days later.
+    pub fn put_off(self, by: Length) -> Release {
+        Release {
+            day: self.day + by,
+            due: self.due + by,
+            ..self
+        }
+    }
 }
 
 #[derive(Clone, Debug, PartialEq)]
@@ -71,7 +109,7 @@ impl Plan {
 
     /// The day up to which, and not into which, a lawful release may be served.
     pub fn deadline(&self, release: &Release) -> Day {
-        release.day + self.string_of(release).d
+        release.due + self.string_of(release).d
     }
 
     /// H, or nothing if it is over its bound.
@@ -87,8 +125,10 @@ impl Plan {
         Some(cycle)
     }
 
-    pub fn smallest_d(&self) -> Length {
-        self.strings.iter().map(|s| s.d).min().unwrap_or(0)
+    /// The smallest D − J: a window of fewer days holds no job.
+    pub fn smallest_window(&self) -> Length {
+        let windows = self.strings.iter().map(|s| s.d - s.late);
+        windows.min().unwrap_or(0)
     }
 
     pub fn largest_d(&self) -> Length {
@@ -102,10 +142,26 @@ impl Plan {
         self.strings.iter().all(same).then_some(first)
     }
 
+    /// Whether no string has late days and every release comes on its due day: all that versions 01 and 02 can say.
+    pub fn is_punctual(&self) -> bool {
+        self.strings.iter().all(|string| string.late == 0)
+            && self
+                .releases
+                .iter()
+                .all(|release| release.due == release.day)
+    }
+
     /// Gives every string the same moving cost.
     pub fn set_moving(&mut self, moving: Length) {
         for string in &mut self.strings {
             string.moving = moving;
+        }
+    }
+
+    /// Gives every string as many late days. The releases are still to come.
+    pub fn set_late(&mut self, late: Length) {
+        for string in &mut self.strings {
+            string.late = late;
         }
     }
 

@@ -92,7 +92,7 @@ fn load_by(rule: &Rule, plan: &Plan, cycle: Length) -> Length {
 
 /// B at an interval: how long a job due after it can stand in the way.
 pub fn blocking_limit(rule: &Rule, plan: &Plan, interval: Length) -> Length {
-    if interval < plan.smallest_d() {
+    if interval < plan.smallest_window() {
         return 0;
     }
     let longest = plan
@@ -135,12 +135,12 @@ pub fn all_breaks(plan: &Plan, cycle: Length) -> Vec<(Length, Length, Length)> {
         .collect()
 }
 
-/// The jobs of a string that can be released and due in a window of so many days.
+/// The jobs of a string that can be released and have their deadline in a window of so many days. The first may come J days late.
 pub fn jobs(string: &BatteryString, window: Length) -> u64 {
-    if window < string.d {
+    if window + string.late < string.d {
         0
     } else {
-        (window - string.d) / string.t + 1
+        (window + string.late - string.d) / string.t + 1
     }
 }
 

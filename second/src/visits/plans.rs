@@ -98,10 +98,7 @@ fn by_turns(chance: &mut Chance, turn: u64) -> Vec<u8> {
     let t = 2 * work;
     let string = |x| BatteryString {
         x,
-        t,
-        c: work,
-        d: t,
-        moving: 0,
+        ..BatteryString::plain(t, work, t)
     };
     let mut plan = Plan {
         days: rounds * t,
@@ -109,10 +106,8 @@ fn by_turns(chance: &mut Chance, turn: u64) -> Vec<u8> {
         releases: Vec::new(),
     };
     for day in (0..rounds).map(|round| round * t) {
-        for place in [1, 2] {
-            let need = work;
-            plan.releases.push(Release { place, day, need });
-        }
+        let both = [1, 2].map(|place| Release::new(place, day, work));
+        plan.releases.extend(both);
     }
     writing::any_text(chance, &plan)
 }

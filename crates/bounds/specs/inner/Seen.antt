@@ -1,8 +1,8 @@
 -- What the code remembers of the releases already seen, and what that says of the next.
 --     latestOf seen         the day of the release listed just ahead; day 0 where there is none
---     lastOf i seen         the last release of place i
+--     lastOf i seen         the due day of the last release of place i
 --     rememberedOf last i   what the code's ten places hold for place i; nothing for a place that no plan has
---     tooSoon last d t      the day d lies fewer than t days after the last release
+--     tooSoon last d t      the due day d lies fewer than t days after that of the last release
 --     admits p latest last r     r may stand after releases with these two
 use Prim.Native.Nat.{ℕ, _+_, _-_}
 use mathlib.Core.Bool.{Bool, false, not, cond, _&&_}
@@ -25,7 +25,7 @@ latestOf (q ∷ seen) = q .day
 
 unfoldable pub lastOf : ℕ → List Release → Last
 lastOf i [] = Never
-lastOf i (q ∷ seen) = cond (eqb (q .place) i) (On (q .day)) (lastOf i seen)
+lastOf i (q ∷ seen) = cond (eqb (q .place) i) (On (q .due)) (lastOf i seen)
 
 unfoldable pub rememberedOf : List Last → ℕ → Last
 rememberedOf last i = cond (inBounds 1 i 10) (getD last (i - 1) Never) Never
@@ -39,5 +39,6 @@ admits p latest last r =
     inBounds 1 (r .place) (p .n)
     && inBounds 1 (r .need .0) (stringAt p (r .place) .c .0)
     && ltb (r .day .0) (p .run .0)
+    && inBounds (r .due .0) (r .day .0) (r .due .0 + stringAt p (r .place) .j .0)
     && not (ltb (r .day .0) (latest .0))
-    && not (tooSoon last (r .day) (stringAt p (r .place) .t))
+    && not (tooSoon last (r .due) (stringAt p (r .place) .t))

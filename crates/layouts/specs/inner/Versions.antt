@@ -4,7 +4,8 @@
 --     meantBy version       the version that one of the code stands for: the one with its number
 --     Known version         a version of the code that is as the definitions have it
 --     Sound v               what the proofs ask of a version: the fields that all versions have are of one size, one frame says the moving
---                           cost, and the lines are short enough for a text of 65,536 bytes
+--                           cost, late days and due days take a number's bytes or none, and the lines are short enough for a text of
+--                           65,536 bytes
 use Prim.Native.Nat.{ℕ, _+_, _%_, _≤_, _<_}
 use mathlib.Core.Path.{_≡_}
 use mathlib.Core.Bool.{cond}
@@ -12,7 +13,7 @@ use mathlib.Core.List.{List, [], _∷_}
 use lib.Dec.{eqb}
 use Rattle.rules.specs.Layout as rule
 use Rattle.rules.specs.Layout.{frameSize, lineSize, headerFrame, stringFrame, releaseFrame, heldTo}
-use Rattle.rules.specs.Layout.{Number, Count, Common, Run, X, T, C, D, Own, Place, Day, Need}
+use Rattle.rules.specs.Layout.{Number, Count, Common, Run, X, T, C, D, Own, Late, Place, Day, Need, Due}
 use Rattle.layouts.specs.declared.Field.{Field}
 use Rattle.layouts.specs.declared.Layout.{Layout}
 use Rattle.layouts.specs.declared.Version.{Version}
@@ -51,7 +52,9 @@ codeOf v =
       run = fieldFor (headerFrame v) Run;
       string = layoutFor (stringFrame v);
       own = fieldFor (stringFrame v) Own;
+      late = fieldFor (stringFrame v) Late;
       release = layoutFor (releaseFrame v);
+      due = fieldFor (releaseFrame v) Due;
     }
 
 abbrev pub meantBy : Version → rule.Version
@@ -68,4 +71,5 @@ Sound v =
     × (v .string X ≡ 1) × (v .string T ≡ 2) × (v .string C ≡ 2) × (v .string D ≡ 2)
     × (v .release Place ≡ 1) × (v .release Day ≡ 4) × (v .release Need ≡ 2)
     × (v .header Common + v .string Own ≡ 2) × (v .header Common % 2 ≡ 0)
+    × (v .string Late ≤ 2) × (v .string Late % 2 ≡ 0) × (v .release Due ≤ 4) × (v .release Due % 4 ≡ 0)
     × (lineSize (headerFrame v) ≤ 60) × (lineSize (stringFrame v) ≤ 60) × (lineSize (releaseFrame v) ≤ 60)

@@ -2,7 +2,7 @@
 --     bytesAhead stop bytes how many bytes stand ahead of the first `stop`; all of them where there is none
 --     lead field            the first digit is no zero, or the only one
 --     numberOr field        the number of a field that is one, and 10,000 for any other
---     fiveOf fields      the five numbers of fields that are such, and zeros where they are not
+--     sixOf fields          the six numbers of fields that are such, and zeros where they are not
 use Prim.Native.Nat.{ℕ, suc}
 use mathlib.Core.Bool.{Bool, true, false, not, cond, _||_}
 use mathlib.Core.List.{List, [], _∷_, map}
@@ -17,7 +17,7 @@ use Rattle.faults.specs.Checks.{orRefused}
 use Rattle.rules.specs.Plan.{noString}
 use Rattle.rules.specs.Text.{Line}
 use Rattle.register.specs.declared.fields.Numbers.{Numbers}
-use Rattle.register.specs.Table.{plainNumber, fiveNumbers}
+use Rattle.register.specs.Table.{plainNumber, sixNumbers}
 
 unfoldable pub bytesAhead : ℕ → List ℕ → ℕ
 bytesAhead stop [] = 0
@@ -30,7 +30,7 @@ unfoldable pub numberOr : List ℕ → ℕ
 numberOr field = cond (plainNumber field) (decimalIn field) 10000
 
 abbrev pub noNumbers : Numbers
-noNumbers = record { formed = false; values = replicate 5 0 }
+noNumbers = record { formed = false; values = replicate 6 0 }
 
-unfoldable pub fiveOf : List (List ℕ) → Numbers
-fiveOf fields = cond (fiveNumbers fields) (record { formed = true; values = map decimalIn fields }) noNumbers
+unfoldable pub sixOf : List (List ℕ) → Numbers
+sixOf fields = cond (sixNumbers fields) (record { formed = true; values = map decimalIn fields }) noNumbers

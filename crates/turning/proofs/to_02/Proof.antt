@@ -13,7 +13,7 @@ on-line-requires c κs =
     let s = found .before .before .before in
     let small = read-small version01 version02 (s .args .text .now) (s .args .page .now) (s .args .at) (found .read-01 .result)
     (found .read-01 .ensures .0) (told .enum-told .given .1) in
-    omega (arith, ap placeIn (wrote .write .ensures .0))
+    omega (arith, ap placeIn (wrote .write-02 .ensures .0))
 
 returns : tie.Need-returns
 returns c =
@@ -23,7 +23,7 @@ returns c =
     let s = found .before .before .before in
     let said = read-written version01 version02 (s .args .text .now) (s .args .page .now) (s .args .at) (found .read-01 .result)
     (found .read-01 .ensures .0) (told .enum-told .given .1) in
-    (c .on-line .ensures ∙ ap onLine (wrote .write .ensures .0) ∙ said .0, (wrote .write .ensures .1 ∙ said .1, refl))
+    (c .on-line .ensures ∙ ap onLine (wrote .write-02 .ensures .0) ∙ said .0, (wrote .write-02 .ensures .1 ∙ said .1, refl))
 
 returns-2 : tie.Need-returns-2
 returns-2 c =

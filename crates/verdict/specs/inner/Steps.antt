@@ -21,7 +21,7 @@ use Rattle.rules.specs.declared.BatteryString.{BatteryString}
 use Rattle.rules.specs.declared.Plan.{Plan}
 use Rattle.rules.specs.declared.Verdict.{Verdict}
 use Rattle.rules.specs.declared.Verdict.the-variants.{Overload, Fail, Pass}
-use Rattle.rules.specs.Plan.{noString}
+use Rattle.rules.specs.Plan.{noString, leeway}
 use Rattle.rules.specs.Demand.{holdOf, jobs}
 use Rattle.rules.specs.Verdict.{Pair}
 use Rattle.demand.proofs.Pairs.{scanFrom}
@@ -36,7 +36,7 @@ pub record Parted (p : Plan) (every keeps takes : List ℕ) : Type 0 where
   pub took : (i : ℕ) → i < p .n → getD takes i 0 ≡ jobOf p 1 (getD (p .strings) i noString)
 
 unfoldable pub stepAfter : ℕ → BatteryString → ℕ
-stepAfter l s = jobs s l * s .t .0 + s .d .0
+stepAfter l s = jobs s l * s .t .0 + leeway s
 
 pub record Due (p : Plan) (l : ℕ) (next : List ℕ) : Type 0 where
   pub size : length next ≡ 10

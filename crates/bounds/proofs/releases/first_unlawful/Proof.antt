@@ -41,7 +41,7 @@ admitsHere c = admits (c .before .before .before .args .p) (c .loop .latest) (re
 
 -- where the loop stands at the answer on a release
 abbrev turn : tie.After-admitted Inv-loop μ-loop → tie.At-loop Inv-loop μ-loop
-turn c = c .before .before .before .before .before
+turn c = c .before .before .before .before .before .before
 
 said : (c : tie.After-admitted Inv-loop μ-loop) → c .admitted .result ≡ admitsHere (turn c)
 said c =

@@ -10,5 +10,6 @@ string-lawful-spec =
     (λ c. sym (stringLawful-not _ (λ h. omega arith))) (λ c. sym (stringLawful-not _ (λ h. omega arith)))
     (λ c. sym (stringLawful-not _ (λ h. omega arith))) (λ c. sym (stringLawful-not _ (λ h. omega arith)))
     (λ c. sym (stringLawful-not _ (λ h. omega arith))) (λ c. sym (stringLawful-not _ (λ h. omega arith)))
+    (λ c. omega arith) (λ c. sym (stringLawful-not _ (λ h. omega arith)))
     (λ c. sym (stringLawful-not _ (λ h. omega arith))) (λ c. sym (stringLawful-not _ (λ h. omega arith)))
     (λ c. sym (stringLawful-yes _ (omega arith))))

@@ -6,12 +6,12 @@ use Rattle.calendar.proofs.text.date_read.Tie as tie
 
 returns : tie.Need-returns
 returns c =
-    let other = sym (c .before .fits2 .ensures) ∙ not-true _ (c .if1 .taken) in
+    let other = sym (c .before .fits2 .ensures .0) ∙ not-true _ (c .if1 .taken) in
     (sym (dateReading-form _ other), refl)
 
 -- the text has the form, so ten bytes
 formed : (c : tie.Else1) → fits dateForm (c .before .before .before .before .args .text .now) ≡ true
-formed c = sym (c .before .fits2 .ensures) ∙ not-false _ (c .if1 .left)
+formed c = sym (c .before .fits2 .ensures .0) ∙ not-false _ (c .if1 .left)
 
 ten : (c : tie.Else1) → 10 ≡ length (c .before .before .before .before .args .text .now)
 ten c = fits-length dateForm _ (formed c)

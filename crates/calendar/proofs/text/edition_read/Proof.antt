@@ -6,12 +6,12 @@ use Rattle.calendar.proofs.text.edition_read.Tie as tie
 
 returns : tie.Need-returns
 returns c =
-    let other = sym (c .before .fits2 .ensures) ∙ not-true _ (c .if1 .taken) in
+    let other = sym (c .before .fits2 .ensures .0) ∙ not-true _ (c .if1 .taken) in
     (sym (editionReading-form _ other), refl)
 
 -- the text has the form, so one byte
 formed : (c : tie.Else1) → fits editionForm (c .before .before .before .before .args .text .now) ≡ true
-formed c = sym (c .before .fits2 .ensures) ∙ not-false _ (c .if1 .left)
+formed c = sym (c .before .fits2 .ensures .0) ∙ not-false _ (c .if1 .left)
 
 one : (c : tie.Else1) → 1 ≡ length (c .before .before .before .before .args .text .now)
 one c = fits-length editionForm _ (formed c)

@@ -16,7 +16,7 @@ returns-3 c =
     let at = asked .before .before .before .before in
     let g = at .before .before .before .before .before .args in
     let other = sym (asked .fits-at .ensures) ∙ not-true _ (c .if3 .taken) in
-    sym (fits-not (g .form .now) (g .text .now) (at .loop .i) (omega arith) (omega arith) other) ∙ at .loop .inv .1
+    (sym (fits-not (g .form .now) (g .text .now) (at .loop .i) (omega arith) (omega arith) other) ∙ at .loop .inv .1, (refl, refl))
 
 loop-again : tie.Need-loop-again Inv-loop μ-loop
 loop-again c =
@@ -30,12 +30,12 @@ returns-4 : tie.Need-returns-4 Inv-loop μ-loop
 returns-4 c =
     let at = c .before in
     let g = at .before .before .before .before .before .args in
-    sym (fits-done (g .form .now) (g .text .now) (at .loop .i) (omega arith) (omega arith)) ∙ at .loop .inv .1
+    (sym (fits-done (g .form .now) (g .text .now) (at .loop .i) (omega arith) (omega arith)) ∙ at .loop .inv .1, (refl, refl))
 
 pub fits-spec : {M : Type 1} → statement M
 fits-spec =
     tie.close (tie.spec
-    Inv-loop μ-loop (λ c. sym (fits-other-length _ _ (λ same. omega (arith, c .if1 .taken))))
-    (λ c. sym (fits-other-length _ _ (λ same. omega (arith, c .if2 .taken)))) (λ c. (omega arith, refl))
+    Inv-loop μ-loop (λ c. (sym (fits-other-length _ _ (λ same. omega (arith, c .if1 .taken))), (refl, refl)))
+    (λ c. (sym (fits-other-length _ _ (λ same. omega (arith, c .if2 .taken))), (refl, refl))) (λ c. (omega arith, refl))
     (λ c. omega arith) (λ c. omega arith) (λ c κs. tt) returns-3 (λ c. omega arith) (λ c. omega arith) loop-again
     returns-4)

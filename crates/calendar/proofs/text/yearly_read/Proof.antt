@@ -6,12 +6,12 @@ use Rattle.calendar.proofs.text.yearly_read.Tie as tie
 
 returns : tie.Need-returns
 returns c =
-    let other = sym (c .before .fits2 .ensures) ∙ not-true _ (c .if1 .taken) in
+    let other = sym (c .before .fits2 .ensures .0) ∙ not-true _ (c .if1 .taken) in
     (sym (yearlyReading-form _ other), refl)
 
 -- the text has the form, so five bytes
 formed : (c : tie.Else1) → fits yearlyForm (c .before .before .before .before .args .text .now) ≡ true
-formed c = sym (c .before .fits2 .ensures) ∙ not-false _ (c .if1 .left)
+formed c = sym (c .before .fits2 .ensures .0) ∙ not-false _ (c .if1 .left)
 
 five : (c : tie.Else1) → 5 ≡ length (c .before .before .before .before .args .text .now)
 five c = fits-length yearlyForm _ (formed c)

@@ -8,7 +8,7 @@ use Rattle.entries.proofs.given.plan_given.Tie as tie
 
 -- what is stored of i strings
 abbrev stored : List ℕ → ℕ → List BatteryString
-stored numbers i = filled 10 noString (map (λ k. stringFrom numbers (1 + k * 5)) (upFrom 0 i))
+stored numbers i = filled 10 noString (map (λ k. stringFrom numbers (1 + k * 6)) (upFrom 0 i))
 
 abbrev Inv-loop : tie.InvT-loop
 Inv-loop numbers n run strings₀ i₀ strings i = (i ≤ n) × (strings ≡ stored numbers i)
@@ -22,7 +22,7 @@ begin o = o .before .before .before .before
 abbrev counted : tie.At-loop Inv-loop μ-loop → ℕ
 counted o = o .before .before .string-count .result
 
-fit : (o : tie.At-loop Inv-loop μ-loop) → (counted o ≤ 10) × (counted o * 5 ≤ length (begin o .args .numbers .now) - 1)
+fit : (o : tie.At-loop Inv-loop μ-loop) → (counted o ≤ 10) × (counted o * 6 ≤ length (begin o .args .numbers .now) - 1)
 fit o = strings-fit (begin o .args .numbers .now) (counted o) (o .before .before .string-count .ensures)
 
 loop-again : tie.Need-loop-again Inv-loop μ-loop

@@ -1,4 +1,4 @@
--- `release_count` meets its contract: a third, rounded up.
+-- `release_count` meets its contract: a quarter, rounded up.
 use Rattle.base.proofs.Prelude.{needs, arith}
 use Rattle.entries.specs.Given.{releaseCount}
 use Rattle.entries.proofs.given.release_count.Statement.{statement}

@@ -8,7 +8,7 @@ use Rattle.entries.proofs.given.releases_given.Tie as tie
 
 -- what is stored of i releases
 abbrev stored : List ℕ → ℕ → List Release
-stored numbers i = filled 1000 noRelease (map (λ k. releaseFrom numbers (k * 3)) (upFrom 0 i))
+stored numbers i = filled 1000 noRelease (map (λ k. releaseFrom numbers (k * 4)) (upFrom 0 i))
 
 abbrev Inv-loop : tie.InvT-loop
 Inv-loop numbers count end list₀ i₀ list i = (i ≤ end) × (list ≡ stored numbers i)

@@ -10,4 +10,4 @@ unfolding bytesOf wordedIn marked takes filledIn rowLine
 row-line-spec =
     tie.close (tie.spec
     (λ c. search needs) (λ c. search needs) (λ c. search needs) (λ c. search needs) (λ c. search needs) (λ c. search needs)
-    (λ c. search needs) (λ c κs. search needs) (λ c. c .lone-line .ensures))
+    (λ c. search needs) (λ c. search needs) (λ c κs. search needs) (λ c. c .lone-line .ensures))

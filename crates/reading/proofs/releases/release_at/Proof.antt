@@ -1,4 +1,5 @@
--- `reading::releases::release_at` meets its contract: place, day and need stand at the same positions in all versions.
+-- `reading::releases::release_at` meets its contract: place, day and need stand at the same positions in all versions, and `due_at` has the
+-- due day.
 use Rattle.base.proofs.Prelude.{ℕ, _∙_, arith, needs}
 use Rattle.rules.specs.{Layout.{Layout, ReleaseField, releaseFrame, Place, Day, Need}, Text.releaseOf}
 use Rattle.layouts.specs.inner.Versions.{meantBy}
@@ -30,17 +31,19 @@ field-at-requires-3 c κs =
 returns : tie.Need-returns
 unfolding releaseOf
 returns c =
-    let s = c .before .before .before .before in
+    let o = c .before in
+    let s = o .before .before .before .before in
     let text = s .args .text .now in
     let at = s .args .at in
     let l = layoutOf s in
     rw (
-      c .field-at3 .ensures ∙ field-said text at l Need _ (need-place (numberOf s)) (s .pre .1),
-      c .before .field-at2 .ensures ∙ field-said text at l Day _ (day-place (numberOf s)) (s .pre .1),
-      c .before .before .field-at .ensures ∙ field-said text at l Place _ (place-place (numberOf s)) (s .pre .1),
+      c .due-at .ensures,
+      o .field-at3 .ensures ∙ field-said text at l Need _ (need-place (numberOf s)) (s .pre .1),
+      o .before .field-at2 .ensures ∙ field-said text at l Day _ (day-place (numberOf s)) (s .pre .1),
+      o .before .before .field-at .ensures ∙ field-said text at l Place _ (place-place (numberOf s)) (s .pre .1),
     )
 
 pub release-at-spec : {M : Type 1} → statement M
 release-at-spec =
     tie.close (tie.spec
-    field-at-requires (λ c. search needs) field-at-requires-2 field-at-requires-3 returns)
+    field-at-requires (λ c. search needs) field-at-requires-2 field-at-requires-3 (λ c κs. search needs) returns)

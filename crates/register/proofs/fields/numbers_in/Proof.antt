@@ -2,22 +2,22 @@
 use Rattle.base.proofs.Prelude.{ℕ, _+_, _-_, _≤_, _<_, _≡_, refl, sym, ap, _∙_, true, List, [], _∷_, map, decLe, arith, needs, length, take, drop, set, length-drop, length-set, drop-drop, take-all}
 use Rattle.base.specs.Digits.{decimalIn}
 use Rattle.register.specs.{Table.{comma, fieldsOf, plainNumber}, inner.Fields.bytesAhead}
-use Rattle.register.proofs.{Splitting.{ahead-within, fields-last, fields-next}, Plain.{no-number, a-number, number-said}, Numbers.{Plain, sixth, fields-later, not-plain, plain-next, said-next, last-five, last-few}, fields.numbers_in.Statement.statement}
+use Rattle.register.proofs.{Splitting.{ahead-within, fields-last, fields-next}, Plain.{no-number, a-number, number-said}, Numbers.{Plain, seventh, fields-later, not-plain, plain-next, said-next, last-six, last-few}, fields.numbers_in.Statement.statement}
 use Rattle.register.proofs.fields.numbers_in.Tie as tie
 
 abbrev Inv-loop : tie.InvT-loop
 Inv-loop row values₀ from₀ i₀ values from i =
     record {
-      upto : i ≤ 5;
+      upto : i ≤ 6;
       inside : from ≤ length row;
-      five : length values ≡ 5;
+      six : length values ≡ 6;
       rest : drop i (fieldsOf row) ≡ fieldsOf (drop from row);
       plain : Plain (take i (fieldsOf row));
       said : take i values ≡ map decimalIn (take i (fieldsOf row));
     }
 
 abbrev μ-loop : tie.MeasureT-loop
-μ-loop row values₀ from₀ i₀ values from i = 5 - i
+μ-loop row values₀ from₀ i₀ values from i = 6 - i
 
 -- where the loop stands, after the end of the field was found
 abbrev at : tie.After-stop-at Inv-loop μ-loop → tie.At-loop Inv-loop μ-loop
@@ -75,7 +75,7 @@ module _ (c : tie.Else1 Inv-loop μ-loop) where
   read = c .before .number-in .ensures ∙ number-said (fieldOf stopped) plain
 
   inside : at stopped .loop .i < length (at stopped .loop .values)
-  inside = omega (arith, at stopped .loop .inv .five)
+  inside = omega (arith, at stopped .loop .inv .six)
 
 returns : tie.Need-returns Inv-loop μ-loop
 returns c =
@@ -94,9 +94,9 @@ returns-2 c =
     let s = stopped one in
     let o = at s in
     ap (λ n. record { formed = true; values = set (o .loop .values) (o .loop .i) n }) (read one)
-    ∙ last-five (fieldsOf (rowLent o)) (o .loop .i) (fieldOf s) [] (last-here s (c .before .if2 .taken)) (o .loop .values) (o .loop .inv
+    ∙ last-six (fieldsOf (rowLent o)) (o .loop .i) (fieldOf s) [] (last-here s (c .before .if2 .taken)) (o .loop .values) (o .loop .inv
     .said)
-    (inside one) refl (c .if3 .taken) (o .loop .inv .five) (o .loop .inv .plain) (plain one)
+    (inside one) refl (c .if3 .taken) (o .loop .inv .six) (o .loop .inv .plain) (plain one)
 
 returns-3 : tie.Need-returns-3 Inv-loop μ-loop
 returns-3 c =
@@ -113,7 +113,7 @@ loop-again c =
     record {
       upto = omega arith;
       inside = omega (arith, within s, c .if2 .left);
-      five = length-set (o .loop .values) (o .loop .i) _ ∙ o .loop .inv .five;
+      six = length-set (o .loop .values) (o .loop .i) _ ∙ o .loop .inv .six;
       rest = fields-later fields (o .loop .i) (fieldOf s) _ here;
       plain = plain-next fields (o .loop .i) (fieldOf s) _ here (o .loop .inv .plain) (plain one);
       said =
@@ -124,13 +124,13 @@ loop-again c =
 returns-4 : tie.Need-returns-4 Inv-loop μ-loop
 returns-4 c =
     let o = c .before in
-    let five : o .loop .i ≡ 5 = omega (arith, o .loop .inv .upto) in
-    sixth (fieldsOf (rowLent o)) (drop (o .loop .from) (rowLent o)) (rw five at (o .loop .inv .rest))
+    let six : o .loop .i ≡ 6 = omega (arith, o .loop .inv .upto) in
+    seventh (fieldsOf (rowLent o)) (drop (o .loop .from) (rowLent o)) (rw six at (o .loop .inv .rest))
 
 pub numbers-in-spec : {M : Type 1} → statement M
 numbers-in-spec =
     tie.close (tie.spec
-    Inv-loop μ-loop (λ c. record { upto = omega arith; inside = omega arith; five = refl; rest = refl; plain = tt; said = refl })
+    Inv-loop μ-loop (λ c. record { upto = omega arith; inside = omega arith; six = refl; rest = refl; plain = tt; said = refl })
     (λ c κs. c .before .loop .inv .inside) (λ c. omega (arith, c .stop-at .ensures))
     (λ c. search (needs, within c)) (λ c. search (needs, within c)) (λ c κs. tt) returns (λ c. omega arith) (λ c. omega arith)
     (λ c. omega arith) returns-2 returns-3 (λ c. omega (arith, within (stopped (c .before)))) (λ c. omega arith) loop-again returns-4)

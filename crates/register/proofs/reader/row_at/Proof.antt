@@ -1,6 +1,6 @@
 -- `row_at` meets its contract: each test decides what the definition decides.
 use Rattle.base.proofs.Prelude.{ℕ, _+_, _-_, _≤_, _<_, _≡_, sym, ap, _∙_, List, arith, needs, not-true, not-false, length, take, drop, getD, length-drop}
-use Rattle.register.specs.{declared.Row.the-variants.{Malformed, Says}, declared.fields.Numbers.Numbers, Table.{fieldsOf, stringSaid}, Reader.rowAt, inner.Fields.{bytesAhead, fiveOf}}
+use Rattle.register.specs.{declared.Row.the-variants.{Malformed, Says}, declared.fields.Numbers.Numbers, Table.{fieldsOf, stringSaid}, Reader.rowAt, inner.Fields.{bytesAhead, sixOf}}
 use Rattle.register.proofs.{Splitting.ahead-within, Given.{given-end, given-open, given-empty, given-other, given-numbers, given-row}, reader.row_at.Statement.statement}
 use Rattle.register.proofs.reader.row_at.Tie as tie
 
@@ -77,7 +77,7 @@ module _ (e : tie.Else4) where
 
   -- the part as the code takes it, and as the definition does
   abbrev said : List ℕ → Numbers
-  said part = fiveOf (fieldsOf part)
+  said part = sixOf (fieldsOf part)
 
   parts : take (found ended .stop-at .result - 1 - at (found ended)) (drop (at (found ended)) (text (found ended)))
       ≡ take (ahead (found ended) - 1) (drop (at (found ended)) (text (found ended)))

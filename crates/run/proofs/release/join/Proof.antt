@@ -8,12 +8,12 @@ string-is : (c : tie.Start) → stringAt (c .args .p) (c .args .r .place) ≡ ge
 string-is c = getD-take (c .args .p .n) (c .args .p .strings) (c .args .r .place - 1) noString (omega (arith, c .pre .low, c .pre .high))
 
 day-after-requires : tie.Need-day-after-requires
-day-after-requires c κs = let o = c .before .before .before .before .before in
+day-after-requires c κs = let o = c .before .before .before .before .before .before in
     rw (← string-is o) (o .pre .due)
 
 returns : tie.Need-returns
 unfolding newSlot
-returns c = let o = c .before .before .before .before .before .before in
+returns c = let o = c .before .before .before .before .before .before .before in
     rw (string-is o, c .day-after .ensures)
 
 pub join-spec : {M : Type 1} → statement M

@@ -9,7 +9,7 @@ returns : tie.Need-returns
 returns c =
     let start = c .before .before .before in
     let g = start .args in
-    sym (ap (λ s. record { day = day (g .t); place = g .place; need = s .c })
+    sym (ap (λ s. record { day = day (g .t); place = g .place; need = s .c; due = day (g .t) })
     (getD-take (g .p .n) (g .p .strings) (g .place - 1) noString (omega (arith, start .pre .1))))
 
 pub full-release-spec : {M : Type 1} → statement M

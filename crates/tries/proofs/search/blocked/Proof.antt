@@ -1,89 +1,68 @@
--- `tries::search::blocked` meets its contract: where the rule with free moving breaks there is one try, elsewhere none.
-use Rattle.base.proofs.Prelude.{_≤_, _≡_, sym, ap, _∙_, subst, [], some, needs}
-use Rattle.days.specs.declared.Length.{Length}
+-- `tries::search::blocked` meets its contract: where the sharp rule with free moving breaks there is one try, elsewhere none.
+use Rattle.base.proofs.Prelude.{_≤_, _≡_, sym, ap, _∙_, subst, [], some, arith, needs}
 use Rattle.base.specs.Count.{firstOf}
 use Rattle.base.proofs.FirstOf.{firstOf-end, firstOf-here, firstOf-later}
-use Rattle.rules.specs.{declared.Plan.Plan, Verdict.brokenAt}
-use Rattle.laws.proofs.Lawful.{LawfulPlan}
-use Rattle.demand.proofs.Pairs.{pair}
-use Rattle.exact.specs.Missing.{freely}
-use Rattle.exact.proofs.Freely.{freely-lawful}
-use Rattle.verdict.specs.inner.Asked.{Ready}
-use Rattle.tries.specs.Tries.{freeTries, freeBreak, ownBreak, blockTry, missesOn}
-use Rattle.tries.proofs.{Breaks.{freely-ready, said-nowhere, said-there, broken-interval, broken-blocking}, search.blocked.Statement.statement}
+use Rattle.rules.specs.declared.Plan.{Plan}
+use Rattle.tries.specs.{Tries.{Break, breakAt, freeTries, freeBreak, blockTry, missesOn}, inner.Openings.Points}
+use Rattle.tries.proofs.{FreeBreaks.{break-near, break-blocking}, Searching.points-none, search.blocked.Statement.statement}
 use Rattle.tries.proofs.search.blocked.Tie as tie
-
--- it was asked of the plan with free moving
-asked : (c : tie.After-where-broken) → c .where-broken .result ≡ brokenAt (freeBreak (c .before .before .args .p))
-asked c = c .where-broken .ensures ∙ ap (λ q. brokenAt (ownBreak q)) (c .before .with-free-moving .ensures)
-
--- which is ready too
-ready : (c : tie.After-with-free-moving) → Ready (c .with-free-moving .result)
-ready c = subst Ready (sym (c .with-free-moving .ensures)) (freely-ready _ (c .before .pre))
 
 returns : tie.Need-returns
 returns c =
     let ask = c .before .before in
-    let start = ask .before .before in
-    let p = start .args .p in
+    let p = ask .before .args .p in
     let f = missesOn p in
-    let free = freely-lawful p (start .pre .lawful) in
-    ap (λ q. firstOf f (freeTries p q)) (said-nowhere (freely p) free _ (asked ask) (c .enum-told .given .1)) ∙ firstOf-end f
+    ap (λ y. firstOf f (freeTries p y)) (points-none (ask .free-break .result) _ (c .enum-told .given .1) (ask .free-break .ensures))
+    ∙ firstOf-end f
 
--- the pair, and that it is small
-module _ (c : tie.After-known-told) where
-  abbrev ask : tie.After-where-broken
-  ask = c .before .before .before
-
-  abbrev interval : Length
-  interval = c .before .broken .given .0 .0
-
-  abbrev blocking : Length
-  blocking = c .before .broken .given .0 .1 .0
+-- the break, and that it is small
+module _ (c : tie.After-found) where
+  abbrev ask : tie.After-free-break
+  ask = c .before .before
 
   abbrev p : Plan
-  p = ask .before .before .args .p
+  p = ask .before .args .p
 
-  free : LawfulPlan (freely p)
-  free = freely-lawful p (ask .before .before .pre .lawful)
+  abbrev here : Break
+  here = breakAt (c .found .given .0 .0) (c .found .given .0 .1 .0) (c .found .given .0 .1 .1 .0)
 
-  there : freeBreak p ≡ some (pair (interval .0) (blocking .0))
-  there = said-there (freely p) free _ (asked ask) _ _ (c .before .broken .given .1)
+  there : freeBreak p ≡ some here
+  there = subst (λ t. Points t (freeBreak p)) (c .found .given .1) (ask .free-break .ensures)
 
-  short : interval .0 ≤ 101000
-  short = broken-interval (freely p) free _ (asked ask) _ _ (c .before .broken .given .1)
+  short : here .l ≤ 101000
+  short = omega (arith, break-near p here there, ask .before .pre .lawful .hMax)
 
-  little : blocking .0 ≤ 1000
-  little = broken-blocking (freely p) free _ (asked ask) _ _ (c .before .broken .given .1)
+  little : here .b ≤ 1000
+  little = break-blocking p here there (ask .before .pre .lawful)
 
 returns-2 : tie.Need-returns-2
 returns-2 c =
     let made = c .before .before in
-    let told = made .before in
-    let p = ask told .before .before .args .p in
-    let f = missesOn p in
-    let q = pair (interval told .0) (blocking told .0) in
+    let told = made .before .before in
+    let f = missesOn (p told) in
     let opens = made .blocking .ensures .0 in
     let misses = ap f (sym opens) ∙ sym (c .before .misses-on .ensures) ∙ c .if1 .taken in (
       made .blocking .ensures .1,
       short told,
-      ap (λ o. firstOf f (freeTries p o)) (there told) ∙ firstOf-here f (blockTry p q) [] misses ∙ ap some (sym opens),
+      ap (λ o. firstOf f (freeTries (p told) o)) (there told)
+          ∙ firstOf-here f (blockTry (p told) (here told)) [] misses
+          ∙ ap some (sym opens),
     )
 
 returns-3 : tie.Need-returns-3
 returns-3 c =
     let made = c .before .before in
-    let told = made .before in
-    let p = ask told .before .before .args .p in
-    let f = missesOn p in
-    let q = pair (interval told .0) (blocking told .0) in
+    let told = made .before .before in
+    let f = missesOn (p told) in
     let opens = made .blocking .ensures .0 in
     let holds = ap f (sym opens) ∙ sym (c .before .misses-on .ensures) ∙ c .if1 .left in
-    ap (λ o. firstOf f (freeTries p o)) (there told) ∙ firstOf-later f (blockTry p q) [] holds ∙ firstOf-end f
+    ap (λ o. firstOf f (freeTries (p told) o)) (there told)
+    ∙ firstOf-later f (blockTry (p told) (here told)) [] holds
+    ∙ firstOf-end f
 
 pub blocked-spec : {M : Type 1} → statement M
 blocked-spec =
     tie.close (tie.spec
-    (λ c κs. search needs) (λ c κs. ready c) (λ c. search needs) (λ c. search needs) returns
-    (λ c κs. (ask c .before .before .pre, little c))
-    (λ c κs. (ask (c .before) .before .before .pre, (c .blocking .ensures .1, short (c .before)))) returns-2 returns-3)
+    (λ c κs. search needs) (λ c. search needs) (λ c. search needs) returns
+    (λ c κs. (ask (c .before) .before .pre, little (c .before)))
+    (λ c κs. (ask (c .before .before) .before .pre, (c .blocking .ensures .1, short (c .before .before)))) returns-2 returns-3)

@@ -3,7 +3,7 @@ use Rattle.base.proofs.Prelude.{_≡_, sym, ap, _∙_, needs}
 use Rattle.base.specs.Count.{firstOf}
 use Rattle.base.proofs.FirstOf.{firstOf-end}
 use Rattle.tries.specs.Tries.{heldTries, missesOn}
-use Rattle.tries.proofs.{Breaks.{said-nowhere, said-there, broken-interval, broken-blocking}, Searching.finds-as, search.held.Statement.statement}
+use Rattle.tries.proofs.{OwnBreak.{said-nowhere, said-there, broken-interval, broken-blocking}, Searching.finds-as, search.held.Statement.statement}
 use Rattle.tries.proofs.search.held.Tie as tie
 
 returns : tie.Need-returns

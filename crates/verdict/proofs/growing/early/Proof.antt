@@ -2,11 +2,11 @@
 use Rattle.base.proofs.Prelude.{ℕ, _+_, _-_, _*_, _≤_, _<_, _≡_, sym, ap, _∙_, subst, List, arith, needs, length, getD, set, replicate, length-set, length-replicate}
 use lib.ListN.{getD-replicate}
 use Rattle.base.specs.Count.{keep}
-use Rattle.rules.specs.{Plan.{multipleOf, dMin, dMax}, Verdict.Pair}
+use Rattle.rules.specs.{Plan.{multipleOf, leewayMin, dMax}, Verdict.Pair}
 use Rattle.demand.proofs.Pairs.{rows, scanFrom, allPairs-rows}
 use Rattle.demand.specs.Quick.{grows, quickPairs}
 use Rattle.verdict.specs.{inner.Asked.askedBy, inner.Steps.{Due, Mark, Looked, RowKnown, onward, pairsOf}}
-use Rattle.verdict.proofs.{Asked.askedBy-le, KeptRows.{kept-row, kept-rows}, Stepping.asked-early, Looking.{early-still, mark-early, mark-next, looked-next}, Onward.{onward-ended, dMin-pos, dMin-dMax}, growing.early.Statement.statement}
+use Rattle.verdict.proofs.{Asked.askedBy-le, KeptRows.{kept-row, kept-rows}, Stepping.asked-early, Looking.{early-still, mark-early, mark-next, looked-next}, Onward.{onward-ended, leewayMin-pos, leewayMin-dMax}, growing.early.Statement.statement}
 use Rattle.laws.proofs.Lawful.{dMax-le}
 use Rattle.verdict.proofs.growing.early.Tie as tie
 
@@ -50,14 +50,14 @@ marks c = c .before .before .before
 sub-steps-after : tie.Need-sub-steps-after Inv-loop μ-loop
 sub-steps-after c =
     let least = c .before .before .before .before .before in
-    omega (arith, least .smallest-d .ensures, dMin-pos (least .before .args .p) (least .before .pre))
+    omega (arith, least .smallest-leeway .ensures, leewayMin-pos (least .before .args .p) (least .before .pre))
 
 steps-after-requires : tie.Need-steps-after-requires Inv-loop μ-loop
 steps-after-requires c κs =
     let least = c .before .before .before .before .before in
     let p = least .before .args .p in
     let ready = least .before .pre in
-    (ready, omega (arith, least .smallest-d .ensures, dMin-dMax p ready, dMax-le p (ready .lawful)))
+    (ready, omega (arith, least .smallest-leeway .ensures, leewayMin-dMax p ready, dMax-le p (ready .lawful)))
 
 loop-holds : tie.Need-loop-holds Inv-loop μ-loop
 unfolding quickPairs
@@ -65,18 +65,18 @@ loop-holds c =
     let top = c .before .before .before .before .before .before .before in
     let p = top .before .before .args .p in
     let ready = top .before .before .pre in
-    let first = top .before .smallest-d .result in
-    let least : first ≡ dMin p = top .before .smallest-d .ensures in
-    let some = dMin-pos p ready in
-    let low : dMin p ≤ 1000 = omega (arith, dMin-dMax p ready, dMax-le p (ready .lawful)) in
+    let first = top .before .smallest-leeway .result in
+    let least : first ≡ leewayMin p = top .before .smallest-leeway .ensures in
+    let some = leewayMin-pos p ready in
+    let low : leewayMin p ≤ 1000 = omega (arith, leewayMin-dMax p ready, dMax-le p (ready .lawful)) in
     let before : (x w : ℕ) → w < first → askedBy p x w ≡ 0 = λ x w h. asked-early p x w (omega arith) in
     let none : (i : ℕ) (xs : List ℕ) → i ≤ 1000 → xs ≡ replicate 1024 0 → getD xs i 0 ≡ 0 =
     λ i xs h e. ap (λ ys. getD ys i 0) e ∙ getD-replicate 1024 i 0 0 (omega arith) in
     let end = dMax p + multipleOf p in
-    let skipped = kept-rows p (grows p) 1 first end (omega arith) (omega (arith, dMin-dMax p ready))
+    let skipped = kept-rows p (grows p) 1 first end (omega arith) (omega (arith, leewayMin-dMax p ready))
     (λ w b one below held. early-still p (ready .lawful) w b one (omega arith)) in (
       omega arith,
-      omega (arith, top .largest-d .ensures, dMin-dMax p ready),
+      omega (arith, top .largest-d .ensures, leewayMin-dMax p ready),
       omega arith,
       c .before .before .steps-after .ensures,
       sym (before 0 (first - 1) (omega arith)),
@@ -150,7 +150,7 @@ row-requires c κs =
       grown = step marked .advance .ensures .1 .0;
       looked = looked marked;
     } in
-    (start here .pre, (last here .before .smallest-d .ensures, (last here .largest-d .ensures, (known, here .loop .inv .2))))
+    (start here .pre, (last here .before .smallest-leeway .ensures, (last here .largest-d .ensures, (known, here .loop .inv .2))))
 
 -- a row and the rows after it
 abbrev rest : (c : tie.After-row Inv-loop μ-loop) → List Pair

@@ -1,13 +1,13 @@
 -- `verdict::growing::late` meets its contract: a walk from step to step, with the count of pairs before it, finds what a walk over all
 -- finds.
-use Rattle.base.proofs.Prelude.{_+_, _-_, _*_, _≤_, _<_, _≡_, sym, ap, _∙_, true, arith}
+use Rattle.base.proofs.Prelude.{ℕ, _+_, _-_, _*_, _≤_, _<_, _≡_, sym, ap, _∙_, true, List, arith}
 use Rattle.days.specs.Days.{days}
 use Rattle.rules.specs.{declared.Verdict.the-variants.Fail, Plan.{multipleOf, dMax}, Demand.demand}
 use Rattle.base.specs.Count.{keep}
 use Rattle.demand.proofs.Pairs.{pair, rows, scanFrom}
 use Rattle.demand.specs.Quick.{grows}
 use Rattle.verdict.specs.{inner.Asked.askedBy, inner.Steps.Due}
-use Rattle.verdict.proofs.{Asked.askedBy-le, Onward.{Onto, onto-soonest, dMax-pos, dMax-grows, demand-unblocked, onward-bad, onward-good, onward-end}, growing.late.Statement.statement}
+use Rattle.verdict.proofs.{Asked.askedBy-le, Onward.{Onto, onto-soonest, dMax-pos, demand-unblocked, onward-start, onward-bad, onward-good, onward-end}, growing.late.Statement.statement}
 use Rattle.laws.proofs.Lawful.{dMax-le}
 use Rattle.verdict.proofs.growing.late.Tie as tie
 
@@ -27,7 +27,7 @@ abbrev μ-loop : tie.MeasureT-loop
 
 -- what is known at a turn: where it starts, the largest D, the interval it comes to
 abbrev last : tie.At-loop Inv-loop μ-loop → tie.After-largest-d Inv-loop μ-loop
-last c = c .before .before .before .before .before .before .before .before
+last c = c .before .before .before .before .before .before .before .before .before
 
 abbrev start : tie.At-loop Inv-loop μ-loop → tie.Start Inv-loop μ-loop
 start c = last c .before
@@ -37,6 +37,12 @@ turn c = c .before .before .before .before .before
 
 abbrev at : tie.After-advance Inv-loop μ-loop → tie.At-loop Inv-loop μ-loop
 at c = turn c .before
+
+abbrev most : tie.After-first-step Inv-loop μ-loop → tie.After-largest-d Inv-loop μ-loop
+most c = c .before .before .before .before .before .before .before .before
+
+abbrev begin : tie.After-first-step Inv-loop μ-loop → tie.Start Inv-loop μ-loop
+begin c = most c .before
 
 add-end : tie.Need-add-end Inv-loop μ-loop
 add-end c =
@@ -75,30 +81,49 @@ add-demand c =
       askedBy-le p 1 l lawful low,
     )
 
+first-step-requires : tie.Need-first-step-requires Inv-loop μ-loop
+first-step-requires c κs =
+    let most = c .before .before .before .before .before .before .before in
+    (most .before .pre .0, short most)
+
+-- the walk starts at the first step from the largest D on
+from :
+    (c : tie.After-first-step Inv-loop μ-loop) (next : List ℕ) → Due (begin c .args .p) (most c .largest-d .result - 1) next
+    → Onto (begin c .args .p) (most c .largest-d .result - 1) (most c .largest-d .result + begin c .args .h) (c .first-step .result) next
+from c next due =
+    let ready = begin c .pre .0 in
+    let before-end : most c .largest-d .result - 1 < most c .largest-d .result + begin c .args .h = omega (arith, some (most c)) in
+    onto-soonest (begin c .args .p) ready _ _ _ next before-end (c .first-step .ensures) due
+
 loop-holds : tie.Need-loop-holds Inv-loop μ-loop
 loop-holds c =
-    let top = c .before .before .before .before .before .before .before in
-    let begin = top .before in
-    let p = begin .args .p in
-    let ready = begin .pre .0 in
-    let most = top .largest-d .ensures in
-    let left : top .largest-d .result + begin .args .h - top .largest-d .result ≡ multipleOf p = omega (arith, begin .pre .1 .0) in (
-      omega (arith, most),
-      omega arith,
-      omega (arith, most, begin .pre .1 .0, ready .lawful .hMax, dMax-le p (ready .lawful)),
-      omega (arith, most, begin .pre .1 .1),
-      c .before .before .steps-after .ensures,
-      omega (arith, c .before .work-within .ensures .0, c .before .work-within .ensures .1),
-      λ h. ap (λ l. grows p (pair l 0)) most ∙ dMax-grows p ready,
-      ap (λ m. scanFrom p (begin .args .before) (keep (grows p) (rows p (top .largest-d .result) m))) left
-          ∙ ap (λ l. scanFrom p (begin .args .before) (keep (grows p) (rows p l (multipleOf p)))) most,
+    let p = begin c .args .p in
+    let lawful = begin c .pre .0 .lawful in
+    let last = most c .largest-d .result in
+    let top : last ≡ dMax p = most c .largest-d .ensures in
+    let pos = some (most c) in
+    let work = c .before .before .work-within .ensures in
+    let there = from c _ (c .before .before .before .steps-after .ensures) in
+    let past = there .past in
+    let left : last + begin c .args .h - last ≡ multipleOf p = omega (arith, begin c .pre .1 .0) in (
+      omega (arith, top),
+      there .within,
+      omega (arith, top, begin c .pre .1 .0, lawful .hMax, dMax-le p lawful),
+      omega (arith, top, begin c .pre .1 .1),
+      there .due,
+      omega (arith, work .0, work .1, there .asked 0, there .asked 1),
+      there .looked,
+      sym (onward-start p (begin c .args .before) last _ _ (omega (arith, top)) (omega arith) (there .within)
+          (λ w low high. there .still w (omega arith) high))
+          ∙ ap (λ m. scanFrom p (begin c .args .before) (keep (grows p) (rows p last m))) left
+          ∙ ap (λ l. scanFrom p (begin c .args .before) (keep (grows p) (rows p l (multipleOf p)))) top,
     )
 
 advance-requires : tie.Need-advance-requires Inv-loop μ-loop
 advance-requires c κs =
     let here = c .before .before .before .before .before in
     let begin = start here in
-    let parts = here .before .before .before .before .before .before .before in
+    let parts = here .before .before .before .before .before .before .before .before in
     let pos : 1 ≤ here .loop .l = omega (arith, here .loop .inv .0, dMax-pos (begin .args .p) (begin .pre .0)) in
     (begin .pre .0, (pos, (omega arith, (parts .parts-of .ensures, here .loop .inv .4))))
 
@@ -186,7 +211,8 @@ late-spec =
     tie.close (tie.spec
     Inv-loop μ-loop (λ c κs. c .pre .0) add-end (λ c κs. c .before .pre .0)
     (λ c. some (c .before .before .before .before)) steps-after-requires
-    (λ c. some (c .before .before .before .before .before)) work-within-requires add-demand loop-holds advance-requires
+    (λ c. some (c .before .before .before .before .before)) work-within-requires add-demand
+    (λ c. some (c .before .before .before .before .before .before .before)) first-step-requires loop-holds advance-requires
     (λ c. omega (arith, sum (c .before), small (turn (c .before))))
     (λ c. omega (arith, sum (c .before), small (turn (c .before)))) add-pairs returns
     (λ c. omega (arith, onto (c .before .before) .past, onto (c .before .before) .within)) loop-again returns-2)

@@ -1,4 +1,4 @@
--- `verdict::limits::limit` meets its contract: before the smallest D and from the largest on nothing blocks.
+-- `verdict::limits::limit` meets its contract: before the smallest D − J and from the largest D on nothing blocks.
 use Rattle.base.proofs.Prelude.{sym, arith, needs}
 use Rattle.laws.proofs.Demand.{blockLimit-early, blockLimit-late, blockLimit-between}
 use Rattle.verdict.proofs.limits.limit.Statement.{statement}

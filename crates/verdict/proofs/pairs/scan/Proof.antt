@@ -62,7 +62,7 @@ pairs-holds c =
 limit-requires : tie.Need-limit-requires Inv-loop μ-loop Inv-pairs μ-pairs
 limit-requires c κs =
     let last = c .before .before .before in
-    (last .before .before .pre .0, (last .before .smallest-d .ensures, last .largest-d .ensures))
+    (last .before .before .pre .0, (last .before .smallest-leeway .ensures, last .largest-d .ensures))
 
 loop-holds : tie.Need-loop-holds Inv-loop μ-loop Inv-pairs μ-pairs
 loop-holds c =

@@ -12,7 +12,7 @@ abbrev μ-loop : tie.MeasureT-loop
 breaks-at-requires : tie.Need-breaks-at-requires Inv-loop μ-loop
 breaks-at-requires c κs =
     let least = c .before .before .before .before .before in
-    (least .before .pre, (least .smallest-d .ensures, c .before .before .before .before .largest-d .ensures))
+    (least .before .pre, (least .smallest-leeway .ensures, c .before .before .before .before .largest-d .ensures))
 
 returns : tie.Need-returns Inv-loop μ-loop
 returns c h = c .before .breaks-at .ensures (c .if1 .taken)

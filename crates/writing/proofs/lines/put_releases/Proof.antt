@@ -87,7 +87,7 @@ put-frame-requires c κs =
     let version = start o .args .version in
     let a = o .loop .i * version .release .line in
     rw (lent-part a (o .loop .part))
-    (line-room (c .release-cells .result) 4 (releaseFrame (meantBy version)) _ _ (c .release-cells .ensures) (omega arith)
+    (line-room (c .release-cells .result) 5 (releaseFrame (meantBy version)) _ _ (c .release-cells .ensures) (omega arith)
     (omega (arith, fits into, length-drop a (o .loop .part), release-line version (start o .pre .0))))
 
 loop-again : tie.Need-loop-again Inv-loop μ-loop
@@ -102,7 +102,7 @@ loop-again c =
     let i = o .loop .i in
     let made = c .before .before .before .release-cells in
     let this = getD-take (rs .count) (rs .list) i noRelease (omega arith) in
-    let put = line-put (made .result) 4 (releaseFrame v) (releaseSays (getD (rs .list) i noRelease)) _ _ (made .ensures)
+    let put = line-put (made .result) 5 (releaseFrame v) (releaseSays (getD (rs .list) i noRelease)) _ _ (made .ensures)
     (c .before .before .put-frame .ensures) in
     let part = o .loop .part in
     let a = i * version .release .line in

@@ -75,7 +75,7 @@ put-frame-requires c κs =
     let version = start o .args .version in
     let a = o .loop .i * version .string .line in
     rw (lent-part a (o .loop .part))
-    (line-room (c .string-cells .result) 6 (stringFrame (meantBy version)) _ _ (c .string-cells .ensures) (omega arith)
+    (line-room (c .string-cells .result) 7 (stringFrame (meantBy version)) _ _ (c .string-cells .ensures) (omega arith)
     (omega (arith, fits into, length-drop a (o .loop .part), string-line version (start o .pre .0))))
 
 loop-again : tie.Need-loop-again Inv-loop μ-loop
@@ -90,7 +90,7 @@ loop-again c =
     let i = o .loop .i in
     let made = c .before .before .before .string-cells in
     let this : getD (stringsOf p) i noString ≡ getD (p .strings) i noString = getD-take (p .n) (p .strings) i noString (omega arith) in
-    let put = line-put (made .result) 6 (stringFrame v) (stringSays (getD (p .strings) i noString)) _ _ (made .ensures)
+    let put = line-put (made .result) 7 (stringFrame v) (stringSays (getD (p .strings) i noString)) _ _ (made .ensures)
     (c .before .before .put-frame .ensures) in
     let part = o .loop .part in
     let a = i * version .string .line in

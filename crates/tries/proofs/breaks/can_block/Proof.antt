@@ -1,7 +1,7 @@
--- `tries::openings::can_block` meets its contract: D over l, and C over b.
+-- `tries::breaks::can_block` meets its contract: D over l, and C over b.
 use Rattle.base.proofs.Prelude.{lt-ltb, le-ltb}
-use Rattle.tries.proofs.openings.can_block.Statement.{statement}
-use Rattle.tries.proofs.openings.can_block.Tie as tie
+use Rattle.tries.proofs.breaks.can_block.Statement.{statement}
+use Rattle.tries.proofs.breaks.can_block.Tie as tie
 
 pub can-block-spec : {M : Type 1} → statement M
 can-block-spec =
