@@ -37,6 +37,11 @@ use Rattle.calendar.proofs.fits.Reads as fits
 use Rattle.lines.proofs.used_line.Reads as used-line
 use Rattle.lines.proofs.missed_line.Reads as missed-line
 use Rattle.lines.proofs.number_line.Reads as number-line
+use Rattle.boards.specs.{declared.Input.Input, declared.Board.Board, declared.Filled.Filled}
+use Rattle.boards.proofs.input_read.Reads as input-read
+use Rattle.boards.proofs.board_read.Reads as board-read
+use Rattle.boards.proofs.board_page.Reads as board-page
+use Rattle.boards.proofs.board_end.Reads as board-end
 use Rattle.rules.proofs.Plan.moving_cost.Reads as Plan-moving-cost
 use Rattle.rules.proofs.Plan.with_run.Reads as Plan-with-run
 use Rattle.rules.proofs.Verdict.passes.Reads as Verdict-passes
@@ -446,6 +451,23 @@ one-missed-line κs a e f r s h k = h .0 ∙ sym (k .0)
 
 pub one-number-line : (κs : Lfts 0) (a : _) (e f : _) (r s : Page) → number-line.Learnt κs a r e → number-line.Learnt κs a s f → r ≡ s
 one-number-line κs a e f r s h k = h .0 ∙ sym (k .0)
+
+pub one-input-read : (κs : Lfts 1) (a : _) (e f : _) (r s : Input) → input-read.Learnt κs a r e → input-read.Learnt κs a s f
+    → (r ≡ s) × (e .0 .now ≡ f .0 .now)
+one-input-read κs a e f r s h k = (h .0 ∙ sym (k .0), h .1 ∙ sym (k .1))
+
+pub one-board-read : (κs : Lfts 3) (a : _) (e f : _) (r s : Board) → board-read.Learnt κs a r e → board-read.Learnt κs a s f
+    → (r ≡ s) × (e .1 .1 .0 .now ≡ f .1 .1 .0 .now) × (e .0 .now ≡ f .0 .now) × (e .1 .0 .now ≡ f .1 .0 .now)
+one-board-read κs a e f r s h k =
+    (h .0 ∙ sym (k .0), h .1 .0 ∙ sym (k .1 .0), h .1 .1 .0 ∙ sym (k .1 .1 .0), h .1 .1 .1 ∙ sym (k .1 .1 .1))
+
+pub one-board-page : (κs : Lfts 2) (a : _) (e f : _) (r s : Filled) → board-page.Learnt κs a r e → board-page.Learnt κs a s f
+    → (r ≡ s) × (e .1 .1 .1 .0 .now ≡ f .1 .1 .1 .0 .now) × (e .1 .0 .now ≡ f .1 .0 .now)
+one-board-page κs a e f r s h k = (h .0 ∙ sym (k .0), h .1 .0 ∙ sym (k .1 .0), h .1 .1 ∙ sym (k .1 .1))
+
+pub one-board-end : (κs : Lfts 1) (a : _) (e f : _) (r s : ℕ) → board-end.Learnt κs a r e → board-end.Learnt κs a s f
+    → (r ≡ s) × (e .1 .0 .now ≡ f .1 .0 .now)
+one-board-end κs a e f r s h k = (h .0 ∙ sym (k .0), h .1 ∙ sym (k .1))
 
 -- entries: what is read and what is written to is lent
 pub one-desk-check : (κs : Lfts 2) (a : _) (e f : _) (r s : ℕ) → desk-check.Learnt κs a r e → desk-check.Learnt κs a s f

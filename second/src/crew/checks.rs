@@ -143,7 +143,7 @@ fn diaries(says: &Says) -> Cases {
         ("a test without its end", with("02-29 1", "10\n")),
         (
             "a test of edition 3 without its end",
-            with("02-29 3", "10\n"),
+            with("02-29 3", "11\n"),
         ),
         ("an empty line", with("\n", "10\n")),
         ("11 on an earlier line", with("02-29 3\n02-30 1\n", "11\n")),

@@ -49,16 +49,19 @@ fn text_of(line: &[u8]) -> Option<&str> {
     std::str::from_utf8(line.strip_suffix(b"\n")?).ok()
 }
 
-/// The test of a line, counted from 1. Its edition is asked for before its date and before how many lines there are.
+/// The test of a line, counted from 1. Its shape is that of its characters, whether its 0a stands behind them or not. Its edition is asked
+/// for before its date, its end and how many lines there are.
 fn test_of(calendar: &Calendar, line: &[u8], number: usize) -> Result<Test, usize> {
-    let text = text_of(line)
+    let characters = line.strip_suffix(b"\n").unwrap_or(line);
+    let text = std::str::from_utf8(characters)
+        .ok()
         .filter(|text| has_shape(text))
         .ok_or(NO_DATE)?;
     let (on, edition) = (text[..5].to_string(), text[6..].to_string());
     if edition != "1" && edition != "2" {
         return Err(NO_EDITION);
     }
-    if !calendar.has_yearly(&on) || number > MOST_TESTS {
+    if !calendar.has_yearly(&on) || !line.ends_with(b"\n") || number > MOST_TESTS {
         return Err(NO_DATE);
     }
     Ok(Test { on, edition })
