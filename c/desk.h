@@ -63,7 +63,11 @@ enum {
     DESK_RELEASE_UNLAWFUL = 8,  /* with the place in the list, from 1, of the first release that may not stand there; one that lacks a
                                    number is such a release */
     DESK_LIST_TOO_SHORT = 9,    /* a list has fewer places than five for each stint; with 0 */
-    DESK_NO_SUCH_DATE = 10      /* a date that does not exist, or a day outside the calendar; with 0 */
+    DESK_NO_SUCH_DATE = 10,     /* a date that does not exist, or a day outside the calendar; with 0 */
+    DESK_TEXT_TOO_LONG = 1,     /* a visit list of over 65,536 bytes; with 0 */
+    DESK_ROW_MALFORMED = 13,    /* a line of a visit list that is not three numbers; with its number */
+    DESK_VISIT_UNLAWFUL = 14,   /* with the number of the record */
+    DESK_SUM_DIFFERS = 15       /* with the place of the release in its list */
 };
 
 /* Whether a plan is lawful: DESK_LAWFUL, or DESK_REFUSED with 4, 5 or 6. */
@@ -98,6 +102,14 @@ uint32_t desk_run(const uint32_t *plan, size_t count, const uint32_t *releases, 
  * most 3 stints for each release and 1 more, so that DESK_STINT_LIST places are always enough. */
 uint32_t desk_stints(const uint32_t *plan, size_t count, const uint32_t *releases, size_t listed, uint32_t *list, size_t size,
                      uint64_t *out, size_t room);
+
+/* Whether a contractor's visit list is accepted for a plan and its releases: DESK_LAWFUL, or DESK_REFUSED with 4 to 8; then with 1 and 0 for a
+ * list of over 65,536 bytes; then with 13 and the number of the first line that is no visit; 14 and the number of the first record that breaks
+ * a rule on its own or against those before it; 15 and the first release whose visits do not add up. `visits` is a text of `length` bytes, a
+ * line for each visit: release (its place in the list of releases, from 1), first day and length in decimal, between commas, at most seven
+ * digits each without leading zeros, ended by CR LF. */
+uint32_t desk_check_visits(const uint32_t *plan, size_t count, const uint32_t *releases, size_t listed, const uint8_t *visits, size_t length,
+                           uint64_t *out, size_t room);
 
 /* The lines that ./desk writes for a plan file: `text` is the file, `length` bytes, and need not end in 0. The lines go to the head of
  * `page`, and their length is returned; the page's later bytes stay, and no 0 is put behind the lines. Where they do not fit into `size`

@@ -3,6 +3,7 @@
 
 #include <inttypes.h>
 #include <stdio.h>
+#include <string.h>
 
 #define COUNT(row) (sizeof(row) / sizeof *(row))
 
@@ -91,6 +92,11 @@ int main(int words, char **word) {
     for (size_t i = 0; i < COUNT(later); i++) later[i] = late_releases[i];
     later[4] = 4;
     say(desk_run(late_plan, COUNT(late_plan), later, COUNT(later), out, COUNT(out)), out);
+
+    puts("# a contractor's visits for the sample's releases: with a moving day for the second visit of release 1; without it; touching");
+    static const char *const lists[] = {"1,0,1\r\n2,1,3\r\n1,4,5\r\n", "1,0,1\r\n2,1,3\r\n1,4,4\r\n", "1,0,1\r\n1,1,4\r\n"};
+    for (size_t i = 0; i < COUNT(lists); i++)
+        say(desk_check_visits(plan, COUNT(plan), releases, COUNT(releases), (const uint8_t *)lists[i], strlen(lists[i]), out, COUNT(out)), out);
 
     puts("# day 366 and back; 29 February 2001");
     say(desk_date(366, out, COUNT(out)), out);

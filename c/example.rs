@@ -28,6 +28,16 @@ mod desk {
                 out: *mut u64,
                 room: usize,
             ) -> u32;
+            pub fn desk_check_visits(
+                plan: *const u32,
+                count: usize,
+                releases: *const u32,
+                listed: usize,
+                visits: *const u8,
+                length: usize,
+                out: *mut u64,
+                room: usize,
+            ) -> u32;
             pub fn desk_answer(text: *const u8, length: usize, page: *mut u8, size: usize) -> usize;
             pub fn desk_date(day: u32, out: *mut u64, room: usize) -> u32;
             pub fn desk_day(year: u32, month: u32, day: u32, out: *mut u64, room: usize) -> u32;
@@ -88,6 +98,21 @@ mod desk {
                 releases.len(),
                 list.as_mut_ptr(),
                 list.len(),
+                out,
+                room,
+            )
+        })
+    }
+
+    pub fn check_visits(plan: &[u32], releases: &[u32], visits: &[u8]) -> Told {
+        told(|out, room| unsafe {
+            entry::desk_check_visits(
+                plan.as_ptr(),
+                plan.len(),
+                releases.as_ptr(),
+                releases.len(),
+                visits.as_ptr(),
+                visits.len(),
                 out,
                 room,
             )
@@ -179,6 +204,11 @@ fn main() -> std::io::Result<()> {
     let mut later = LATE_RELEASES;
     later[4] = 4;
     say(desk::run(&LATE_PLAN, &later));
+
+    println!("# a contractor's visits for the sample's releases: with a moving day for the second visit of release 1; without it; touching");
+    for visits in ["1,0,1\r\n2,1,3\r\n1,4,5\r\n", "1,0,1\r\n2,1,3\r\n1,4,4\r\n", "1,0,1\r\n1,1,4\r\n"] {
+        say(desk::check_visits(&PLAN, &RELEASES, visits.as_bytes()));
+    }
 
     println!("# day 366 and back; 29 February 2001");
     say(desk::date(366));

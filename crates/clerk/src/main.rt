@@ -14,6 +14,7 @@ mod save;
 mod say;
 mod show;
 mod turn;
+mod visiting;
 mod words;
 
 use commands::same;

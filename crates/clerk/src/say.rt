@@ -1,4 +1,5 @@
 // What the clerk writes: a refusal is an answer, on standard output; a complaint is one line on standard error. Each says how it ended.
+use days::Day;
 use faults::Fault;
 use libc::STDERR_FILENO;
 use libc::STDOUT_FILENO;
@@ -96,5 +97,13 @@ pub(crate) fn refused_file(name: &[u8]) -> u8 {
 // Why the list of days is empty; that it is, is the answer.
 pub(crate) fn empty(why: &[u8], day: &[u8]) -> u8 {
     say(why, day, b"");
+    ANSWERED
+}
+
+// The run misses on that day: what was written ends with the day before.
+pub(crate) fn up_to(day: Day) -> u8 {
+    io::write_all(STDERR_FILENO, b"clerk: the run misses: visits up to day ");
+    io::print_decimal(STDERR_FILENO, day.0 as u64);
+    io::write_all(STDERR_FILENO, b"\n");
     ANSWERED
 }

@@ -13,6 +13,8 @@ use super::save::save;
 use super::say;
 use super::show::show;
 use super::turn::turn;
+use super::visiting::check_visits;
+use super::visiting::own_visits;
 
 pub(crate) fn answer(command: &[u8]) -> u8 {
     let first = word(command, 0);
@@ -30,6 +32,10 @@ pub(crate) fn answer(command: &[u8]) -> u8 {
         show_run(command)
     } else if same(first, b"show") {
         show(command)
+    } else if same(first, b"visits") {
+        own_visits(command)
+    } else if same(first, b"check-visits") {
+        check_visits(command)
     } else if same(first, b"same") {
         same_strings(command)
     } else if same(first, b"to-02") {
@@ -52,7 +58,15 @@ pub(crate) fn answer(command: &[u8]) -> u8 {
 }
 
 fn help() -> u8 {
-    let end = say::answer(b"date YYYY-MM-DD         the day number and the weekday of a date\n");
+    let end = say::answer(b"check-visits FILE VISITS\n");
+    let end = say::more(
+        end,
+        b"                        whether a contractor's visit list is accepted for the plan in FILE\n",
+    );
+    let end = say::more(
+        end,
+        b"date YYYY-MM-DD         the day number and the weekday of a date\n",
+    );
     let end = say::more(
         end,
         b"day NUMBER              the date and the weekday of a day number\n",
@@ -117,6 +131,10 @@ fn help() -> u8 {
     let end = say::more(
         end,
         b"to-02 [FILE]            write the version 01 file FILE as version 02\n",
+    );
+    let end = say::more(
+        end,
+        b"visits [FILE]           the visits of our own run of the plan in FILE: release,first day,length\n",
     );
     let end = say::more(end, b"yearly MM-DD EDITION FIRST LAST\n");
     let end = say::more(

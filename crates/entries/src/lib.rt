@@ -19,6 +19,7 @@ use told::stinted_row;
 use told::tell;
 use told::tell_text;
 use told::verdict_row;
+use visits::check_visit_text;
 ghost use mathlib.Core.Path.{_≡_};
 ghost use Prim.Native.Nat.{_≤_};
 ghost use lib.ListN.{length};
@@ -30,6 +31,7 @@ ghost use Rattle.rules.specs.Answer.{answerOf};
 ghost use Rattle.rules.specs.Lines.{linesFor};
 ghost use Rattle.demand.specs.Quick.{quickAnswer};
 ghost use Rattle.calendar.specs.Refusals.{dateAnswer, dayAnswer};
+ghost use Rattle.visits.specs.Texts.{visitTextCheck};
 ghost use Rattle.entries.specs.Given.{planGiven, releasesGiven, dateGiven};
 ghost use Rattle.lines.specs.Pages.{lengthTold, pageTold};
 ghost use Rattle.entries.specs.Told.{rowOf, stintedRow, dateRow, dayRow, kindTold, placesTold, listTold};
@@ -144,6 +146,30 @@ pub extern "C" fn desk_stints(
     }
     let listed = run::stints(plan_given(plan), releases_given(releases), list);
     tell(stinted_row(listed), out)
+}
+
+// Whether a contractor's visit list is accepted for a plan and a list of releases. The list is a text, a line for each visit.
+#[no_mangle]
+pub extern "C" fn desk_check_visits(
+    plan: &[u32],
+    releases: &[u32],
+    visits: &[u8],
+    out: &mut [u64],
+) -> u32
+    ensures exact { λ r. ⌜ r ≡ kindTold
+        (rowOf (checkedSays (visitTextCheck (planGiven (now (plan .entry))) (releasesGiven (now (releases .entry))) (now (visits .entry)))))
+        (now (out .entry)) ⌝ }
+    ensures out { λ r. ⌜ now (out .exit) ≡ placesTold
+        (rowOf (checkedSays (visitTextCheck (planGiven (now (plan .entry))) (releasesGiven (now (releases .entry))) (now (visits .entry)))))
+        (now (out .entry)) ⌝ }
+    ensures plan { λ r. ⌜ now (plan .exit) ≡ now (plan .entry) ⌝ }
+    ensures releases { λ r. ⌜ now (releases .exit) ≡ now (releases .entry) ⌝ }
+    ensures visits { λ r. ⌜ now (visits .exit) ≡ now (visits .entry) ⌝ }
+{
+    tell(
+        checked_row(check_visit_text(plan_given(plan), releases_given(releases), visits)),
+        out,
+    )
 }
 
 // The lines that the desk writes for a plan file. 256 bytes hold them, whatever the file.

@@ -4,4 +4,5 @@ pub mod Shown
 pub mod Stints
 pub mod Same
 pub mod Board
+pub mod Visits
 pub mod inner

@@ -21,6 +21,7 @@ use parts::assign_line;
 use parts::outcome_line;
 use parts::verdict_line;
 pub use rows::row_line;
+pub use rows::visit_line;
 use rules::Answer;
 use rules::AskedOutcome;
 use rules::AskedVerdict;

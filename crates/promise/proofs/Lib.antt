@@ -3,7 +3,8 @@
 -- undo each other. Register: so do those of the asset register's table. Turning: version 01 to 02 and back. OtherVersion, Refused: which
 -- number is given exactly when. AnyOrder: the order of
 -- the list, and whether two plans hold the same strings. Easing: a plan made easier still passes. PlanShown: a plan in decimal words.
--- Stints: the days of a run, stretch by stretch. CrewBoard: those days on the crew's board.
+-- Stints: the days of a run, stretch by stretch. Visits: the contractor's visit list. CrewBoard:
+-- the days of a run on the crew's board.
 -- ToldPrograms: demand 3 of what a C program is told. ShutOut, OnlyOne: what the contracts rule out.
 pub mod UserWords
 pub mod QuickAgrees
@@ -18,6 +19,7 @@ pub mod AnyOrder
 pub mod Easing
 pub mod PlanShown
 pub mod Stints
+pub mod Visits
 pub mod CrewBoard
 pub mod Missed
 pub mod ShutOut

@@ -6,7 +6,7 @@
 use Rattle.base.proofs.Prelude.{_≡_, sym, _∙_, Bool, ℕ, List}
 use Rattle.days.specs.{declared.Later.Later, declared.Gap.Gap, declared.Length.Length}
 use Rattle.faults.specs.declared.Checked.{Checked}
-use Rattle.rules.specs.{declared.Reading.Reading, declared.AskedVerdict.AskedVerdict, declared.AskedBroken.AskedBroken, declared.AskedAssign.AskedAssign, declared.AskedOutcome.AskedOutcome, declared.Figures.Figures, declared.Answer.Answer, declared.Job.Job, declared.Slot.Slot, declared.Use.Use, declared.Stint.Stint, declared.Stinted.Stinted, declared.Plan.Plan}
+use Rattle.rules.specs.{declared.Reading.Reading, declared.AskedVerdict.AskedVerdict, declared.AskedBroken.AskedBroken, declared.AskedAssign.AskedAssign, declared.AskedOutcome.AskedOutcome, declared.Figures.Figures, declared.Answer.Answer, declared.Job.Job, declared.Slot.Slot, declared.Use.Use, declared.Stint.Stint, declared.Stinted.Stinted, declared.Plan.Plan, declared.Releases.Releases}
 use Rattle.lines.specs.declared.Page.{Page}
 use Rattle.calendar.specs.{declared.Date.Date, declared.WhichDate.WhichDate, declared.WhichDay.WhichDay, declared.WhichWeekday.WhichWeekday, declared.WhichYearly.WhichYearly, declared.WhichEdition.WhichEdition, declared.Listed.Listed, declared.DateText.DateText, declared.YearlyText.YearlyText}
 use Rattle.missed.specs.declared.Missed.{Missed}
@@ -37,6 +37,13 @@ use Rattle.calendar.proofs.fits.Reads as fits
 use Rattle.lines.proofs.used_line.Reads as used-line
 use Rattle.lines.proofs.missed_line.Reads as missed-line
 use Rattle.lines.proofs.number_line.Reads as number-line
+use Rattle.lines.proofs.visit_line.Reads as visit-line
+use Rattle.register.specs.declared.LineRead.{LineRead}
+use Rattle.register.proofs.three_at.Reads as three-at
+use Rattle.visits.specs.{declared.Visit.Visit, declared.OwnVisits.OwnVisits, Visits.visitsCheck}
+use Rattle.visits.proofs.own_visits.Reads as own-visits
+use Rattle.visits.proofs.check_visit_text.Reads as check-visit-text
+use Rattle.visits.proofs.check_visit_files.Reads as check-visit-files
 use Rattle.boards.specs.{declared.Input.Input, declared.Board.Board, declared.Filled.Filled}
 use Rattle.boards.proofs.input_read.Reads as input-read
 use Rattle.boards.proofs.board_read.Reads as board-read
@@ -116,6 +123,7 @@ use Rattle.entries.proofs.desk_quick.Reads as desk-quick
 use Rattle.entries.proofs.desk_search.Reads as desk-search
 use Rattle.entries.proofs.desk_run.Reads as desk-run
 use Rattle.entries.proofs.desk_stints.Reads as desk-stints
+use Rattle.entries.proofs.desk_check_visits.Reads as desk-check-visits
 use Rattle.entries.proofs.desk_answer.Reads as desk-answer
 use Rattle.entries.proofs.desk_date.Reads as desk-date
 use Rattle.entries.proofs.desk_day.Reads as desk-day
@@ -452,6 +460,30 @@ one-missed-line κs a e f r s h k = h .0 ∙ sym (k .0)
 pub one-number-line : (κs : Lfts 0) (a : _) (e f : _) (r s : Page) → number-line.Learnt κs a r e → number-line.Learnt κs a s f → r ≡ s
 one-number-line κs a e f r s h k = h .0 ∙ sym (k .0)
 
+pub one-visit-line : (κs : Lfts 0) (a : _) (e f : _) (r s : Page) → visit-line.Learnt κs a r e → visit-line.Learnt κs a s f → r ≡ s
+one-visit-line κs a e f r s h k = h .0 ∙ sym (k .0)
+
+pub one-three-at : (κs : Lfts 1) (a : _) (e f : _) (r s : LineRead) → three-at.Learnt κs a r e → three-at.Learnt κs a s f
+    → (r ≡ s) × (e .0 .now ≡ f .0 .now)
+one-three-at κs a e f r s h k = (h .0 ∙ sym (k .0), h .1 ∙ sym (k .1))
+
+-- visits: `check_visits` is lent a slice of structs, of which the kit exports no contract to cite: its clause is written out
+-- (visits/src/lib.rt); xs and ys are the records of the list at the two returns
+pub one-check-visits : (p : Plan) (rs : Releases) (vs xs ys : List Visit) (r s : Checked) → (r ≡ visitsCheck p rs vs) × (xs ≡ vs)
+    → (s ≡ visitsCheck p rs vs) × (ys ≡ vs) → (r ≡ s) × (xs ≡ ys)
+one-check-visits p rs vs xs ys r s h k = (h .0 ∙ sym (k .0), h .1 ∙ sym (k .1))
+
+pub one-own-visits : (κs : Lfts 0) (a : _) (e f : _) (r s : OwnVisits) → own-visits.Learnt κs a r e → own-visits.Learnt κs a s f → r ≡ s
+one-own-visits κs a e f r s h k = h ∙ sym k
+
+pub one-check-visit-text : (κs : Lfts 1) (a : _) (e f : _) (r s : Checked) → check-visit-text.Learnt κs a r e
+    → check-visit-text.Learnt κs a s f → (r ≡ s) × (e .1 .1 .0 .now ≡ f .1 .1 .0 .now)
+one-check-visit-text κs a e f r s h k = (h .0 ∙ sym (k .0), h .1 ∙ sym (k .1))
+
+pub one-check-visit-files : (κs : Lfts 2) (a : _) (e f : _) (r s : Checked) → check-visit-files.Learnt κs a r e
+    → check-visit-files.Learnt κs a s f → (r ≡ s) × (e .0 .now ≡ f .0 .now) × (e .1 .0 .now ≡ f .1 .0 .now)
+one-check-visit-files κs a e f r s h k = (h .0 ∙ sym (k .0), h .1 .0 ∙ sym (k .1 .0), h .1 .1 ∙ sym (k .1 .1))
+
 pub one-input-read : (κs : Lfts 1) (a : _) (e f : _) (r s : Input) → input-read.Learnt κs a r e → input-read.Learnt κs a s f
     → (r ≡ s) × (e .0 .now ≡ f .0 .now)
 one-input-read κs a e f r s h k = (h .0 ∙ sym (k .0), h .1 ∙ sym (k .1))
@@ -498,6 +530,18 @@ one-desk-search κs a e f r s h k = (h .0 ∙ sym (k .0), h .1 .0 ∙ sym (k .1 
 pub one-desk-run : (κs : Lfts 3) (a : _) (e f : _) (r s : ℕ) → desk-run.Learnt κs a r e → desk-run.Learnt κs a s f
     → (r ≡ s) × (e .1 .1 .0 .now ≡ f .1 .1 .0 .now) × (e .0 .now ≡ f .0 .now) × (e .1 .0 .now ≡ f .1 .0 .now)
 one-desk-run κs a e f r s h k = (h .0 ∙ sym (k .0), h .1 .0 ∙ sym (k .1 .0), h .1 .1 .0 ∙ sym (k .1 .1 .0), h .1 .1 .1 ∙ sym (k .1 .1 .1))
+
+pub one-desk-check-visits : (κs : Lfts 4) (a : _) (e f : _) (r s : ℕ) → desk-check-visits.Learnt κs a r e
+    → desk-check-visits.Learnt κs a s f
+    → (r ≡ s) × (e .1 .1 .1 .0 .now ≡ f .1 .1 .1 .0 .now) × (e .0 .now ≡ f .0 .now) × (e .1 .0 .now ≡ f .1 .0 .now)
+    × (e .1 .1 .0 .now ≡ f .1 .1 .0 .now)
+one-desk-check-visits κs a e f r s h k = (
+  h .0 ∙ sym (k .0),
+  h .1 .0 ∙ sym (k .1 .0),
+  h .1 .1 .0 ∙ sym (k .1 .1 .0),
+  h .1 .1 .1 .0 ∙ sym (k .1 .1 .1 .0),
+  h .1 .1 .1 .1 ∙ sym (k .1 .1 .1 .1),
+)
 
 pub one-desk-stints : (κs : Lfts 4) (a : _) (e f : _) (r s : ℕ) → desk-stints.Learnt κs a r e → desk-stints.Learnt κs a s f
     → (r ≡ s) × (e .1 .1 .1 .0 .now ≡ f .1 .1 .1 .0 .now) × (e .1 .1 .0 .now ≡ f .1 .1 .0 .now) × (e .0 .now ≡ f .0 .now)

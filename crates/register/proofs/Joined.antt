@@ -1,6 +1,6 @@
 -- Fields with commas between them, and the fields of such a text: each says the other.
 --     commaed fields tail    the fields, a comma between each two, and what stands behind them
-use Rattle.base.proofs.Prelude.{ℕ, _+_, _*_, _≤_, _≡_, refl, sym, ap, _∙_, true, false, not, List, [], _∷_, _++_, append-assoc, append-nil, arith, eqb-true, eqb, length, take, getD, length-append, take-append-seam}
+use Rattle.base.proofs.Prelude.{ℕ, suc, _+_, _*_, _≤_, _≡_, refl, sym, ap, _∙_, true, false, not, List, [], _∷_, _++_, append-assoc, append-nil, arith, eqb-true, eqb, length, take, getD, length-append, take-append-seam}
 use Rattle.base.specs.Count.{All}
 use Rattle.base.proofs.{Lists.by-bool, Order.all-append}
 use Rattle.register.specs.Table.{comma, inFront, fieldsOf}
@@ -71,10 +71,15 @@ commaed-all P c (f ∷ []) each tail h = all-append P f tail (each .0) h
 commaed-all P c (f ∷ g ∷ fields) each tail h =
     all-append P f (comma ∷ commaed (g ∷ fields) tail) (each .0) (c, commaed-all P c (g ∷ fields) (each .1) tail h)
 
--- fields of four bytes at most
-pub commaed-long : (fields : List (List ℕ)) → All (λ f. length f ≤ 4) fields → (tail : List ℕ)
-    → length (commaed fields tail) ≤ length fields * 5 + length tail
-commaed-long [] h tail = omega arith
-commaed-long (f ∷ []) h tail = omega (arith, h .0, length-append f tail)
-commaed-long (f ∷ g ∷ fields) h tail =
-    omega (arith, h .0, length-append f (comma ∷ commaed (g ∷ fields) tail), commaed-long (g ∷ fields) (h .1) tail)
+-- fields of so many bytes at most
+pub commaed-long : (most : ℕ) (fields : List (List ℕ)) → All (λ f. length f ≤ most) fields → (tail : List ℕ)
+    → length (commaed fields tail) ≤ length fields * suc most + length tail
+commaed-long most [] h tail = omega arith
+commaed-long most (f ∷ []) h tail = omega (arith, h .0, length-append f tail)
+commaed-long most (f ∷ g ∷ fields) h tail =
+    omega (
+      arith,
+      h .0,
+      length-append f (comma ∷ commaed (g ∷ fields) tail),
+      commaed-long most (g ∷ fields) (h .1) tail,
+    )

@@ -1,14 +1,13 @@
--- Numbers of one to four decimal digits without leading zeros: what decides that a field is one, and which.
+-- Numbers of a few decimal digits without leading zeros: what decides that a field is one, and which.
 use Rattle.base.proofs.Prelude.{ℕ, zero, suc, _+_, _-_, _*_, _^_, _≤_, _<_, _≡_, refl, sym, ap, _∙_, Bool, true, false, not, _&&_, _||_, List, [], _∷_, arith, decLe, add-one, pow-suc, le-leb, lt-leb, eq-eqb, ne-eqb, eqb, leb, length, getD, drop, drop-cons, drop-of-length-le}
-use native.Mathlib.Nat.{pow-zero}
+use native.Mathlib.Nat.{pow-zero, pow-le-pow-right}
 use Rattle.base.specs.{Count.{All, every}, Digits.{numberOn, decimalOn, decimalIn}}
 use Rattle.base.proofs.Lists.{by-bool, and-left, and-right, all-of-every}
 use Rattle.faults.proofs.Checks.{inBounds-low, inBounds-high, inBounds-yes}
 use Rattle.register.specs.{Table.{isFigure, plainNumber}, inner.Fields.{lead, numberOr}}
 
--- ---- Fields that are none
+-- ---- Of three tests one fails
 
--- of three tests one fails
 and-last : (a b : Bool) → (a && b && false) ≡ false
 and-last true true = refl
 and-last true false = refl
@@ -19,30 +18,9 @@ and-middle : (a c : Bool) → (a && false && c) ≡ false
 and-middle true c = refl
 and-middle false c = refl
 
+-- ---- The first digit
+
 module _ (field : List ℕ) where
-  other : plainNumber field ≡ false → 10000 ≡ numberOr field
-  unfolding numberOr
-  other e = rw e
-
-  pub number-empty : length field < 1 → 10000 ≡ numberOr field
-  number-empty h = other (unfold plainNumber in rw (lt-leb 1 (length field) h))
-
-  pub number-long : 4 < length field → 10000 ≡ numberOr field
-  number-long h = other (unfold plainNumber in rw (le-leb 1 (length field) (omega arith), lt-leb (length field) 4 h))
-
-  zero-first : lead field ≡ false → plainNumber field ≡ false
-  unfolding plainNumber
-  zero-first none = rw none (and-middle (leb 1 (length field) && leb (length field) 4) (every isFigure field))
-
-  pub number-zero : lead field ≡ false → 10000 ≡ numberOr field
-  number-zero none = other (zero-first none)
-
-  pub number-other : every isFigure field ≡ false → 10000 ≡ numberOr field
-  number-other e =
-      other (unfold plainNumber in rw e (and-last (leb 1 (length field) && leb (length field) 4) (lead field)))
-
-  -- ---- And one that is
-
   pub lead-few : length field < 2 → true ≡ lead field
   lead-few h = few field h
     where
@@ -54,9 +32,36 @@ module _ (field : List ℕ) where
   pub lead-many : 2 ≤ length field → not (eqb (getD field 0 0) 0x30) ≡ lead field
   lead-many h = rw (ne-eqb (length field) 1 (λ e. omega arith))
 
-  pub number-is : 1 ≤ length field → length field ≤ 4 → lead field ≡ true → every isFigure field ≡ true → decimalIn field ≡ numberOr field
+-- ---- A field that is none
+
+module _ (most : ℕ) (field : List ℕ) where
+  other : plainNumber most field ≡ false → 1000000000 ≡ numberOr most field
+  unfolding numberOr
+  other e = rw e
+
+  pub number-empty : length field < 1 → 1000000000 ≡ numberOr most field
+  number-empty h = other (unfold plainNumber in rw (lt-leb 1 (length field) h))
+
+  pub number-long : most < length field → 1000000000 ≡ numberOr most field
+  number-long h = other (unfold plainNumber in rw (le-leb 1 (length field) (omega arith), lt-leb (length field) most h))
+
+  zero-first : lead field ≡ false → plainNumber most field ≡ false
+  unfolding plainNumber
+  zero-first none = rw none (and-middle (leb 1 (length field) && leb (length field) most) (every isFigure field))
+
+  pub number-zero : lead field ≡ false → 1000000000 ≡ numberOr most field
+  number-zero none = other (zero-first none)
+
+  pub number-other : every isFigure field ≡ false → 1000000000 ≡ numberOr most field
+  number-other e =
+      other (unfold plainNumber in rw e (and-last (leb 1 (length field) && leb (length field) most) (lead field)))
+
+  -- ---- And one that is
+
+  pub number-is : 1 ≤ length field → length field ≤ most → lead field ≡ true → every isFigure field ≡ true
+      → decimalIn field ≡ numberOr most field
   unfolding numberOr plainNumber
-  number-is low high first figures = rw (le-leb 1 (length field) low, le-leb (length field) 4 high, first, figures)
+  number-is low high first figures = rw (le-leb 1 (length field) low, le-leb (length field) most high, first, figures)
 
 -- ---- Digit by digit
 
@@ -97,18 +102,14 @@ power-next n d i h k =
     let more = pow-suc 10 i in
     rw (add-one i) (omega arith)
 
-pub power-low : (i : ℕ) → i < 4 → 10 ^ i ≤ 1000
-power-low zero h = omega (arith, pow-zero 10)
-power-low (suc zero) h = omega arith
-power-low (suc (suc zero)) h = omega arith
-power-low (suc (suc (suc zero))) h = omega arith
-power-low (suc (suc (suc (suc i)))) h = absurd (omega arith)
+pub power-low : (i : ℕ) → i < 9 → 10 ^ i ≤ 100000000
+power-low i h =
+    let upto : i ≤ 8 = omega arith in
+    let some : 0 < 10 = omega arith in
+    let power : 10 ^ i ≤ 10 ^ 8 = pow-le-pow-right some upto in
+    power
 
-power-four : (i : ℕ) → i ≤ 4 → 10 ^ i ≤ 10000
-power-four zero h = omega (arith, pow-zero 10)
-power-four (suc i) h = omega (arith, pow-suc 10 i, power-low i (omega arith))
-
--- ---- Such a number is below 10,000
+-- ---- Such a number is below 1,000,000,000
 
 decimal-below : (n k : ℕ) (text : List ℕ) → All (λ b. isFigure b ≡ true) text → n < 10 ^ k → decimalOn n text < 10 ^ (k + length text)
 unfolding numberOn
@@ -121,46 +122,49 @@ decimal-below n k (b ∷ text) h small =
     let more : k + suc (length text) ≡ k + 1 + length text = omega arith in
     rw more (decimal-below (n * 10 + (b - 0x30)) (k + 1) text (h .1) (power-next n (b - 0x30) k small (omega arith)))
 
-module _ (field : List ℕ) where
+module _ (most : ℕ) (field : List ℕ) where
   abbrev short : Bool
-  short = leb 1 (length field) && leb (length field) 4
+  short = leb 1 (length field) && leb (length field) most
 
-  pub plain-short : plainNumber field ≡ true → (1 ≤ length field) × (length field ≤ 4)
+  pub plain-short : plainNumber most field ≡ true → (1 ≤ length field) × (length field ≤ most)
   unfolding plainNumber
   plain-short h =
       let both = and-left short (lead field) (and-left (short && lead field) (every isFigure field) h) in
-      (inBounds-low 1 (length field) 4 both, inBounds-high 1 (length field) 4 both)
+      (inBounds-low 1 (length field) most both, inBounds-high 1 (length field) most both)
 
-  pub plain-figures : plainNumber field ≡ true → every isFigure field ≡ true
+  pub plain-figures : plainNumber most field ≡ true → every isFigure field ≡ true
   unfolding plainNumber
   plain-figures h = and-right (short && lead field) (every isFigure field) h
 
-  pub plain-lead : plainNumber field ≡ true → lead field ≡ true
+  pub plain-lead : plainNumber most field ≡ true → lead field ≡ true
   unfolding plainNumber
   plain-lead h = and-right short (lead field) (and-left (short && lead field) (every isFigure field) h)
 
-  plain-below : plainNumber field ≡ true → decimalIn field < 10000
-  plain-below h =
+  plain-below : most ≤ 9 → plainNumber most field ≡ true → decimalIn field < 1000000000
+  plain-below few h =
       let sizes = plain-short h in
       let none : 0 + length field ≡ length field = omega arith in
       let below = decimal-below 0 0 field (all-of-every isFigure field (plain-figures h)) (omega (arith, pow-zero 10)) in
-      omega (arith, rw none at below, power-four (length field) (sizes .1))
+      let upto : length field ≤ 9 = omega (arith, sizes .1) in
+      let some : 0 < 10 = omega arith in
+      let power : 10 ^ length field ≤ 10 ^ 9 = pow-le-pow-right some upto in
+      omega (arith, rw none at below, power)
 
-  pub no-number : 10000 ≤ numberOr field → plainNumber field ≡ false
+  pub no-number : most ≤ 9 → 1000000000 ≤ numberOr most field → plainNumber most field ≡ false
   unfolding numberOr
-  no-number h =
-      by-bool (plainNumber field) (λ t. absurd (omega (arith, plain-below t, le-is (rw t at h)))) (λ e. e)
+  no-number few h =
+      by-bool (plainNumber most field) (λ t. absurd (omega (arith, plain-below few t, le-is (rw t at h)))) (λ e. e)
     where
-      le-is : 10000 ≤ decimalIn field → 10000 ≤ decimalIn field
+      le-is : 1000000000 ≤ decimalIn field → 1000000000 ≤ decimalIn field
       le-is k = k
 
-  pub a-number : numberOr field < 10000 → plainNumber field ≡ true
+  pub a-number : numberOr most field < 1000000000 → plainNumber most field ≡ true
   unfolding numberOr
-  a-number h = by-bool (plainNumber field) (λ t. t) (λ e. absurd (none (rw e at h)))
+  a-number h = by-bool (plainNumber most field) (λ t. t) (λ e. absurd (none (rw e at h)))
     where
-      none : 10000 < 10000 → ⊥
+      none : 1000000000 < 1000000000 → ⊥
       none k = omega arith
 
-  pub number-said : plainNumber field ≡ true → numberOr field ≡ decimalIn field
+  pub number-said : plainNumber most field ≡ true → numberOr most field ≡ decimalIn field
   unfolding numberOr
   number-said t = rw t

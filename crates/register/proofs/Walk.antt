@@ -1,11 +1,12 @@
--- Line after line: where the next line starts, and what is given of each.
+-- Line after line: where the next line starts, and what is read and given of each.
 --     firstLine xs          the first line of a text that has one
-use Rattle.base.proofs.Prelude.{ℕ, zero, suc, _+_, _-_, _≤_, _<_, _≡_, refl, sym, ap, _∙_, true, false, cond, List, [], _∷_, _++_, arith, add-one, decLe, lt-ltb, le-ltb, ltb, length, take, drop, length-drop, length-take-le, drop-of-length-le, drop-drop, take-all, le-refl, take-suc, take-append-drop}
+use Rattle.base.proofs.Prelude.{ℕ, zero, suc, _+_, _-_, _≤_, _<_, _≡_, refl, sym, ap, _∙_, true, false, cond, List, [], _∷_, _++_, map, arith, add-one, decLe, lt-ltb, le-ltb, ltb, length, take, drop, length-drop, length-take-le, drop-of-length-le, drop-drop, take-all, le-refl, take-suc, take-append-drop}
 use denote.Enum.Declared.{tagOf}
 use types.Run.{OneOf, miss}
-use Rattle.base.proofs.Lists.{by-bool}
+use Rattle.base.specs.{Count.filled, Digits.decimalIn}
+use Rattle.base.proofs.Lists.{by-bool, true-not-false}
 use Rattle.rules.specs.{declared.BatteryString.BatteryString, Text.{Line, linesOf}}
-use Rattle.register.specs.{declared.Row.Row, declared.Row.the-variants.{End, Malformed, Says}, Table.{rowFormed, rowString}, Reader.{lineLong, rowGiven, rowAt, nextOf, asked, rowsGiven}, inner.Fields.bytesAhead}
+use Rattle.register.specs.{declared.LineRead.LineRead, declared.Row.Row, declared.Row.the-variants.{End, Malformed, Says}, Table.{rowFields, lineFormed, rowFormed, rowString}, Reader.{lineLong, unformedLine, lineGiven, lineReadAt, rowGiven, rowAt, nextOf, asked, rowsGiven}, inner.Fields.bytesAhead}
 use Rattle.register.proofs.Row.{the-type}
 use Rattle.register.proofs.Splitting.{ahead-within, lines-open, lines-closed}
 
@@ -58,6 +59,10 @@ module _ (xs : List ℕ) where
 
 -- ---- What is given of the line at a place
 
+pub row-none : (text : List ℕ) (at : ℕ) → length text ≤ at → End ≡ rowAt text at
+unfolding rowAt rowGiven linesOf
+row-none text at h = rw (drop-of-length-le text h)
+
 module _ (text : List ℕ) (at : ℕ) (inside : at < length text) where
   abbrev xs : List ℕ
   xs = drop at text
@@ -73,6 +78,35 @@ module _ (text : List ℕ) (at : ℕ) (inside : at < length text) where
       (Malformed (at + lineLong (firstLine xs)))
   unfolding rowAt rowGiven
   given-is = rw (lines-first xs some)
+
+  pub read-is : (count most : ℕ) → lineReadAt count most text at
+      ≡ cond (lineFormed count most (firstLine xs))
+      (record { formed = true; values = filled 6 0 (map decimalIn (rowFields (firstLine xs))); next = at + lineLong (firstLine xs) })
+      (unformedLine (at + lineLong (firstLine xs)))
+  unfolding lineReadAt lineGiven
+  read-is count most = rw (lines-first xs some)
+
+  -- what was read: a line of so many numbers, or another
+  module _ (count most : ℕ) (r : LineRead) (is : r ≡ lineReadAt count most text at) where
+    pub read-formed : r .formed ≡ true → (lineFormed count most (firstLine xs) ≡ true)
+        × (r
+        ≡ record { formed = true; values = filled 6 0 (map decimalIn (rowFields (firstLine xs))); next = at + lineLong (firstLine xs) })
+    read-formed said =
+        by-bool (lineFormed count most (firstLine xs))
+        (λ t. (t, is ∙ read-is count most ∙ rw t))
+        (λ e.
+        let none : r ≡ unformedLine behind = is ∙ read-is count most ∙ rw e in
+        absurd (true-not-false (sym said ∙ ap (λ q. q .formed) none)))
+
+    pub read-unformed : r .formed ≡ false → (lineFormed count most (firstLine xs) ≡ false)
+        × (r ≡ unformedLine (at + lineLong (firstLine xs)))
+    read-unformed said =
+        by-bool (lineFormed count most (firstLine xs))
+        (λ t.
+        let one : r ≡ record { formed = true; values = filled 6 0 (map decimalIn (rowFields (firstLine xs))); next = behind } =
+        is ∙ read-is count most ∙ rw t in
+        absurd (true-not-false (sym (ap (λ q. q .formed) one) ∙ said)))
+        (λ e. (e, is ∙ read-is count most ∙ rw e))
 
   pub next-within : at + lineLong (firstLine xs) ≤ length text
   next-within = omega (arith, first-within xs, length-drop at text)

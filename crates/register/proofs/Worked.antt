@@ -4,7 +4,7 @@ use Rattle.base.proofs.Prelude.{ℕ, _≡_, refl, List, [], _∷_, _++_, map}
 use Prim.Native.String.{String}
 use Rattle.base.specs.{Count.{every, leastFrom}, Digits.{numberOn, digitsIn, digitsOf}}
 use Rattle.rules.specs.{declared.BatteryString.BatteryString, Plan.{stringsOf, stringLawful, commonMultiple, multipleOf}, Refusal.{runLengthCheck, multipleCheck}, Said.{Said, lawful, refused, checkedSays}, Lines.{bytesOf, decimal, wordedIn, rowLine}, Text.{before, linesOf}}
-use Rattle.register.specs.Table.{inFront, fieldsOf, plainNumber, rowFields, sixNumbers, rowFormed, stringSaid, rowString, rowCheck, rowsCheck, tablePlan, rowLinesCheck, tableCheck, tableReading}
+use Rattle.register.specs.Table.{inFront, fieldsOf, plainNumber, rowFields, numbersFormed, lineFormed, stringSaid, rowString, rowCheck, rowsCheck, tablePlan, rowLinesCheck, tableCheck, tableReading}
 
 pub record Row : Type 0 where
   pub run : ℕ
@@ -73,7 +73,8 @@ pub worked : map answered table ≡ map (λ r. r .said) table
 unfolding
     row answered three-rows nine-rows table every leastFrom numberOn stringLawful commonMultiple multipleOf runLengthCheck multipleCheck
     bytesOf before linesOf
-    inFront fieldsOf plainNumber rowFields sixNumbers rowFormed stringSaid rowString rowCheck rowsCheck tablePlan rowLinesCheck tableCheck
+    inFront fieldsOf plainNumber rowFields numbersFormed lineFormed stringSaid rowString rowCheck rowsCheck tablePlan rowLinesCheck
+    tableCheck
     tableReading
 worked = refl
 

@@ -1,5 +1,9 @@
 -- A table taken row by row (document 02, W-210), by a reader that holds on to the caller's text and its place in it.
 --     lineLong line         how many bytes a line has, its 0a among them
+--     lineGiven count most lines at     what is read of the first of lines that start at the place `at`, where it has to say so many
+--                           numbers of so many digits: whether it does; its numbers, at most six, and zeros behind them, all zeros where
+--                           it does not; and the place at which the next line starts
+--     lineReadAt count most text at     the same at the place `at` of a text
 --     rowGiven lines at     what is given of the first of lines that start at the place `at`: the string that it says, or that it is no
 --                           row, each with the place at which the next line starts; or that the lines have ended
 --     rowAt text at         what a reader gives that stands at the place `at` of a text
@@ -7,18 +11,35 @@
 --     rowsGiven lines at    what is given of each of lines that start at the place `at`
 --     rowSays row           what is given, in numbers: T, C, D, X, the moving cost, J; 13 for a line that is no row; with the next place
 use Prim.Native.Nat.{ℕ, zero, suc, _+_}
-use mathlib.Core.Bool.{cond}
-use mathlib.Core.List.{List, [], _∷_}
-use lib.ListN.{length, drop}
+use mathlib.Core.Bool.{true, false, cond}
+use mathlib.Core.List.{List, [], _∷_, map}
+use lib.ListN.{length, drop, replicate}
+use Rattle.base.specs.Count.{filled}
+use Rattle.base.specs.Digits.{decimalIn}
 use Rattle.faults.specs.declared.Fault.the-variants.{RowMalformed}
 use Rattle.faults.specs.Checks.{faultNumber}
 use Rattle.rules.specs.Text.{Line, linesOf}
+use Rattle.register.specs.declared.LineRead.{LineRead}
 use Rattle.register.specs.declared.Row.{Row}
 use Rattle.register.specs.declared.Row.the-variants.{End, Malformed, Says}
-use Rattle.register.specs.Table.{rowFormed, rowString}
+use Rattle.register.specs.Table.{rowFields, lineFormed, rowFormed, rowString}
 
 unfoldable pub lineLong : Line → ℕ
 lineLong line = length (line .bytes) + cond (line .ended) 1 0
+
+abbrev pub unformedLine : ℕ → LineRead
+unformedLine next = record { formed = false; values = replicate 6 0; next = next }
+
+unfoldable pub lineGiven : ℕ → ℕ → List Line → ℕ → LineRead
+lineGiven count most [] at = unformedLine at
+lineGiven count most (line ∷ lines) at =
+    let next = at + lineLong line in
+    cond (lineFormed count most line)
+    (record { formed = true; values = filled 6 0 (map decimalIn (rowFields line)); next = next })
+    (unformedLine next)
+
+unfoldable pub lineReadAt : ℕ → ℕ → List ℕ → ℕ → LineRead
+lineReadAt count most text at = lineGiven count most (linesOf (drop at text)) at
 
 unfoldable pub rowGiven : List Line → ℕ → Row
 rowGiven [] at = End

@@ -1,9 +1,10 @@
 -- The asset register's table (document 02, W-210 and W-213): a line for each string, T,C,D,X,moving cost,J in decimal, ended by CR LF. A
 -- line is what stands up to its 0a (rules/specs/Text.antt), so the CR is the last of its bytes.
 --     fieldsOf bytes        what stands between commas
---     plainNumber field     one to four decimal digits without leading zeros; a single 0 is a number
+--     plainNumber most field     one to `most` decimal digits without leading zeros; a single 0 is a number
 --     rowFields line        the fields of a line, without its CR
---     rowFormed line        six such numbers, CR and LF
+--     lineFormed count most line     so many such numbers, CR and LF
+--     rowFormed line        a row: six numbers of at most four digits
 --     rowString line        the string that they say
 --     rowsCheck k lines     of lines from number k on: 4 for the eleventh, whatever it holds; else 13, then 5, line by line
 --     tablePlan run lines   the plan of rows, with an N given beside them
@@ -45,9 +46,9 @@ fieldsOf (b ∷ bs) = cond (eqb b comma) ([] ∷ fieldsOf bs) (inFront b (fields
 abbrev pub isFigure : ℕ → Bool
 isFigure b = inBounds 0x30 b 0x39
 
-unfoldable pub plainNumber : List ℕ → Bool
-plainNumber field =
-    inBounds 1 (length field) 4
+unfoldable pub plainNumber : ℕ → List ℕ → Bool
+plainNumber most field =
+    inBounds 1 (length field) most
     && (eqb (length field) 1 || not (eqb (getD field 0 0) 0x30))
     && every isFigure field
 
@@ -56,14 +57,17 @@ plainNumber field =
 unfoldable pub rowFields : Line → List (List ℕ)
 rowFields line = fieldsOf (take (length (line .bytes) - 1) (line .bytes))
 
-unfoldable pub sixNumbers : List (List ℕ) → Bool
-sixNumbers fields = eqb (length fields) 6 && every plainNumber fields
+unfoldable pub numbersFormed : ℕ → ℕ → List (List ℕ) → Bool
+numbersFormed count most fields = eqb (length fields) count && every (plainNumber most) fields
 
-unfoldable pub rowFormed : Line → Bool
-rowFormed line =
+unfoldable pub lineFormed : ℕ → ℕ → Line → Bool
+lineFormed count most line =
     line .ended
     && eqb (getD (line .bytes) (length (line .bytes) - 1) 0) 0x0d
-    && sixNumbers (rowFields line)
+    && numbersFormed count most (rowFields line)
+
+abbrev pub rowFormed : Line → Bool
+rowFormed line = lineFormed 6 4 line
 
 -- T, C, D, X, moving cost, J
 unfoldable pub stringSaid : List ℕ → BatteryString

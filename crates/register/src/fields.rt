@@ -1,11 +1,11 @@
-// A row's fields: what stands between its commas, each a number of one to four decimal digits.
+// A line's fields: what stands between its commas, each a number of a few decimal digits.
 ghost use mathlib.Core.Path.{_≡_};
 ghost use Prim.Native.Nat.{_+_, _≤_};
 ghost use lib.ListN.{length, drop};
 ghost use Rattle.register.specs.Table.{fieldsOf};
-ghost use Rattle.register.specs.inner.Fields.{bytesAhead, lead, numberOr, sixOf};
+ghost use Rattle.register.specs.inner.Fields.{bytesAhead, lead, numberOr, numbersRead};
 
-// Six numbers; zeros where a row is not formed so.
+// The numbers of a line, at most six; zeros behind them, and where a line is not formed so.
 pub(crate) struct Numbers {
     pub(crate) formed: bool,
     pub(crate) values: [u32; 6],
@@ -16,8 +16,8 @@ const NO_NUMBERS: Numbers = Numbers {
     values: [0; 6],
 };
 
-// No field of four digits says so much.
-const NO_NUMBER: u32 = 10000;
+// No field of nine digits says so much.
+const NO_NUMBER: u32 = 1000000000;
 
 // Where a byte stands in a text from `from` on, or the text's end.
 pub(crate) fn stop_at(text: &[u8], from: usize, stop: u8) -> usize
@@ -47,13 +47,14 @@ fn leads(field: &[u8]) -> bool
 }
 
 // The number of a field, or NO_NUMBER: a digit too many, none, a leading zero, another character.
-fn number_in(field: &[u8]) -> u32
-    ensures exact { λ r. ⌜ r ≡ numberOr (now (field .entry)) ⌝ }
+fn number_in(field: &[u8], most: usize) -> u32
+    requires { ⌜ most ≤ 9 ⌝ }
+    ensures exact { λ r. ⌜ r ≡ numberOr most (now (field .entry)) ⌝ }
 {
     if field.len() < 1 {
         return NO_NUMBER;
     }
-    if 4 < field.len() {
+    if most < field.len() {
         return NO_NUMBER;
     }
     if !leads(field) {
@@ -75,23 +76,25 @@ fn number_in(field: &[u8]) -> u32
     n
 }
 
-// The numbers of a row without its line end, field by field.
-pub(crate) fn numbers_in(row: &[u8]) -> Numbers
-    ensures exact { λ r. ⌜ r ≡ sixOf (fieldsOf (now (row .entry))) ⌝ }
+// The numbers of a line without its end, field by field: so many, of so many digits at most.
+pub(crate) fn numbers_in(row: &[u8], count: usize, most: usize) -> Numbers
+    requires { ⌜ count ≤ 6 ⌝ }
+    requires { ⌜ most ≤ 9 ⌝ }
+    ensures exact { λ r. ⌜ r ≡ numbersRead count most (fieldsOf (now (row .entry))) ⌝ }
 {
     let mut values = [0u32; 6];
     let mut from: usize = 0;
     let mut i: usize = 0;
-    while i < 6 {
+    while i < count {
         let to = stop_at(row, from, b',');
-        let n = number_in(&row[from..to]);
+        let n = number_in(&row[from..to], most);
         if NO_NUMBER <= n {
             return NO_NUMBERS;
         }
         values[i] = n;
         i += 1;
         if to == row.len() {
-            if i == 6 {
+            if i == count {
                 return Numbers {
                     formed: true,
                     values,

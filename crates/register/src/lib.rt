@@ -10,6 +10,7 @@ use faults::Fault;
 pub use reader::moved;
 pub use reader::opened;
 pub use reader::row_here;
+pub use reader::three_at;
 use rows::table_lawful;
 use rules::BatteryString;
 use rules::NO_RELEASE;
@@ -32,6 +33,14 @@ pub enum Row {
     End,
     Malformed { next: usize },
     Says { string: BatteryString, next: usize },
+}
+
+// What is read of a line that has to say so many numbers: whether it does; its numbers, at most six, and zeros behind them, all zeros where
+// it does not; and the place at which the next line starts.
+pub struct LineRead {
+    pub formed: bool,
+    pub values: [u32; 6],
+    pub next: usize,
 }
 
 // A reader: an export, and the place in it at which the next row starts.

@@ -1,13 +1,15 @@
 // A reader that holds on to the caller's text and its place in it, and is asked row by row.
 use super::Export;
+use super::LineRead;
 use super::Row;
 use super::fields::numbers_in;
 use super::fields::stop_at;
 use days::Length;
 use rules::BatteryString;
 ghost use mathlib.Core.Path.{_≡_};
+ghost use Prim.Native.Nat.{_≤_};
 ghost use Rattle.register.specs.Table.{stringSaid};
-ghost use Rattle.register.specs.Reader.{rowAt};
+ghost use Rattle.register.specs.Reader.{unformedLine, lineReadAt, rowAt};
 
 // T, C, D, X, moving cost, J.
 fn string_from(values: [u32; 6]) -> BatteryString
@@ -23,31 +25,70 @@ fn string_from(values: [u32; 6]) -> BatteryString
     }
 }
 
-// The line that starts at a place of a text: it ends by CR LF, and six numbers stand ahead of that.
+// A line that does not say the numbers that it has to.
+fn unformed(next: usize) -> LineRead
+    ensures exact { λ r. ⌜ r ≡ unformedLine next ⌝ }
+{
+    LineRead {
+        formed: false,
+        values: [0; 6],
+        next,
+    }
+}
+
+// The line that starts at a place of a text: it ends by CR LF, and so many numbers of so many digits stand ahead of that.
+fn line_at(text: &[u8], at: usize, count: usize, most: usize) -> LineRead
+    requires { ⌜ count ≤ 6 ⌝ }
+    requires { ⌜ most ≤ 9 ⌝ }
+    ensures exact { λ r. ⌜ r ≡ lineReadAt count most (now (text .entry)) at ⌝ }
+{
+    if text.len() <= at {
+        return unformed(at);
+    }
+    let end = stop_at(text, at, b'\n');
+    if end == text.len() {
+        return unformed(end);
+    }
+    let next = end + 1;
+    if end == at {
+        return unformed(next);
+    }
+    let stop = end - 1;
+    let last = text[stop];
+    if last != b'\r' {
+        return unformed(next);
+    }
+    let said = numbers_in(&text[at..stop], count, most);
+    let formed = said.formed;
+    let values = said.values;
+    LineRead {
+        formed,
+        values,
+        next,
+    }
+}
+
+// A line of three numbers of at most seven digits. The text is lent and keeps its bytes.
+pub fn three_at(text: &[u8], at: usize) -> LineRead
+    ensures exact { λ r. ⌜ r ≡ lineReadAt 3 7 (now (text .entry)) at ⌝ }
+    ensures kept { λ r. ⌜ now (text .exit) ≡ now (text .entry) ⌝ }
+{
+    line_at(text, at, 3, 7)
+}
+
+// The row that starts at a place of a text: six numbers of at most four digits.
 pub(crate) fn row_at(text: &[u8], at: usize) -> Row
     ensures exact { λ r. ⌜ r ≡ rowAt (now (text .entry)) at ⌝ }
 {
     if text.len() <= at {
         return Row::End;
     }
-    let end = stop_at(text, at, b'\n');
-    if end == text.len() {
-        return Row::Malformed { next: end };
-    }
-    let next = end + 1;
-    if end == at {
+    let read = line_at(text, at, 6, 4);
+    let next = read.next;
+    if !read.formed {
         return Row::Malformed { next };
     }
-    let stop = end - 1;
-    let last = text[stop];
-    if last != b'\r' {
-        return Row::Malformed { next };
-    }
-    let said = numbers_in(&text[at..stop]);
-    if !said.formed {
-        return Row::Malformed { next };
-    }
-    let values = said.values;
+    let values = read.values;
     Row::Says {
         string: string_from(values),
         next,
