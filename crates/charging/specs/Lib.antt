@@ -1,0 +1,2 @@
+pub mod Payable
+pub mod RunsAlike
