@@ -51,7 +51,12 @@ enum {
     DESK_NO_ROOM = 9,   /* room is below DESK_PLACES: nothing is written */
     DESK_DATE = 10,     /* year, month, day of the month */
     DESK_DAY = 11,      /* the day number */
-    DESK_STINTS = 12    /* how many stints are listed */
+    DESK_STINTS = 12,   /* how many stints are listed */
+    DESK_NONE_PASSES = 13,    /* no list of releases misses: the plan passes */
+    DESK_NONE_MISSES = 14,    /* no list of releases misses, though the plan fails */
+    DESK_LIST_MISSES = 15,    /* a list misses: the days of its run */
+    DESK_LIST_TOO_LONG = 16,  /* a list misses, and it has over 1,000 releases */
+    DESK_NONE_FOUND = 17      /* the plan fails, and no list was found that misses: not guaranteed */
 };
 
 /* The refusal numbers of entries that take numbers, in the order in which they are looked for. */
@@ -94,6 +99,11 @@ uint32_t desk_search(const uint32_t *plan, size_t count, uint64_t *out, size_t r
 /* How the run of a plan ends under a list of releases, with the X that the plan carries: DESK_CLEAN, DESK_MISS, or DESK_REFUSED with 4 to
  * 8. listed is 4 for each release. */
 uint32_t desk_run(const uint32_t *plan, size_t count, const uint32_t *releases, size_t listed, uint64_t *out, size_t room);
+
+/* Whether a plan can miss, with the X that it carries, whatever N: DESK_NONE_PASSES, DESK_NONE_MISSES, DESK_LIST_MISSES, DESK_LIST_TOO_LONG,
+ * DESK_NONE_FOUND, or DESK_REFUSED with 4, 5 or 6. All but DESK_NONE_FOUND are proved: after the first two no lawful list of releases makes
+ * desk_run say DESK_MISS; after the next two some list does. `clerk miss` writes the list of DESK_LIST_MISSES. */
+uint32_t desk_can_miss(const uint32_t *plan, size_t count, uint64_t *out, size_t room);
 
 /* The stints of that run: its days, from the first to the last, in stretches on which the bank did one thing; up to, not into, the day of the
  * miss where there is one. Five numbers for each go to the head of `list`: first day, length in days, kind, place, release (its place in the

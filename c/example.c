@@ -23,6 +23,13 @@ static const uint32_t late_plan[] = {20, 10, 2, 5, 1, 1, 2, 10, 5, 10, 0, 1, 0};
 
 static const uint32_t late_releases[] = {0, 2, 5, 0, 3, 1, 2, 1};
 
+/* A plan for each answer of desk_can_miss but the first, which is the sample's: it fails and no list misses; a list misses; one of over 1,000
+ * releases does; none is found. */
+static const uint32_t alone[] = {20, 2, 2, 2, 1, 1, 0};
+static const uint32_t nobody_permitted[] = {20, 10, 3, 5, 0, 1, 0, 10, 5, 10, 0, 1, 0};
+static const uint32_t long_list[] = {20, 1, 1, 1, 0, 0, 0, 1000, 1, 1000, 0, 0, 0};
+static const uint32_t open_question[] = {12, 3, 1, 2, 1, 1, 0, 6, 2, 4, 0, 1, 0};
+
 /* An answer as a line: the desk's words, where the desk has them. */
 static void say(uint32_t kind, const uint64_t out[DESK_PLACES]) {
     switch (kind) {
@@ -41,6 +48,11 @@ static void say(uint32_t kind, const uint64_t out[DESK_PLACES]) {
     case DESK_DATE: printf("date %04" PRIu64 "-%02" PRIu64 "-%02" PRIu64 "\n", out[0], out[1], out[2]); break;
     case DESK_DAY: printf("day %" PRIu64 "\n", out[0]); break;
     case DESK_STINTS: printf("stints %" PRIu64 "\n", out[0]); break;
+    case DESK_NONE_PASSES: puts("none: the plan passes"); break;
+    case DESK_NONE_MISSES: puts("none: it fails, and no list misses"); break;
+    case DESK_LIST_MISSES: printf("a list misses in %" PRIu64 " days\n", out[0]); break;
+    case DESK_LIST_TOO_LONG: puts("a list misses, of over 1000 releases"); break;
+    case DESK_NONE_FOUND: puts("none found"); break;
     }
 }
 
@@ -76,6 +88,13 @@ int main(int words, char **word) {
     say(desk_quick(plan, COUNT(plan), out, COUNT(out)), out);
     say(desk_verdict_with(plan, COUNT(plan), 0, out, COUNT(out)), out);
     say(desk_verdict_with(plan, COUNT(plan), 3, out, COUNT(out)), out);
+
+    puts("# can it miss: the sample; P9 with set 1; the sample with nobody permitted; two that ask for 1,001 days of 1,000; one that is open");
+    say(desk_can_miss(plan, COUNT(plan), out, COUNT(out)), out);
+    say(desk_can_miss(alone, COUNT(alone), out, COUNT(out)), out);
+    say(desk_can_miss(nobody_permitted, COUNT(nobody_permitted), out, COUNT(out)), out);
+    say(desk_can_miss(long_list, COUNT(long_list), out, COUNT(out)), out);
+    say(desk_can_miss(open_question, COUNT(open_question), out, COUNT(out)), out);
 
     puts("# its check and H; cut short; with a set of no such plan; a release that lacks its due day; three places lent");
     say(desk_check(plan, COUNT(plan), out, COUNT(out)), out);

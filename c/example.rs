@@ -10,6 +10,7 @@ mod desk {
             pub fn desk_verdict_with(plan: *const u32, count: usize, set: u32, out: *mut u64, room: usize) -> u32;
             pub fn desk_quick(plan: *const u32, count: usize, out: *mut u64, room: usize) -> u32;
             pub fn desk_search(plan: *const u32, count: usize, out: *mut u64, room: usize) -> u32;
+            pub fn desk_can_miss(plan: *const u32, count: usize, out: *mut u64, room: usize) -> u32;
             pub fn desk_run(
                 plan: *const u32,
                 count: usize,
@@ -83,6 +84,10 @@ mod desk {
         told(|out, room| unsafe { entry::desk_search(plan.as_ptr(), plan.len(), out, room) })
     }
 
+    pub fn can_miss(plan: &[u32]) -> Told {
+        told(|out, room| unsafe { entry::desk_can_miss(plan.as_ptr(), plan.len(), out, room) })
+    }
+
     pub fn run(plan: &[u32], releases: &[u32]) -> Told {
         told(|out, room| unsafe {
             entry::desk_run(plan.as_ptr(), plan.len(), releases.as_ptr(), releases.len(), out, room)
@@ -149,6 +154,16 @@ const LATE_PLAN: [u32; 13] = [20, 10, 2, 5, 1, 1, 2, 10, 5, 10, 0, 1, 0];
 
 const LATE_RELEASES: [u32; 8] = [0, 2, 5, 0, 3, 1, 2, 1];
 
+/// A plan for each answer of `can_miss` but the first, which is the sample's: it fails and no list misses; a list misses; one of over 1,000
+/// releases does; none is found.
+const ALONE: [u32; 7] = [20, 2, 2, 2, 1, 1, 0];
+
+const NOBODY_PERMITTED: [u32; 13] = [20, 10, 3, 5, 0, 1, 0, 10, 5, 10, 0, 1, 0];
+
+const LONG_LIST: [u32; 13] = [20, 1, 1, 1, 0, 0, 0, 1000, 1, 1000, 0, 0, 0];
+
+const OPEN_QUESTION: [u32; 13] = [12, 3, 1, 2, 1, 1, 0, 6, 2, 4, 0, 1, 0];
+
 /// An answer as a line: the desk's words, where the desk has them.
 fn say(Told(kind, [a, b, c, d]): Told) {
     match kind {
@@ -165,6 +180,11 @@ fn say(Told(kind, [a, b, c, d]): Told) {
         10 => println!("date {:04}-{:02}-{:02}", a, b, c),
         11 => println!("day {}", a),
         12 => println!("stints {}", a),
+        13 => println!("none: the plan passes"),
+        14 => println!("none: it fails, and no list misses"),
+        15 => println!("a list misses in {} days", a),
+        16 => println!("a list misses, of over 1000 releases"),
+        17 => println!("none found"),
         _ => unreachable!(),
     }
 }
@@ -189,6 +209,11 @@ fn main() -> std::io::Result<()> {
     say(desk::quick(&PLAN));
     say(desk::verdict_with(&PLAN, 0));
     say(desk::verdict_with(&PLAN, 3));
+
+    println!("# can it miss: the sample; P9 with set 1; the sample with nobody permitted; two that ask for 1,001 days of 1,000; one that is open");
+    for plan in [&PLAN[..], &ALONE, &NOBODY_PERMITTED, &LONG_LIST, &OPEN_QUESTION] {
+        say(desk::can_miss(plan));
+    }
 
     println!("# its check and H; cut short; with a set of no such plan; a release that lacks its due day; three places lent");
     say(desk::check(&PLAN));

@@ -24,7 +24,7 @@ pub const USAGE: &str =
        second --breaks FILE
        second --wrong equation-7|one-by-one|stop-at-dmax|load-equal-to-h|start-early|stopped-pays|one-week|who-is-interrupted FILE
        second --calendar
-       second --misses CLERK [--plans N] [--small M] [--late L] [--seed S]
+       second --misses CLERK [--plans N] [--small M] [--late L] [--drawn K] [--seed S]
        second --orders CLERK DESK [--pairs N] [--seed S]
        second --dates [--ask CLERK] [--questions N] [--seed S]
        second --selftest";
@@ -191,12 +191,13 @@ fn asked(mut words: impl Iterator<Item = String>) -> Option<Asked> {
 /// Whom to ask for releases that miss, and for how many plans.
 fn missing(mut words: impl Iterator<Item = String>) -> Option<misses::ask::Asked> {
     let clerk = value(&mut words)?;
-    let (mut plans, mut small, mut late, mut seed) = (5_000, 1_000, 1_000, 1);
+    let (mut plans, mut small, mut late, mut drawn, mut seed) = (5_000, 1_000, 1_000, 1_000, 1);
     while let Some(word) = words.next() {
         match word.as_str() {
             "--plans" => plans = value(&mut words)?,
             "--small" => small = value(&mut words)?,
             "--late" => late = value(&mut words)?,
+            "--drawn" => drawn = value(&mut words)?,
             "--seed" => seed = value(&mut words)?,
             _ => return None,
         }
@@ -206,6 +207,7 @@ fn missing(mut words: impl Iterator<Item = String>) -> Option<misses::ask::Asked
         plans,
         small,
         late,
+        drawn,
         seed,
     })
 }

@@ -6,4 +6,5 @@ pub mod RunsAlike
 pub mod Uncharged
 pub mod Payable
 pub mod Settled
+pub mod StillPasses
 pub mod Worked

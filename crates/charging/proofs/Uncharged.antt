@@ -18,7 +18,7 @@ module _ (f : ℕ → Bool) where
   costs-take (suc n) k [] = refl
   costs-take (suc n) k (s ∷ ss) = ap (λ rest. costIf (f k) s ∷ rest) (costs-take n (suc k) ss)
 
-  costs-length : (k : ℕ) (ss : List BatteryString) → length (costsWhere f k ss) ≡ length ss
+  pub costs-length : (k : ℕ) (ss : List BatteryString) → length (costsWhere f k ss) ≡ length ss
   unfolding costsWhere
   costs-length k [] = refl
   costs-length k (s ∷ ss) = ap suc (costs-length (suc k) ss)

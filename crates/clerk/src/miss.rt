@@ -20,6 +20,7 @@ pub(crate) fn miss(command: &[u8]) -> u8 {
     match found {
         Missed::Refused { fault, at } => say::refused(fault, at),
         Missed::Passes => say::nothing(b"none: the plan passes"),
+        Missed::Never => say::nothing(b"none: it fails, and no list misses"),
         Missed::NoneFound => say::nothing(b"none found"),
         Missed::TooMany => say::nothing(b"none written: the list has over 1000 releases"),
         Missed::Text { length } => say::answer(first(&page, length)),

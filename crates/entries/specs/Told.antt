@@ -14,9 +14,15 @@
 --     10    a date                year, month, day
 --     11    a day                 its number
 --     12    stints                how many are listed
+--     13    no list misses: the plan passes
+--     14    no list misses, though the plan fails
+--     15    a list misses         the days of its run
+--     16    a list misses, and it has over 1,000 releases
+--     17    none was found
 -- Where fewer than four numbers are said, 0 stands in the places after them.
 --     rowOf s               kind and numbers of what an answer says (rules/specs/Said.antt)
 --     stintedRow s          the same of what is answered where the stints of a run are asked for
+--     missingRow m          the same of what is answered where it is asked whether a plan can miss
 --     dateRow w, dayRow w   the same of the calendar's answers
 --     kindTold r places     what is returned
 --     placesTold r places   the places afterwards: the four numbers, and then its own later places
@@ -31,6 +37,8 @@ use Rattle.faults.specs.Checks.{faultNumber}
 use Rattle.rules.specs.Said.{Said, lawful, refused, overload, fail, pass, takers, none, miss, clean}
 use Rattle.rules.specs.declared.Stinted.{Stinted}
 use Rattle.rules.specs.declared.Stinted.the-variants as stinted
+use Rattle.tries.specs.declared.Missing.{Missing}
+use Rattle.tries.specs.declared.Missing.the-variants as missing
 use Rattle.calendar.specs.declared.WhichDate.{WhichDate}
 use Rattle.calendar.specs.declared.WhichDate.the-variants as which-date
 use Rattle.calendar.specs.declared.WhichDay.{WhichDay}
@@ -57,6 +65,14 @@ rowOf lawful = row 8 0 0 0 0
 abbrev pub stintedRow : Stinted → Row
 stintedRow (stinted.Refused f at) = refusedRow (faultNumber f) at
 stintedRow (stinted.Listed k) = row 12 k 0 0 0
+
+abbrev pub missingRow : Missing → Row
+missingRow (missing.Refused f at) = refusedRow (faultNumber f) at
+missingRow missing.Passes = row 13 0 0 0 0
+missingRow missing.Never = row 14 0 0 0 0
+missingRow (missing.Found n) = row 15 (n .0) 0 0 0
+missingRow missing.TooMany = row 16 0 0 0 0
+missingRow missing.NoneFound = row 17 0 0 0 0
 
 abbrev pub dateRow : WhichDate → Row
 dateRow (which-date.Is d) = row 10 (d .year) (d .month) (d .day) 0

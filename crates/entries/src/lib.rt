@@ -14,6 +14,7 @@ use told::assign_row;
 use told::checked_row;
 use told::date_row;
 use told::day_row;
+use told::missing_row;
 use told::outcome_row;
 use told::stinted_row;
 use told::tell;
@@ -32,9 +33,10 @@ ghost use Rattle.rules.specs.Lines.{linesFor};
 ghost use Rattle.demand.specs.Quick.{quickAnswer};
 ghost use Rattle.calendar.specs.Refusals.{dateAnswer, dayAnswer};
 ghost use Rattle.visits.specs.Texts.{visitTextCheck};
+ghost use Rattle.tries.specs.Tries.{missingAnswer};
 ghost use Rattle.entries.specs.Given.{planGiven, releasesGiven, dateGiven};
 ghost use Rattle.lines.specs.Pages.{lengthTold, pageTold};
-ghost use Rattle.entries.specs.Told.{rowOf, stintedRow, dateRow, dayRow, kindTold, placesTold, listTold};
+ghost use Rattle.entries.specs.Told.{rowOf, stintedRow, missingRow, dateRow, dayRow, kindTold, placesTold, listTold};
 
 // Whether a plan is lawful; if not, the first fault.
 #[no_mangle]
@@ -119,6 +121,19 @@ pub extern "C" fn desk_run(plan: &[u32], releases: &[u32], out: &mut [u64]) -> u
         outcome_row(run::run(plan_given(plan), releases_given(releases))),
         out,
     )
+}
+
+// Whether a plan can miss: why it cannot, or the days of a run that does.
+#[no_mangle]
+pub extern "C" fn desk_can_miss(plan: &[u32], out: &mut [u64]) -> u32
+    ensures exact { λ r. ⌜ r ≡ kindTold (missingRow (missingAnswer (planGiven (now (plan .entry))) .missing)) (now (out .entry)) ⌝ }
+    ensures out { λ r. ⌜ now (out .exit) ≡ placesTold (missingRow (missingAnswer (planGiven (now (plan .entry))) .missing))
+        (now (out .entry)) ⌝ }
+    ensures kept { λ r. ⌜ now (plan .exit) ≡ now (plan .entry) ⌝ }
+{
+    let shown = tries::releases_that_miss(plan_given(plan));
+    let missing = shown.missing;
+    tell(missing_row(missing), out)
 }
 
 // The stints of the run under a plan and a list of releases, five numbers each, in the list that is lent. 15,005 places hold them, whatever

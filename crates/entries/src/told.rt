@@ -13,13 +13,14 @@ use rules::Assign;
 use rules::Outcome;
 use rules::Stinted;
 use rules::Verdict;
+use tries::Missing;
 ghost use mathlib.Core.Path.{_≡_};
 ghost use Prim.Native.Nat.{_≤_};
 ghost use lib.ListN.{length};
 ghost use Rattle.faults.specs.Checks.{faultNumber};
 ghost use Rattle.rules.specs.Said.{checkedSays, askedVerdictSays, askedAssignSays, askedOutcomeSays};
 ghost use Rattle.lines.specs.Pages.{textOf, lengthTold, pageTold};
-ghost use Rattle.entries.specs.Told.{row, refusedRow, rowOf, stintedRow, dateRow, dayRow, kindTold, placesTold};
+ghost use Rattle.entries.specs.Told.{row, refusedRow, rowOf, stintedRow, missingRow, dateRow, dayRow, kindTold, placesTold};
 
 // A kind, and the numbers that it comes with; 0 stands where there is nothing to say.
 pub(crate) struct Row {
@@ -55,6 +56,16 @@ const DATE: u32 = 10;
 const DAY: u32 = 11;
 
 const STINTS: u32 = 12;
+
+const NONE_PASSES: u32 = 13;
+
+const NONE_MISSES: u32 = 14;
+
+const LIST_MISSES: u32 = 15;
+
+const LIST_TOO_LONG: u32 = 16;
+
+const NONE_FOUND: u32 = 17;
 
 // A row of counts.
 fn row_of(kind: u32, first: u32, second: u32, third: u32, fourth: u32) -> Row
@@ -151,6 +162,19 @@ pub(crate) fn stinted_row(s: Stinted) -> Row
             third: 0,
             fourth: 0,
         },
+    }
+}
+
+pub(crate) fn missing_row(m: Missing) -> Row
+    ensures exact { λ r. ⌜ r ≡ missingRow m ⌝ }
+{
+    match m {
+        Missing::Refused { fault, at } => refused_row(fault, at),
+        Missing::Passes => row_of(NONE_PASSES, 0, 0, 0, 0),
+        Missing::Never => row_of(NONE_MISSES, 0, 0, 0, 0),
+        Missing::NoneFound => row_of(NONE_FOUND, 0, 0, 0, 0),
+        Missing::TooMany => row_of(LIST_TOO_LONG, 0, 0, 0, 0),
+        Missing::Found { run } => row_of(LIST_MISSES, run.0, 0, 0, 0),
     }
 }
 

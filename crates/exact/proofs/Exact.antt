@@ -82,19 +82,17 @@ module _ (p : Plan) (ok : LawfulPlan p) where
 
 -- ---- A break
 
-module _ (p : Plan) (l b q : ℕ) (can : CanBlock (freely p) l b q) where
-  blocks-by : Blocks p b q
-  blocks-by =
-      let hold : holdOf (freely p) (stringAt (freely p) q) ≡ stringAt p q .c .0 =
-      ap (holdOf (freely p)) (freely-string p q) ∙ freely-hold (freely p) (stringAt p q) in
-      record { low = can .low; high = omega (arith, can .high, freely-many p); long = omega (arith, can .less) }
+blocks-by : (p : Plan) (l b q : ℕ) → CanBlock (freely p) l b q → Blocks p b q
+blocks-by p l b q can =
+    let hold : holdOf (freely p) (stringAt (freely p) q) ≡ stringAt p q .c .0 =
+    ap (holdOf (freely p)) (freely-string p q) ∙ freely-hold (freely p) (stringAt p q) in
+    record { low = can .low; high = omega (arith, can .high, freely-many p); long = omega (arith, can .less) }
 
-  -- the interval is shorter than some D
-  pub blocked-short : LawfulPlan p → l < 1000
-  blocked-short ok =
-      let good = lawful-at p q (blocks-by .low) (blocks-by .high) ok in
-      let same : stringAt (freely p) q .d .0 ≡ stringAt p q .d .0 = ap (λ s. s .d .0) (freely-string p q) in
-      omega (arith, can .far, good .dMax, good .tMax)
+-- the interval is shorter than some D
+pub blocked-short : (p : Plan) (l b q : ℕ) → CanBlock p l b q → LawfulPlan p → l < 1000
+blocked-short p l b q can ok =
+    let good = lawful-at p q (can .low) (can .high) ok in
+    omega (arith, can .far, good .dMax, good .tMax)
 
 module _ (p : Plan) (ok : LawfulPlan p) where
   pub mostLate-le : mostLate p ≤ 999
@@ -104,7 +102,7 @@ module _ (p : Plan) (ok : LawfulPlan p) where
       (all-map LawfulString (λ s. s .j .0 ≤ 999) (λ s good. omega (arith, good .jMax, good .dMax, good .tMax)) (stringsOf p) (ok .each))
 
   -- the sharp rule with free moving breaks: the list misses, in the plan as it stands, by the interval's end
-  pub sharp-break-misses : (n l b q : ℕ) → n ≤ 1000000 → intervalEnd p l b ≤ n → SharpBreak p l b q
+  pub sharp-break-misses : (n l b q : ℕ) → n ≤ 1000000 → intervalEnd p l b ≤ n → SharpBreak (freely p) l b q
       → MissesBy (withRun p n) (missing p l b q) (intervalEnd p l b)
   sharp-break-misses n l b q most room broken =
       let pos = broken .pos in
@@ -134,12 +132,13 @@ module _ (p : Plan) (ok : LawfulPlan p) where
         over = omega (arith, demandBut-nobody (freely p) h 0);
       })
 
-  -- ---- Where it breaks nowhere in reach, it holds
+-- ---- Where the sharp rule breaks nowhere in reach, it holds
 
+module _ (p : Plan) (ok : LawfulPlan p) where
   module _ (none : (l b q : ℕ) → l < 1000 + multipleOf p → SharpBreak p l b q → ⊥) where
-    whole : (l : ℕ) → 1 ≤ l → l < 1000 + multipleOf p → demand (freely p) l 0 ≤ l
+    whole : (l : ℕ) → 1 ≤ l → l < 1000 + multipleOf p → demand p l 0 ≤ l
     whole l pos inside =
-        elim (decLe (demand (freely p) l 0) l) [
+        elim (decLe (demand p l 0) l) [
           | yes h ↦ h
           | no h ↦
               let broken : SharpBreak p l 0 0 =
@@ -147,34 +146,29 @@ module _ (p : Plan) (ok : LawfulPlan p) where
                 pos = pos;
                 nobody = λ e. refl;
                 can = λ some. absurd (omega arith);
-                over = omega (arith, demandBut-nobody (freely p) l 0);
+                over = omega (arith, demandBut-nobody p l 0);
               } in
               absurd (none l 0 0 inside broken)
         ]
 
-    light : overloaded (freely p) ≡ false
+    light : overloaded p ≡ false
     light =
-        let lawful = freely-lawful p ok in
-        let same = freely-multiple p in
-        by-bool (overloaded (freely p))
-        (λ t.
-        absurd (omega (arith, overload-at-period (freely p) lawful t, whole (multipleOf (freely p)) (lawful .hPos) (omega arith))))
+        by-bool (overloaded p)
+        (λ t. absurd (omega (arith, overload-at-period p ok t, whole (multipleOf p) (ok .hPos) (omega arith))))
         (λ e. e)
 
-    unblocked-by : (l : ℕ) → 1 ≤ l → demand (freely p) l 0 ≤ l
+    unblocked-by : (l : ℕ) → 1 ≤ l → demand p l 0 ≤ l
     unblocked-by l pos =
-        let lawful = freely-lawful p ok in
-        let same = freely-multiple p in
-        let d = dMax-le (freely p) lawful in
-        range-suffices-for (freely p) lawful (λ k. 0) (λ k late. refl) light
+        let d = dMax-le p ok in
+        range-suffices-for p ok (λ k. 0) (λ k late. refl) light
         (λ k b low inside nothing. rw (zero-is b nothing) (whole k low (omega arith))) l 0 pos zero-le
       where
         zero-is : (b : ℕ) → b ≤ 0 → b ≡ 0
         zero-is b h = omega arith
 
-    blocked-by : (l b q : ℕ) → CanBlock (freely p) l b q → demandBut (freely p) l b q ≤ l
+    blocked-by : (l b q : ℕ) → CanBlock p l b q → demandBut p l b q ≤ l
     blocked-by l b q can =
-        elim (decLe (demandBut (freely p) l b q) l) [
+        elim (decLe (demandBut p l b q) l) [
           | yes h ↦ h
           | no h ↦
               let some = can .some in
@@ -188,30 +182,31 @@ module _ (p : Plan) (ok : LawfulPlan p) where
               absurd (none l b q (omega (arith, blocked-short p l b q can ok)) broken)
         ]
 
-    pub sharp-of-none : SharplyPasses (freely p)
+    pub sharp-of-none : SharplyPasses p
     sharp-of-none = record { unblocked = unblocked-by; blocked = blocked-by }
 
   -- and the other way round
-  pub none-of-sharp : SharplyPasses (freely p) → (l b q : ℕ) → SharpBreak p l b q → ⊥
+  pub none-of-sharp : SharplyPasses p → (l b q : ℕ) → SharpBreak p l b q → ⊥
   none-of-sharp sharp l b q broken =
       elim (decLe 1 b) [
         | yes some ↦ omega (arith, broken .over, sharp .blocked l b q (broken .can some))
         | no none ↦
             let zero-is : b ≡ 0 = omega arith in
             let nobody : q ≡ 0 = broken .nobody zero-is in
-            let over : l < demandBut (freely p) l 0 0 = rw (zero-is, nobody) at (broken .over) in
-            omega (arith, demandBut-nobody (freely p) l 0, sharp .unblocked l (broken .pos))
+            let over : l < demandBut p l 0 0 = rw (zero-is, nobody) at (broken .over) in
+            omega (arith, demandBut-nobody p l 0, sharp .unblocked l (broken .pos))
       ]
 
+module _ (p : Plan) (ok : LawfulPlan p) where
   -- if no lawful release list misses, the sharp rule holds with free moving
   pub never-sharp : NeverMisses p → SharplyPasses (freely p)
   never-sharp never =
-      sharp-of-none
+      sharp-of-none (freely p) (freely-lawful p ok)
       (λ l b q inside broken.
       let n : ℕ = intervalEnd p l b in
-      let most : intervalEnd p l b ≤ 1000000 = omega (arith, mostLate-le, ok .hMax) in
+      let most : intervalEnd p l b ≤ 1000000 = omega (arith, mostLate-le p ok, freely-multiple p, ok .hMax) in
       let room : intervalEnd p l b ≤ intervalEnd p l b = omega arith in
-      never n (omega (arith, broken .pos)) most (missing p l b q) (sharp-break-misses n l b q most room broken))
+      never n (omega (arith, broken .pos)) most (missing p l b q) (sharp-break-misses p ok n l b q most room broken))
 
 -- ---- Where moving is free already
 

@@ -43,7 +43,7 @@ pub freely-hold : (q : Plan) (s : BatteryString) → holdOf q (movedFreely s) �
 unfolding holdOf movingCost
 freely-hold q s = omega (arith, zero-mul (s .x))
 
-freely-jobs : (s : BatteryString) (w : ℕ) → jobs (movedFreely s) w ≡ jobs s w
+pub freely-jobs : (s : BatteryString) (w : ℕ) → jobs (movedFreely s) w ≡ jobs s w
 unfolding jobs
 freely-jobs s w = refl
 

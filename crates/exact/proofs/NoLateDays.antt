@@ -106,7 +106,7 @@ module _ (p : Plan) (ok : LawfulPlan p) (on-time : OnTime p) where
 
   -- the rule with free moving breaks at (l, b): the sharp rule breaks there too, whichever string blocks
   pub break-by-any : (l b q : ℕ) → 1 ≤ l → (b ≡ 0 → q ≡ 0) → (1 ≤ b → CanBlock (freely p) l b q) → l < demand (freely p) l b
-      → SharpBreak p l b q
+      → SharpBreak (freely p) l b q
   break-by-any l b q pos nobody can breaks =
       record {
         pos = pos;

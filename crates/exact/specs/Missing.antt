@@ -3,7 +3,7 @@
 -- as often as is lawful, and late where that hurts most. The first job of a string comes J days after its due day, so that its due days
 -- begin before the interval; the others come on their due days. With b 0 nobody blocks, and q is 0, which is no place.
 --     freely p              the plan p with every moving cost 0
---     SharpBreak p l b q    the sharp rule with free moving breaks at the interval l with blocking b by the string at place q
+--     SharpBreak p l b q    the sharp rule breaks for p at the interval l with blocking b by the string at place q
 --     mostLate p            the largest J: so many days go by before the first release, and no due day lies before day 0
 --     leadOf b              the days by which the job that blocks comes ahead of the interval: 1, or 0 where there is none
 --     intervalStart p b     the day on which the interval begins, and
@@ -50,8 +50,8 @@ freely p = record { n = p .n; run = p .run; strings = map movedFreely (p .string
 pub record SharpBreak (p : Plan) (l b q : ℕ) : Type 0 where
   pub pos : 1 ≤ l
   pub nobody : b ≡ 0 → q ≡ 0
-  pub can : 1 ≤ b → CanBlock (freely p) l b q
-  pub over : l < demandBut (freely p) l b q
+  pub can : 1 ≤ b → CanBlock p l b q
+  pub over : l < demandBut p l b q
 
 -- ---- The interval
 

@@ -5,7 +5,7 @@ use Rattle.faults.specs.declared.Fault.{Fault}
 use Rattle.rules.specs.{declared.Plan.Plan, declared.Releases.Releases, declared.Reading.Reading, Layout.version03, Text.readingOf, Plan.withRun}
 use Rattle.writing.specs.{declared.Saved.Saved, Saved.{savedAnswer, savedPage}}
 use Rattle.tries.specs.{declared.Shown.Shown, Tries.missingAnswer}
-use Rattle.missed.specs.{declared.Missed.Missed, declared.Missed.the-variants.{Refused, Passes, NoneFound, TooMany}, Missed.{asSaved, putAnswer, putPage, missedAnswer, missedPage}}
+use Rattle.missed.specs.{declared.Missed.Missed, declared.Missed.the-variants.{Refused, Passes, Never, NoneFound, TooMany}, Missed.{asSaved, putAnswer, putPage, missedAnswer, missedPage}}
 use Rattle.faults.specs.declared.Checked.the-variants as checked
 use Rattle.tries.specs.declared.Missing.the-variants as missing
 
@@ -39,6 +39,12 @@ module _ (p : Plan) (m : Shown) (page : List ℕ) (at : ℕ) (found : m ≡ miss
   unfolding putAnswer putPage
   put-passes h =
       let is : missingAnswer p .missing ≡ missing.Passes = ap (λ v. v .missing) (sym found) ∙ h in
+      (rw is, rw is)
+
+  pub put-never : m .missing ≡ missing.Never → Put Never page
+  unfolding putAnswer putPage
+  put-never h =
+      let is : missingAnswer p .missing ≡ missing.Never = ap (λ v. v .missing) (sym found) ∙ h in
       (rw is, rw is)
 
   pub put-none : m .missing ≡ missing.NoneFound → Put NoneFound page

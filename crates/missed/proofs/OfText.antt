@@ -1,7 +1,9 @@
 -- What each answer for a text means.
 --     Refused      as the reader refuses, and so the desk; or 9 with 0, where there is no room
 --     Passes       the text is lawful and the plan passes
---     NoneFound    the text is lawful and the plan does not pass; with free moving it would pass sharply, so that it would never miss
+--     Never        the text is lawful and the plan does not pass; its payable plan passes sharply, so no lawful list misses, whatever N
+--     NoneFound    the text is lawful and the plan does not pass, nor does its payable plan sharply; with free moving it would, so that it
+--                  would never miss
 --     TooMany      the text is lawful and the plan does not pass, not even sharply with free moving: there is a list that misses, and it
 --                  has more than 1,000 releases
 --     Text         what was written is the text of the same plan, with N raised, and of releases over which it misses
@@ -20,21 +22,24 @@ use Rattle.roundtrip.proofs.{As02.{read-trimmed, ten-places}, InPage.reading-th
 use Rattle.sound.specs.Sharp.{SharplyPasses}
 use Rattle.exact.specs.Missing.{freely, NeverMisses, FreeMoving}
 use Rattle.exact.proofs.AnyRun.{verdict-run, search-run}
+use Rattle.charging.specs.Payable.{payable}
+use Rattle.charging.proofs.Payable.{payable-never-misses}
 use Rattle.tries.specs.{declared.Missing.Missing, Tries.missingAnswer, Shown.MissesOverMany}
-use Rattle.tries.proofs.{Found.packed-holds, Meaning.{answer-refused, answer-passes-rule, answer-found, found-answers, answer-none-rule, answer-none-free, answer-none-never, answer-many-rule, answer-many}}
-use Rattle.missed.specs.{declared.Missed.Missed, declared.Missed.the-variants.{Refused, NoneFound, TooMany, Text}, Missed.{asSaved, putAnswer, putPage, missedAnswer, missedPage}, ShowsMiss.ShowsMiss, Said.missedSays}
+use Rattle.tries.proofs.{Found.packed-holds, Meaning.{answer-refused, answer-passes-rule, answer-found, found-answers, answer-never-rule, answer-none-rule, answer-none-free, answer-none-payable, answer-none-paid, answer-many-rule, answer-many}}
+use Rattle.missed.specs.{declared.Missed.Missed, declared.Missed.the-variants.{Refused, Never, NoneFound, TooMany, Text}, Missed.{asSaved, putAnswer, putPage, missedAnswer, missedPage}, ShowsMiss.ShowsMiss, Said.missedSays}
 use Rattle.faults.specs.declared.Checked.the-variants as checked
 use Rattle.writing.specs.declared.Saved.the-variants as saved
 use Rattle.tries.specs.declared.Missing.the-variants as answer
 use Rattle.missed.specs.declared.Missed.the-variants as missed
 
--- the five answers, told apart by a number
+-- the six answers, told apart by a number
 abbrev kindOf : Missed → ℕ
 kindOf (Refused f at) = 0
 kindOf missed.Passes = 1
 kindOf NoneFound = 2
 kindOf (Text len) = 3
 kindOf TooMany = 4
+kindOf Never = 5
 
 -- ---- A list that was found, written
 
@@ -134,10 +139,11 @@ module _ (text page : List ℕ) (at : ℕ) where
         let said = found-full p n is page at wanting in
         (says .0 ∙ ap asSaved (said .0), says .1 ∙ said .1)
 
-  -- one of six ways
+  -- one of seven ways
   module _ {B : Type 0}
       (refused : (f : Fault) (k : ℕ) → readingOf text .checked ≡ checked.Refused f k → Says (Refused f k) page → B)
       (passes : readingOf text .checked ≡ checked.Lawful → missingAnswer p .missing ≡ answer.Passes → Says missed.Passes page → B)
+      (never : readingOf text .checked ≡ checked.Lawful → missingAnswer p .missing ≡ answer.Never → Says Never page → B)
       (nothing : readingOf text .checked ≡ checked.Lawful → missingAnswer p .missing ≡ answer.NoneFound → Says NoneFound page → B)
       (many : readingOf text .checked ≡ checked.Lawful → missingAnswer p .missing ≡ answer.TooMany → Says TooMany page → B)
       (full : readingOf text .checked ≡ checked.Lawful → (n : Length) → missingAnswer p .missing ≡ answer.Found n
@@ -154,6 +160,7 @@ module _ (text page : List ℕ) (at : ℕ) where
           let z : _≡_ {A = ℕ} 0 1 = cc in
           absurd (omega arith)
       by-found h answer.Passes is = passes h is (found-says h answer.Passes is)
+      by-found h answer.Never is = never h is (found-says h answer.Never is)
       by-found h answer.NoneFound is = nothing h is (found-says h answer.NoneFound is)
       by-found h answer.TooMany is = many h is (found-says h answer.TooMany is)
       by-found h (answer.Found n) is =
@@ -190,6 +197,7 @@ module _ (text page : List ℕ) (at : ℕ) where
       let fault : g ≡ f = cc in
       let place : j ≡ k = cc in
       inl (e ∙ ap (λ x. checked.Refused x j) fault ∙ ap (checked.Refused f) place))
+      (λ lawful is says. absurd (omega (arith, same-kind _ _ _ says h)))
       (λ lawful is says. absurd (omega (arith, same-kind _ _ _ says h)))
       (λ lawful is says. absurd (omega (arith, same-kind _ _ _ says h)))
       (λ lawful is says. absurd (omega (arith, same-kind _ _ _ says h)))
@@ -230,6 +238,10 @@ module _ (text page : List ℕ) (at : ℕ) where
           let said = ap missedSays (sym (says .0)) ∙ h in
           let z : _≡_ {A = ℕ} 0 1 = cc in
           absurd (omega arith))
+          (λ lawful is says.
+          let said = ap missedSays (sym (says .0)) ∙ h in
+          let z : _≡_ {A = ℕ} 0 1 = cc in
+          absurd (omega arith))
           (λ lawful n is wanting says. (lawful, (n, is, wanting)))
           (λ lawful n len is wrote says.
           let said = ap missedSays (sym (says .0)) ∙ h in
@@ -252,8 +264,40 @@ module _ (text page : List ℕ) (at : ℕ) where
           (λ lawful is says. (lawful, answer-passes-rule p .0 is .1))
           (λ lawful is says. absurd (omega (arith, same-kind _ _ _ says h)))
           (λ lawful is says. absurd (omega (arith, same-kind _ _ _ says h)))
+          (λ lawful is says. absurd (omega (arith, same-kind _ _ _ says h)))
           (λ lawful n is wanting says. absurd (omega (arith, same-kind _ _ _ says h)))
           (λ lawful n len is wrote says. absurd (omega (arith, same-kind _ _ _ says h)))
+
+  -- ---- Never
+
+  -- exactly where the text is lawful, the plan fails, and its payable plan passes sharply
+  pub missed-never-rule : (missedAnswer text page at ≡ Never)
+      ↔ (readingOf text .checked ≡ checked.Lawful) × (Passes p → ⊥) × SharplyPasses (payable p)
+  unfolding putAnswer
+  missed-never-rule = (only, λ h. found-says (h .0) answer.Never (never-is h) .0)
+    where
+      never-is : (readingOf text .checked ≡ checked.Lawful) × (Passes p → ⊥) × SharplyPasses (payable p)
+          → missingAnswer p .missing ≡ answer.Never
+      never-is h = answer-never-rule p .1 (planCheck-lawful p (plan-lawful (h .0)), h .1, h .2)
+
+      only : missedAnswer text page at ≡ Never → (readingOf text .checked ≡ checked.Lawful) × (Passes p → ⊥) × SharplyPasses (payable p)
+      only h =
+          by-missed
+          (λ f k e says. absurd (omega (arith, same-kind _ _ _ says h)))
+          (λ lawful is says. absurd (omega (arith, same-kind _ _ _ says h)))
+          (λ lawful is says.
+          let rule = answer-never-rule p .0 is in
+          (lawful, rule .1, rule .2))
+          (λ lawful is says. absurd (omega (arith, same-kind _ _ _ says h)))
+          (λ lawful is says. absurd (omega (arith, same-kind _ _ _ says h)))
+          (λ lawful n is wanting says. absurd (omega (arith, same-kind _ _ _ says h)))
+          (λ lawful n len is wrote says. absurd (omega (arith, same-kind _ _ _ says h)))
+
+  -- so no list misses
+  pub missed-never : missedAnswer text page at ≡ Never → NeverMisses p
+  missed-never h =
+      let rule = missed-never-rule .0 h in
+      payable-never-misses p (planCheck-lawful p (plan-lawful (rule .0))) (rule .2)
 
   -- ---- NoneFound
 
@@ -263,6 +307,7 @@ module _ (text page : List ℕ) (at : ℕ) where
         by-missed
         (λ f k e says. absurd (omega (arith, same-kind _ _ _ says h)))
         (λ lawful is says. absurd (omega (arith, same-kind _ _ _ says h)))
+        (λ lawful is says. absurd (omega (arith, same-kind _ _ _ says h)))
         (λ lawful is says. (lawful, is))
         (λ lawful is says. absurd (omega (arith, same-kind _ _ _ says h)))
         (λ lawful n is wanting says. absurd (omega (arith, same-kind _ _ _ says h)))
@@ -271,12 +316,16 @@ module _ (text page : List ℕ) (at : ℕ) where
     pub missed-none : (readingOf text .checked ≡ checked.Lawful) × (Passes p → ⊥)
     missed-none = (none-is .0, answer-none-rule p (none-is .1) .1)
 
-    -- with free moving the sharp rule would hold, so where moving is free no list misses
+    -- with free moving the sharp rule would hold, and it does not with what is payable
     pub missed-none-free : SharplyPasses (freely p)
     missed-none-free = answer-none-free p (none-is .1)
 
-    pub missed-none-never : FreeMoving p → NeverMisses p
-    missed-none-never = answer-none-never p (none-is .1)
+    pub missed-none-payable : SharplyPasses (payable p) → ⊥
+    missed-none-payable = answer-none-payable p (none-is .1)
+
+    -- so where moving is free it is never answered
+    pub missed-none-paid : FreeMoving p → ⊥
+    missed-none-paid = answer-none-paid p (none-is .1)
 
   -- ---- TooMany
 
@@ -285,6 +334,7 @@ module _ (text page : List ℕ) (at : ℕ) where
     many-is =
         by-missed
         (λ f k e says. absurd (omega (arith, same-kind _ _ _ says h)))
+        (λ lawful is says. absurd (omega (arith, same-kind _ _ _ says h)))
         (λ lawful is says. absurd (omega (arith, same-kind _ _ _ says h)))
         (λ lawful is says. absurd (omega (arith, same-kind _ _ _ says h)))
         (λ lawful is says. (lawful, is))
@@ -355,6 +405,7 @@ module _ (text page : List ℕ) (at : ℕ) where
       (λ lawful is says. absurd (omega (arith, same-kind _ _ _ says h)))
       (λ lawful is says. absurd (omega (arith, same-kind _ _ _ says h)))
       (λ lawful is says. absurd (omega (arith, same-kind _ _ _ says h)))
+      (λ lawful is says. absurd (omega (arith, same-kind _ _ _ says h)))
       (λ lawful n is wanting says. absurd (omega (arith, same-kind _ _ _ says h)))
       (λ lawful n size is wrote says.
       let said = sym (says .0) ∙ h in
@@ -367,6 +418,7 @@ module _ (text page : List ℕ) (at : ℕ) where
   missed-keeps no-text =
       by-missed
       (λ f k e says. says .1)
+      (λ lawful is says. says .1)
       (λ lawful is says. says .1)
       (λ lawful is says. says .1)
       (λ lawful is says. says .1)

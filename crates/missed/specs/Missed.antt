@@ -20,7 +20,7 @@ use Rattle.tries.specs.declared.Missing.{Missing}
 use Rattle.tries.specs.declared.Missing.the-variants as missing
 use Rattle.tries.specs.Tries.{missingAnswer}
 use Rattle.missed.specs.declared.Missed.{Missed}
-use Rattle.missed.specs.declared.Missed.the-variants.{Refused, Passes, NoneFound, TooMany, Text}
+use Rattle.missed.specs.declared.Missed.the-variants.{Refused, Passes, Never, NoneFound, TooMany, Text}
 
 abbrev pub asSaved : Saved → Missed
 asSaved (saved.Refused f at) = Refused f at
@@ -30,6 +30,7 @@ module _ (p : Plan) (rs : Releases) (page : List ℕ) (at : ℕ) where
   unfoldable pub putAnswer : Missing → Missed
   putAnswer (missing.Refused f k) = Refused f k
   putAnswer missing.Passes = Passes
+  putAnswer missing.Never = Never
   putAnswer missing.NoneFound = NoneFound
   putAnswer missing.TooMany = TooMany
   putAnswer (missing.Found n) = asSaved (savedAnswer version03 (withRun p (n .0)) rs page at)
@@ -37,6 +38,7 @@ module _ (p : Plan) (rs : Releases) (page : List ℕ) (at : ℕ) where
   unfoldable pub putPage : Missing → List ℕ
   putPage (missing.Refused f k) = page
   putPage missing.Passes = page
+  putPage missing.Never = page
   putPage missing.NoneFound = page
   putPage missing.TooMany = page
   putPage (missing.Found n) = savedPage version03 (withRun p (n .0)) rs page at

@@ -5,9 +5,10 @@ use Rattle.faults.specs.{declared.Fault.Fault, declared.Fault.the-variants.NoRo
 use Rattle.rules.specs.{Answer.{answered, answerOf}, Demand.Passes, Text.readingOf}
 use Rattle.sound.specs.Sharp.{SharplyPasses}
 use Rattle.exact.specs.Missing.{freely, NeverMisses, FreeMoving}
+use Rattle.charging.specs.Payable.{payable}
 use Rattle.tries.specs.Shown.{MissesOverMany}
-use Rattle.missed.specs.{declared.Missed.Missed, declared.Missed.the-variants.{Refused, NoneFound, TooMany, Text}, ShowsMiss.ShowsMiss}
-use Rattle.missed.proofs.OfText.{missed-refuses, missed-refused, missed-passes, missed-none, missed-none-free, missed-none-never, missed-text, missed-keeps, missed-many, missed-many-list}
+use Rattle.missed.specs.{declared.Missed.Missed, declared.Missed.the-variants.{Refused, Never, NoneFound, TooMany, Text}, ShowsMiss.ShowsMiss}
+use Rattle.missed.proofs.OfText.{missed-refuses, missed-refused, missed-passes, missed-none, missed-never-rule, missed-never, missed-none-free, missed-none-payable, missed-none-paid, missed-text, missed-keeps, missed-many, missed-many-list}
 use Rattle.faults.specs.declared.Checked.the-variants as checked
 use Rattle.rules.specs.declared.Answer.the-variants as answer
 use Rattle.missed.specs.declared.Missed.the-variants as missed
@@ -51,15 +52,30 @@ module _ (κs : Lfts 2) (a : _) (e : _) (r : Missed) (did : miss.Learnt κs a r 
       let exactly = missed-passes (a .0 .now) (a .1 .0 .now) (a .1 .1 .0) in
       (λ is. exactly .0 (sym (did .0) ∙ is), λ rule. did .0 ∙ exactly .1 rule)
 
-  -- where none is found, the rule does not hold; with free moving the sharp rule would, so where moving is free no list misses
+  -- exactly where the text is lawful, the rule does not hold, and the payable plan passes sharply; so no list misses, whatever N
+  pub never-exactly : (r ≡ Never)
+      ↔ (readingOf (a .0 .now) .checked ≡ checked.Lawful) × (Passes (readingOf (a .0 .now) .plan) → ⊥)
+      × SharplyPasses (payable (readingOf (a .0 .now) .plan))
+  never-exactly =
+      let exactly = missed-never-rule (a .0 .now) (a .1 .0 .now) (a .1 .1 .0) in
+      (λ is. exactly .0 (sym (did .0) ∙ is), λ rule. did .0 ∙ exactly .1 rule)
+
+  pub fails-never-misses : r ≡ Never → NeverMisses (readingOf (a .0 .now) .plan)
+  fails-never-misses is = missed-never (a .0 .now) (a .1 .0 .now) (a .1 .1 .0) (sym (did .0) ∙ is)
+
+  -- where none is found, the rule does not hold, nor the sharp rule of the payable plan; with free moving it would. So where moving is free
+  -- this is not answered
   pub none-breaks : r ≡ NoneFound → (readingOf (a .0 .now) .checked ≡ checked.Lawful) × (Passes (readingOf (a .0 .now) .plan) → ⊥)
   none-breaks is = missed-none (a .0 .now) (a .1 .0 .now) (a .1 .1 .0) (sym (did .0) ∙ is)
 
-  pub none-paid : r ≡ NoneFound → SharplyPasses (freely (readingOf (a .0 .now) .plan))
-  none-paid is = missed-none-free (a .0 .now) (a .1 .0 .now) (a .1 .1 .0) (sym (did .0) ∙ is)
+  pub none-free : r ≡ NoneFound → SharplyPasses (freely (readingOf (a .0 .now) .plan))
+  none-free is = missed-none-free (a .0 .now) (a .1 .0 .now) (a .1 .1 .0) (sym (did .0) ∙ is)
 
-  pub none-never : r ≡ NoneFound → FreeMoving (readingOf (a .0 .now) .plan) → NeverMisses (readingOf (a .0 .now) .plan)
-  none-never is = missed-none-never (a .0 .now) (a .1 .0 .now) (a .1 .1 .0) (sym (did .0) ∙ is)
+  pub none-payable : r ≡ NoneFound → SharplyPasses (payable (readingOf (a .0 .now) .plan)) → ⊥
+  none-payable is = missed-none-payable (a .0 .now) (a .1 .0 .now) (a .1 .1 .0) (sym (did .0) ∙ is)
+
+  pub none-paid : r ≡ NoneFound → FreeMoving (readingOf (a .0 .now) .plan) → ⊥
+  none-paid is = missed-none-paid (a .0 .now) (a .1 .0 .now) (a .1 .1 .0) (sym (did .0) ∙ is)
 
   -- where there are too many, the rule does not hold either, and a list misses that has more than 1,000 releases
   pub many-breaks : r ≡ TooMany → (readingOf (a .0 .now) .checked ≡ checked.Lawful) × (Passes (readingOf (a .0 .now) .plan) → ⊥)

@@ -123,6 +123,7 @@ use Rattle.entries.proofs.desk_quick.Reads as desk-quick
 use Rattle.entries.proofs.desk_search.Reads as desk-search
 use Rattle.entries.proofs.desk_run.Reads as desk-run
 use Rattle.entries.proofs.desk_stints.Reads as desk-stints
+use Rattle.entries.proofs.desk_can_miss.Reads as desk-can-miss
 use Rattle.entries.proofs.desk_check_visits.Reads as desk-check-visits
 use Rattle.entries.proofs.desk_answer.Reads as desk-answer
 use Rattle.entries.proofs.desk_date.Reads as desk-date
@@ -526,6 +527,10 @@ one-desk-quick κs a e f r s h k = (h .0 ∙ sym (k .0), h .1 .0 ∙ sym (k .1 .
 pub one-desk-search : (κs : Lfts 2) (a : _) (e f : _) (r s : ℕ) → desk-search.Learnt κs a r e → desk-search.Learnt κs a s f
     → (r ≡ s) × (e .1 .0 .now ≡ f .1 .0 .now) × (e .0 .now ≡ f .0 .now)
 one-desk-search κs a e f r s h k = (h .0 ∙ sym (k .0), h .1 .0 ∙ sym (k .1 .0), h .1 .1 ∙ sym (k .1 .1))
+
+pub one-desk-can-miss : (κs : Lfts 2) (a : _) (e f : _) (r s : ℕ) → desk-can-miss.Learnt κs a r e → desk-can-miss.Learnt κs a s f
+    → (r ≡ s) × (e .1 .0 .now ≡ f .1 .0 .now) × (e .0 .now ≡ f .0 .now)
+one-desk-can-miss κs a e f r s h k = (h .0 ∙ sym (k .0), h .1 .0 ∙ sym (k .1 .0), h .1 .1 ∙ sym (k .1 .1))
 
 pub one-desk-run : (κs : Lfts 3) (a : _) (e f : _) (r s : ℕ) → desk-run.Learnt κs a r e → desk-run.Learnt κs a s f
     → (r ≡ s) × (e .1 .1 .0 .now ≡ f .1 .1 .0 .now) × (e .0 .now ≡ f .0 .now) × (e .1 .0 .now ≡ f .1 .0 .now)

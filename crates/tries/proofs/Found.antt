@@ -7,10 +7,10 @@ use Rattle.faults.specs.declared.Checked.the-variants.{Lawful}
 use Rattle.faults.proofs.Checks.{by-checked, then-lawful}
 use Rattle.rules.specs.{declared.Plan.Plan, declared.Release.Release, declared.Outcome.the-variants.{Miss, Clean}, declared.AskedOutcome.AskedOutcome, declared.AskedOutcome.the-variants.{Refused, Given}, Release.{noRelease, releasesOf, firstUnlawful}, Refusal.{planCheck, releasesCheck, runCheck, runAnswer}, Run.runOf, Plan.withRun}
 use Rattle.laws.proofs.{Lawful.LawfulPlan, LawfulChecked.lawful-checked, Releases.{LawfulRun, runCheck-lawful, releasesCheck-good}, Answers.run-lawful}
-use Rattle.exact.specs.Missing.{SharpBreak, missing, MissesBy}
+use Rattle.exact.specs.Missing.{freely, SharpBreak, missing, MissesBy}
 use Rattle.exact.proofs.{Exact.{withRun-lawful, mostLate-le, sharp-break-misses}, Longer.{miss-soon, longer-misses}}
 use Rattle.tries.specs.Tries.{Break, Try, endOfTry, listOf, freeBreak, ownBreak, blockTry, freeTries, heldTries, stoppedTries, paidTries, tries, packed, isMiss, missesOn, found, raised}
-use Rattle.tries.proofs.FreeBreaks.{break-names, break-near}
+use Rattle.tries.proofs.SharpBreaks.{break-names, free-near}
 
 -- ---- A list as the code has it
 
@@ -100,11 +100,11 @@ module _ (p : Plan) (ok : LawfulPlan p) (y : Break) (is : freeBreak p ≡ some y
   abbrev end : ℕ
   end = endOfTry (blockTry p y)
 
-  broken : SharpBreak p (y .l) (y .b) (y .q)
-  broken = break-names p y is
+  broken : SharpBreak (freely p) (y .l) (y .b) (y .q)
+  broken = break-names (freely p) y is
 
   end-bounded : end ≤ 1000000
-  end-bounded = omega (arith, break-near p y is, ok .hMax, mostLate-le p ok)
+  end-bounded = omega (arith, free-near p ok y is, ok .hMax, mostLate-le p ok)
 
   block-misses : MissesBy (withRun p end) (missing p (y .l) (y .b) (y .q)) end
   block-misses = sharp-break-misses p ok end (y .l) (y .b) (y .q) end-bounded (omega arith) broken

@@ -2,7 +2,9 @@
 --     Refused      as the plan's check refuses
 --     Passes       the plan passes, so no lawful list misses, whatever N
 --     Found        the list that is shown is lawful, and its run misses
---     NoneFound    the plan does not pass; with free moving it would pass sharply, so that it would never miss
+--     Never        the plan does not pass; its payable plan passes sharply, so no lawful list misses, whatever N
+--     NoneFound    the plan does not pass, nor does its payable plan sharply; with free moving it would, so that it would never miss. Where
+--                  moving is free it is never answered
 --     TooMany      the plan does not pass, not even sharply with free moving: there is a list that misses, and it has more than 1,000
 --                  releases
 use Rattle.base.proofs.Prelude.{ℕ, _≤_, _≡_, refl, sym, ap, _∙_, _↔_, true, false, Option, none, some, arith, decLe, length}
@@ -11,31 +13,49 @@ use Rattle.base.proofs.Lists.{by-bool, true-not-false}
 use Rattle.faults.specs.declared.Fault.{Fault}
 use Rattle.faults.proofs.Checks.{by-checked}
 use Rattle.rules.specs.{declared.Plan.Plan, declared.Outcome.the-variants.Miss, declared.AskedOutcome.the-variants.Given, Demand.Passes, Verdict.{verdictOf, isPass}, Release.releasesOf, Run.runOf, Refusal.{planCheck, runAnswer}, Plan.withRun}
-use Rattle.laws.specs.Lawful.{OnTime}
 use Rattle.laws.proofs.{Lawful.{LawfulPlan, planCheck-lawful}, LawfulChecked.lawful-checked}
 use Rattle.demand.proofs.Verdict.{passes-of-pass, pass-of-passes}
 use Rattle.sound.specs.Sharp.{SharplyPasses}
 use Rattle.exact.specs.Missing.{freely, missing, NeverMisses, FreeMoving}
-use Rattle.exact.proofs.{Exact.{withRun-lawful, mostLate-le, sharp-break-misses, sharply-never, passes-never, free-sharp}, NoLateDays.sharp-is-rule}
-use Rattle.tries.specs.{declared.Missing.Missing, Tries.{Break, Try, listOf, freeBreak, packed, found, raised, unfound, foundAs, missingOf, missingAnswer}, Shown.{Shows, MissesOverMany}}
-use Rattle.tries.proofs.{FreeBreaks.{break-names, break-near, none-sharp}, Found.{packed-holds, misses-packed, found-bounded, found-few, found-misses, found-where-free}}
+use Rattle.exact.proofs.{Freely.freely-lawful, Exact.{withRun-lawful, mostLate-le, sharp-break-misses, passes-never, free-sharp}}
+use Rattle.charging.specs.Payable.{payable}
+use Rattle.charging.proofs.{Payable.{payable-lawful, payable-never-misses}, StillPasses.payable-sharply}
+use Rattle.tries.specs.{declared.Missing.Missing, Tries.{Break, Try, isWhole, sharpBreak, freeBreak, passesPayably, listOf, packed, found, raised, unfound, foundAs, missingOf, missingAnswer}, Shown.{Shows, MissesOverMany}}
+use Rattle.tries.proofs.{SharpBreaks.{break-names, free-near, none-sharp, sharp-none}, Found.{packed-holds, misses-packed, found-bounded, found-few, found-misses, found-where-free}}
 use Rattle.faults.specs.declared.Checked.the-variants as checked
 use Rattle.tries.specs.declared.Missing.the-variants as answer
 
 -- ---- How an answer comes about
 
--- the five answers, told apart by a number
+-- the six answers, told apart by a number
 abbrev kindOf : Missing → ℕ
 kindOf (answer.Refused f at) = 0
 kindOf answer.Passes = 1
 kindOf answer.NoneFound = 2
 kindOf (answer.Found n) = 3
 kindOf answer.TooMany = 4
+kindOf answer.Never = 5
+
+-- the payable plan passes sharply, as the code asks it
+payably-passes : (p : Plan) → LawfulPlan p → (passesPayably p ≡ true) ↔ SharplyPasses (payable p)
+unfolding passesPayably
+payably-passes p ok = (
+  λ t. none-sharp (payable p) (whole (sharpBreak (payable p)) t) (payable-lawful p ok),
+  λ sharp. ap isWhole (sharp-none (payable p) (payable-lawful p ok) sharp),
+)
+  where
+    whole : (o : Option Break) → isWhole o ≡ true → o ≡ none
+    whole none t = refl
+    whole (some y) f = absurd (true-not-false (sym f))
 
 module _ (p : Plan) where
   -- a plan that is lawful and does not pass
+  abbrev Fails : Type 0
+  Fails = (planCheck p ≡ checked.Lawful) × (isPass (verdictOf p) ≡ false)
+
+  -- nor does its payable plan sharply: then lists are tried
   abbrev pub Tried : Type 0
-  Tried = (planCheck p ≡ checked.Lawful) × (isPass (verdictOf p) ≡ false)
+  Tried = Fails × (passesPayably p ≡ false)
 
   refused-says : (f : Fault) (at : ℕ) → planCheck p ≡ checked.Refused f at → missingAnswer p .missing ≡ answer.Refused f at
   unfolding missingAnswer
@@ -45,13 +65,18 @@ module _ (p : Plan) where
   unfolding missingAnswer missingOf
   pass-says lawful pass = rw (lawful, pass)
 
+  never-says : Fails → passesPayably p ≡ true → missingAnswer p .missing ≡ answer.Never
+  unfolding missingAnswer missingOf
+  never-says fails spared = rw (fails .0, fails .1, spared)
+
   tried-says : Tried → missingAnswer p ≡ foundAs p (found p)
   unfolding missingAnswer missingOf
-  tried-says tried = rw (tried .0, tried .1)
+  tried-says tried = rw (tried .0 .0, tried .0 .1, tried .1)
 
-  -- one of five ways
+  -- one of six ways
   module _ {B : Type 0} (refused : (f : Fault) (at : ℕ) → planCheck p ≡ checked.Refused f at → B)
       (passes : planCheck p ≡ checked.Lawful → isPass (verdictOf p) ≡ true → B)
+      (never : Fails → passesPayably p ≡ true → B)
       (nothing : Tried → found p ≡ none → freeBreak p ≡ none → B)
       (many : Tried → found p ≡ none → (y : Break) → freeBreak p ≡ some y → B)
       (shown : Tried → (y : Try) → found p ≡ some y → B) where
@@ -67,7 +92,9 @@ module _ (p : Plan) where
     by-answer =
         by-checked (planCheck p)
         (λ lawful.
-        by-bool (isPass (verdictOf p)) (λ pass. passes lawful pass) (λ fails. by-found (lawful, fails) (found p) refl))
+        by-bool (isPass (verdictOf p)) (λ pass. passes lawful pass)
+        (λ fails.
+        by-bool (passesPayably p) (λ spared. never (lawful, fails) spared) (λ not. by-found ((lawful, fails), not) (found p) refl)))
         refused
 
   unfound-says : Tried → found p ≡ none → missingAnswer p .missing ≡ unfound (freeBreak p)
@@ -102,6 +129,7 @@ module _ (p : Plan) where
           let place : k ≡ at = cc in
           e ∙ ap (λ x. checked.Refused x k) fault ∙ ap (checked.Refused f) place)
           (λ lawful pass. absurd (omega (arith, not-same _ _ (pass-says lawful pass) h)))
+          (λ fails spared. absurd (omega (arith, not-same _ _ (never-says fails spared) h)))
           (λ tried none-is whole. absurd (omega (arith, not-same _ _ (nothing-says tried none-is whole) h)))
           (λ tried none-is y breaks. absurd (omega (arith, not-same _ _ (many-says tried none-is y breaks) h)))
           (λ tried y is. absurd (omega (arith, not-same _ _ (shown-says tried y is) h)))
@@ -116,6 +144,7 @@ module _ (p : Plan) where
           by-answer
           (λ f at e. absurd (omega (arith, not-same _ _ (refused-says f at e) h)))
           (λ lawful pass. (lawful, pass))
+          (λ fails spared. absurd (omega (arith, not-same _ _ (never-says fails spared) h)))
           (λ tried none-is whole. absurd (omega (arith, not-same _ _ (nothing-says tried none-is whole) h)))
           (λ tried none-is y breaks. absurd (omega (arith, not-same _ _ (many-says tried none-is y breaks) h)))
           (λ tried y is. absurd (omega (arith, not-same _ _ (shown-says tried y is) h)))
@@ -164,13 +193,14 @@ module _ (p : Plan) where
         by-answer
         (λ f at e. absurd (omega (arith, not-same _ _ (refused-says f at e) h)))
         (λ lawful pass. absurd (omega (arith, not-same _ _ (pass-says lawful pass) h)))
+        (λ fails spared. absurd (omega (arith, not-same _ _ (never-says fails spared) h)))
         (λ tried none-is whole. absurd (omega (arith, not-same _ _ (nothing-says tried none-is whole) h)))
         (λ tried none-is y breaks. absurd (omega (arith, not-same _ _ (many-says tried none-is y breaks) h)))
         (λ tried y is.
         let said = sym (shown-says tried y is) ∙ h in
         let run : days (raised p y) ≡ n = cc in
         let list : packed (listOf p y) ≡ missingAnswer p .releases = sym (ap (λ a. a .releases) (shown-is tried y is)) in
-        (tried, rw (← run, ← list) (shown-misses (planCheck-lawful p (tried .0)) y is)))
+        (tried, rw (← run, ← list) (shown-misses (planCheck-lawful p (tried .0 .0)) y is)))
 
     -- the run entry, asked for the plan with this N and this list, answers with a miss
     pub found-answers : (t : Day) × (place : ℕ) × (t .0 ≤ n .0)
@@ -179,7 +209,7 @@ module _ (p : Plan) where
     found-answers =
         let shows = answer-found .1 in
         let misses = shows .misses in
-        let ok = planCheck-lawful p (answer-found .0 .0) in
+        let ok = planCheck-lawful p (answer-found .0 .0 .0) in
         let low : 1 ≤ n .0 = omega (arith, ok .runPos, shows .longer) in
         let lawful = lawful-checked (withRun p (n .0)) (withRun-lawful p (n .0) ok low (shows .bounded)) in (
           day (misses .t),
@@ -192,11 +222,49 @@ module _ (p : Plan) where
               ∙ misses-packed (withRun p (n .0)) (shows .list) (n .0) lawful (shows .few) misses,
         )
 
-  -- ---- NoneFound and TooMany
+  -- ---- Never
 
-  -- where no list is shown the rule breaks somewhere
-  tried-breaks : Tried → Passes p → ⊥
-  tried-breaks tried rule = true-not-false (sym (pass-of-passes p (planCheck-lawful p (tried .0)) rule) ∙ tried .1)
+  -- where it fails the rule breaks somewhere
+  fails-breaks : Fails → Passes p → ⊥
+  fails-breaks fails rule = true-not-false (sym (pass-of-passes p (planCheck-lawful p (fails .0)) rule) ∙ fails .1)
+
+  breaks-fails : LawfulPlan p → (Passes p → ⊥) → Fails
+  breaks-fails ok breaks =
+      by-bool (isPass (verdictOf p)) (λ pass. absurd (breaks (passes-of-pass p ok pass))) (λ fails. (lawful-checked p ok, fails))
+
+  -- it is answered exactly where the plan is lawful and fails, and its payable plan passes sharply
+  pub answer-never-rule : (missingAnswer p .missing ≡ answer.Never) ↔ LawfulPlan p × (Passes p → ⊥) × SharplyPasses (payable p)
+  answer-never-rule = (
+    only,
+    λ h. never-says (breaks-fails (h .0) (h .1)) (payably-passes p (h .0) .1 (h .2)),
+  )
+    where
+      said : missingAnswer p .missing ≡ answer.Never → Fails × (passesPayably p ≡ true)
+      said h =
+          by-answer
+          (λ f at e. absurd (omega (arith, not-same _ _ (refused-says f at e) h)))
+          (λ lawful pass. absurd (omega (arith, not-same _ _ (pass-says lawful pass) h)))
+          (λ fails spared. (fails, spared))
+          (λ tried none-is whole. absurd (omega (arith, not-same _ _ (nothing-says tried none-is whole) h)))
+          (λ tried none-is y breaks. absurd (omega (arith, not-same _ _ (many-says tried none-is y breaks) h)))
+          (λ tried y is. absurd (omega (arith, not-same _ _ (shown-says tried y is) h)))
+
+      only : missingAnswer p .missing ≡ answer.Never → LawfulPlan p × (Passes p → ⊥) × SharplyPasses (payable p)
+      only h =
+          let ok = planCheck-lawful p (said h .0 .0) in
+          (ok, fails-breaks (said h .0), payably-passes p ok .0 (said h .1))
+
+  -- so there is no list that misses
+  pub answer-never : missingAnswer p .missing ≡ answer.Never → NeverMisses p
+  answer-never h =
+      let good = answer-never-rule .0 h in
+      payable-never-misses p (good .0) (good .2)
+
+  -- and where the plan itself passes sharply, though not by the rule, it is answered
+  pub answer-never-sharp : LawfulPlan p → (Passes p → ⊥) → SharplyPasses p → missingAnswer p .missing ≡ answer.Never
+  answer-never-sharp ok breaks sharp = answer-never-rule .1 (ok, breaks, payable-sharply p sharp)
+
+  -- ---- NoneFound and TooMany
 
   -- none was found: with free moving the sharp rule would hold
   module _ (h : missingAnswer p .missing ≡ answer.NoneFound) where
@@ -205,23 +273,24 @@ module _ (p : Plan) where
         by-answer
         (λ f at e. absurd (omega (arith, not-same _ _ (refused-says f at e) h)))
         (λ lawful pass. absurd (omega (arith, not-same _ _ (pass-says lawful pass) h)))
+        (λ fails spared. absurd (omega (arith, not-same _ _ (never-says fails spared) h)))
         (λ tried none-is whole. (tried, whole))
         (λ tried none-is y breaks. absurd (omega (arith, not-same _ _ (many-says tried none-is y breaks) h)))
         (λ tried y is. absurd (omega (arith, not-same _ _ (shown-says tried y is) h)))
 
     pub answer-none-rule : LawfulPlan p × (Passes p → ⊥)
-    answer-none-rule = (planCheck-lawful p (none-tried .0 .0), tried-breaks (none-tried .0))
+    answer-none-rule = (planCheck-lawful p (none-tried .0 .0 .0), fails-breaks (none-tried .0 .0))
 
+    -- with free moving the sharp rule would hold, and it does not with what is payable
     pub answer-none-free : SharplyPasses (freely p)
-    answer-none-free = none-sharp p (none-tried .1) (answer-none-rule .0)
+    answer-none-free = none-sharp (freely p) (none-tried .1) (freely-lawful p (answer-none-rule .0))
 
-    -- so where moving is free no list misses
-    pub answer-none-never : FreeMoving p → NeverMisses p
-    answer-none-never free = sharply-never p (answer-none-rule .0) (free-sharp p free answer-none-free)
+    pub answer-none-payable : SharplyPasses (payable p) → ⊥
+    answer-none-payable sharp = true-not-false (sym (payably-passes p (answer-none-rule .0) .1 sharp) ∙ none-tried .0 .1)
 
-    -- and where nothing comes late besides, it is never answered
-    pub answer-none-paid : OnTime p → FreeMoving p → ⊥
-    answer-none-paid on-time free = answer-none-rule .1 (sharp-is-rule p on-time .0 (free-sharp p free answer-none-free))
+    -- so where moving is free it is never answered, late days or not
+    pub answer-none-paid : FreeMoving p → ⊥
+    answer-none-paid free = answer-none-payable (payable-sharply p (free-sharp p free answer-none-free))
 
   -- there are too many: the sharp rule breaks with free moving too, and the list that misses there cannot be shown
   module _ (h : missingAnswer p .missing ≡ answer.TooMany) where
@@ -230,12 +299,13 @@ module _ (p : Plan) where
         by-answer
         (λ f at e. absurd (omega (arith, not-same _ _ (refused-says f at e) h)))
         (λ lawful pass. absurd (omega (arith, not-same _ _ (pass-says lawful pass) h)))
+        (λ fails spared. absurd (omega (arith, not-same _ _ (never-says fails spared) h)))
         (λ tried none-is whole. absurd (omega (arith, not-same _ _ (nothing-says tried none-is whole) h)))
         (λ tried none-is y breaks. (tried, none-is, (y, breaks)))
         (λ tried y is. absurd (omega (arith, not-same _ _ (shown-says tried y is) h)))
 
     pub answer-many-rule : LawfulPlan p × (Passes p → ⊥)
-    answer-many-rule = (planCheck-lawful p (many-tried .0 .0), tried-breaks (many-tried .0))
+    answer-many-rule = (planCheck-lawful p (many-tried .0 .0 .0), fails-breaks (many-tried .0 .0))
 
     pub answer-many : MissesOverMany p
     answer-many =
@@ -253,5 +323,5 @@ module _ (p : Plan) where
               ];
           misses =
               sharp-break-misses p ok 1000000 (y .l) (y .b) (y .q) (omega arith)
-              (omega (arith, break-near p y breaks, ok .hMax, mostLate-le p ok)) (break-names p y breaks);
+              (omega (arith, free-near p ok y breaks, ok .hMax, mostLate-le p ok)) (break-names (freely p) y breaks);
         }

@@ -5,9 +5,9 @@ use denote.Enum.Declared.{tagOf}
 use Rattle.base.specs.Count.{upFrom, firstOf}
 use Rattle.base.proofs.FirstOf.{firstOf-end, firstOf-here, firstOf-later, firstOf-front, firstOf-rest}
 use Rattle.rules.specs.declared.Plan.{Plan}
-use Rattle.tries.specs.{declared.search.Tried.Tried, declared.search.Tried.the-variants.{NoneMisses, Misses}, declared.breaks.FreeBreak.FreeBreak, declared.breaks.FreeBreak.the-variants.{Unbroken, Breaks}, Tries.{Break, Try, byInterval, missesOn}, inner.Openings.{Finds, Points}}
+use Rattle.tries.specs.{declared.search.Tried.Tried, declared.search.Tried.the-variants.{NoneMisses, Misses}, declared.breaks.FirstBreak.FirstBreak, declared.breaks.FirstBreak.the-variants.{Unbroken, Breaks}, Tries.{Break, Try, byInterval, missesOn}, inner.Openings.{Finds, Points}}
 use Rattle.tries.proofs.{search.Tried.the-type, Places.{after, after-next, after-end}}
-use Rattle.tries.proofs.breaks.FreeBreak as break-of
+use Rattle.tries.proofs.breaks.FirstBreak as break-of
 use types.Run.{OneOf, miss}
 
 -- the same try is asked for
@@ -75,13 +75,13 @@ module _ (f : Try → Bool) where
 
 -- ---- The search for a break
 
-pub points-as : (t : FreeBreak) (a b : Option Break) → a ≡ b → Points t a → Points t b
+pub points-as : (t : FirstBreak) (a b : Option Break) → a ≡ b → Points t a → Points t b
 points-as t a b e h = subst (Points t) e h
 
-pub points-none : (t : FreeBreak) (a : Option Break) → t ≡ Unbroken → Points t a → a ≡ none
+pub points-none : (t : FirstBreak) (a : Option Break) → t ≡ Unbroken → Points t a → a ≡ none
 points-none t a e h = subst (λ u. Points u a) e h
 
-pub points-row : (f : Break → Bool) (row : ℕ → List Break) (i n : ℕ) → i < n → (t : FreeBreak) → OneOf (1 ∷ []) (tagOf break-of.the-type t)
+pub points-row : (f : Break → Bool) (row : ℕ → List Break) (i n : ℕ) → i < n → (t : FirstBreak) → OneOf (1 ∷ []) (tagOf break-of.the-type t)
     → Points t (firstOf f (row (i + 1))) → Points t (firstOf f (flatMap row (after i n)))
 points-row f row i n h Unbroken found is = absurd (miss (1 ∷ []) 0 tt found)
 points-row f row i n h (Breaks l b q) found is = row-found f row i n h _ is

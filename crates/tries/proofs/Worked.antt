@@ -8,7 +8,8 @@ use Rattle.rules.proofs.Worked.{string, paying, opening, planOf, plan, release,
 use Rattle.exact.proofs.Worked.{openingLate, lateAndFull, spared}
 use Rattle.sound.specs.Sharp.{needBut, demandBut}
 use Rattle.exact.specs.Missing.{mostLate, blockerRelease, delayOf, dueComing, comesIn, comesFirst, releasesIn, othersIn}
-use Rattle.tries.specs.{declared.Missing.the-variants.{Passes, NoneFound, Found}, declared.Shown.Shown, Tries.{longestBlock, allBreaks, isBroken, freeBreak, listOf, stoppedTries, paidTries, tries, packed, isMiss, missesOn, found, missingOf, missingAnswer, unlisted}}
+use Rattle.charging.specs.Payable.{canLose, chargeable, costsWhere, rounds, payable}
+use Rattle.tries.specs.{declared.Missing.the-variants.{Passes, Never, Found}, declared.Shown.Shown, Tries.{longestBlock, allBreaks, isBroken, sharpBreak, passesPayably, listOf, stoppedTries, paidTries, tries, packed, isMiss, missesOn, found, missingOf, missingAnswer, unlisted}}
 
 -- the first string takes the bank from the second, pays two days and is late
 unfoldable pub dear : Plan
@@ -40,10 +41,10 @@ table =
     ∷ row (withSet dear 1) (shown 20 (release 0 2 5 ∷ release 1 1 2 ∷ []))
     ∷ row (withSet later 2) (shown 40 (release 0 1 5 ∷ release 1 3 2 ∷ release 4 2 1 ∷ []))
     ∷ row (withSet five 2) (shown 20 (release 0 3 2 ∷ release 1 2 1 ∷ release 2 1 3 ∷ []))  -- P6
-    ∷ row (withSet alone 1) (unlisted NoneFound)
+    ∷ row (withSet alone 1) (unlisted Never)
     ∷ row openingLate (shown 20 (release 1 2 2 ∷ releaseDue 1 2 1 1 ∷ []))  -- the theorem's list, late where that hurts
     ∷ row lateAndFull (shown 20 (release 2 2 2 ∷ releaseDue 1 3 1 2 ∷ []))
-    ∷ row spared (unlisted NoneFound)  -- fails by the rule, and can never miss
+    ∷ row spared (unlisted Never)  -- fails by the rule, and passes sharply
     ∷ []
 
 pub answers : map (λ r. missingAnswer (r .plan)) table ≡ map (λ r. r .said) table
@@ -59,5 +60,6 @@ unfolding
     runOf
     countCheck runLengthCheck stringsCheck multipleCheck planCheck releasesCheck runCheck runAnswer
     needBut demandBut mostLate blockerRelease delayOf dueComing comesIn comesFirst releasesIn othersIn
-    longestBlock allBreaks isBroken freeBreak listOf stoppedTries paidTries tries isMiss missesOn found missingOf missingAnswer
+    canLose chargeable costsWhere rounds payable longestBlock allBreaks isBroken sharpBreak passesPayably
+    listOf stoppedTries paidTries tries isMiss missesOn found missingOf missingAnswer
 answers = refl

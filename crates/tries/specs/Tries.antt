@@ -1,10 +1,13 @@
--- The release lists that are tried on a plan which does not pass, in their order, and which of them is shown. The first is the theorem's,
--- where the sharp rule with free moving breaks: it misses. Any other is shown only if it was run and did miss.
+-- Whether a plan that does not pass can miss: that it cannot, where that is proved; else the release lists that are tried, in their order,
+-- and which of them is shown. The first is the theorem's, where the sharp rule with free moving breaks: it misses. Any other is shown only
+-- if it was run and did miss.
 --     Break                 where the sharp rule may break: an interval, a blocking and the place of the string that blocks, 0 for nobody
---     longestBlock p l      the longest that a job which is due beyond an interval of l days blocks it where moving is free
+--     longestBlock p l      the longest that a job which is due beyond an interval of l days blocks it
 --     allBreaks p           those in reach, in order of the interval, then the blocking, then the place
---     isBroken p y          the sharp rule with free moving breaks at y
---     freeBreak p           the first at which it does, if it does anywhere
+--     isBroken p y          the sharp rule breaks at y
+--     sharpBreak p          the first at which it does, if it does anywhere
+--     freeBreak p           the first at which it does with free moving
+--     passesPayably p       the payable plan passes sharply, so that no list misses; it does where the plan itself passes sharply
 --     Try                   how a list begins, and what comes after it: its first releases; the day on which the interval begins; the days
 --                           of the interval before takers come; and the interval's length
 --     endOfTry y            the day on which the interval of the try y ends
@@ -26,7 +29,8 @@
 --     unlisted m            the answer m with an empty list
 --     unfound y             what is answered where no list that was tried misses, y being the free break: if there is one, there is a list
 --                           that misses, the theorem's, but it has more than 1,000 releases; else none was found
---     missingAnswer p       what is answered: the refusal, that the plan passes, why no list is shown, or N and the list
+--     missingAnswer p       what is answered: the refusal, that the plan passes, that it fails and no list misses, why no list is shown,
+--                           or N and the list
 use Prim.Native.Nat.{ℕ, _+_, _-_, min, max}
 use mathlib.Core.Bool.{Bool, true, false, cond, _&&_}
 use mathlib.Core.List.{List, [], _∷_, _++_, map, flatMap}
@@ -45,17 +49,18 @@ use Rattle.rules.specs.declared.Outcome.the-variants as outcome
 use Rattle.rules.specs.declared.AskedOutcome.{AskedOutcome}
 use Rattle.rules.specs.declared.AskedOutcome.the-variants as asked
 use Rattle.rules.specs.Plan.{stringsOf, stringAt, multipleOf, withRun}
-use Rattle.rules.specs.Demand.{holdOf}
+use Rattle.rules.specs.Demand.{holdOf, blockerHold}
 use Rattle.rules.specs.Verdict.{Pair, allPairs, firstBroken, verdictOf, isPass}
 use Rattle.rules.specs.Release.{noRelease}
 use Rattle.rules.specs.Refusal.{planCheck, runAnswer}
 use Rattle.sound.specs.Sharp.{demandBut}
 use Rattle.exact.specs.Missing.{freely, mostLate, intervalStart, blockerRelease, othersIn}
+use Rattle.charging.specs.Payable.{payable}
 use Rattle.tries.specs.declared.Missing.{Missing}
-use Rattle.tries.specs.declared.Missing.the-variants.{Refused, Passes, NoneFound, TooMany, Found}
+use Rattle.tries.specs.declared.Missing.the-variants.{Refused, Passes, Never, NoneFound, TooMany, Found}
 use Rattle.tries.specs.declared.Shown.{Shown}
 
--- ---- Where the sharp rule breaks with free moving
+-- ---- Where the sharp rule breaks
 
 pub record Break : Type 0 where
   pub l : ℕ
@@ -65,11 +70,8 @@ pub record Break : Type 0 where
 abbrev pub breakAt : ℕ → ℕ → ℕ → Break
 breakAt l b q = record { l = l; b = b; q = q }
 
-abbrev pub blockDays : ℕ → BatteryString → ℕ
-blockDays l s = cond (ltb l (s .d .0)) (s .c .0 - 1) 0
-
 unfoldable pub longestBlock : Plan → ℕ → ℕ
-longestBlock p l = min l (largest (blockDays l) (stringsOf p))
+longestBlock p l = min l (largest (blockerHold p l) (stringsOf p))
 
 abbrev pub blockedBreaks : Plan → ℕ → ℕ → List Break
 blockedBreaks p l b = map (breakAt l b) (upFrom 1 (length (stringsOf p)))
@@ -80,16 +82,28 @@ breaksIn p l = breakAt l 0 0 ∷ flatMap (blockedBreaks p l) (upFrom 1 (longestB
 unfoldable pub allBreaks : Plan → List Break
 allBreaks p = flatMap (breaksIn p) (upFrom 1 (multipleOf p + 999))
 
-abbrev pub canBlock : ℕ → ℕ → BatteryString → Bool
-canBlock l b s = ltb l (s .d .0) && ltb b (s .c .0)
+abbrev pub canBlock : Plan → ℕ → ℕ → BatteryString → Bool
+canBlock p l b s = ltb l (s .d .0) && ltb b (holdOf p s)
 
 unfoldable pub isBroken : Plan → Break → Bool
 isBroken p y =
-    cond (eqb (y .b) 0) true (canBlock (y .l) (y .b) (stringAt p (y .q)))
-    && ltb (y .l) (demandBut (freely p) (y .l) (y .b) (y .q))
+    cond (eqb (y .b) 0) true (canBlock p (y .l) (y .b) (stringAt p (y .q)))
+    && ltb (y .l) (demandBut p (y .l) (y .b) (y .q))
 
-unfoldable pub freeBreak : Plan → Option Break
-freeBreak p = firstOf (isBroken p) (allBreaks p)
+unfoldable pub sharpBreak : Plan → Option Break
+sharpBreak p = firstOf (isBroken p) (allBreaks p)
+
+abbrev pub freeBreak : Plan → Option Break
+freeBreak p = sharpBreak (freely p)
+
+abbrev pub isWhole : Option Break → Bool
+isWhole none = true
+isWhole (some y) = false
+
+unfoldable pub passesPayably : Plan → Bool
+passesPayably p = isWhole (sharpBreak (payable p))
+
+-- ---- The tries
 
 pub record Try : Type 0 where
   pub head : List Release
@@ -102,8 +116,6 @@ endOfTry y = y .lead + y .l
 
 unfoldable pub listOf : Plan → Try → List Release
 listOf p y = y .head ++ othersIn p (y .head) (y .lead) (y .delay) (y .l)
-
--- ---- The tries
 
 abbrev pub ownBreak : Plan → Option Pair
 ownBreak p = firstBroken p (allPairs p)
@@ -189,7 +201,8 @@ onMissing (checked.Refused f at) v = unlisted (Refused f at)
 unfoldable pub missingOf : Plan → Shown
 missingOf p =
     let shown = foundAs p (found p) in
-    cond (isPass (verdictOf p)) (unlisted Passes) shown
+    let tried = cond (passesPayably p) (unlisted Never) shown in
+    cond (isPass (verdictOf p)) (unlisted Passes) tried
 
 unfoldable pub missingAnswer : Plan → Shown
 missingAnswer p =

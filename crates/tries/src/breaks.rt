@@ -1,4 +1,4 @@
-// Where the sharp rule with free moving breaks: every interval in turn, with no blocking, then with each blocking by each string.
+// Where the sharp rule breaks: every interval in turn, with no blocking, then with each blocking by each string.
 use super::asking::passes;
 use super::free::with_free_moving;
 use super::listing::delay_of;
@@ -8,19 +8,25 @@ ghost use mathlib.Core.Path.{_≡_};
 ghost use mathlib.Core.List.{_∷_, flatMap};
 ghost use Prim.Native.Nat.{_≤_, max};
 ghost use Rattle.base.specs.Count.{firstOf, upFrom};
-ghost use Rattle.rules.specs.Demand.{jobs};
-ghost use Rattle.laws.proofs.Lawful.{LawfulString};
+ghost use Rattle.rules.specs.Demand.{holdOf, jobs, need, blockerHold};
+ghost use Rattle.laws.proofs.Lawful.{LawfulString, PlanString};
 ghost use Rattle.sound.specs.Sharp.{demandBut};
 ghost use Rattle.verdict.specs.inner.Asked.{Ready};
-ghost use Rattle.exact.specs.Missing.{freely};
-ghost use Rattle.exact.proofs.Freely.{asksOf};
-ghost use Rattle.tries.specs.Tries.{blockDays, canBlock, longestBlock, blockedBreaks, breaksIn, isBroken, freeBreak};
+ghost use Rattle.tries.specs.Tries.{canBlock, longestBlock, blockedBreaks, breaksIn, isBroken, sharpBreak, freeBreak};
 ghost use Rattle.tries.specs.inner.Openings.{Points, blockerSays};
 
 // Where it breaks: nowhere, or the interval, the blocking and the place of the string that blocks, 0 for nobody.
-pub(crate) enum FreeBreak {
+pub(crate) enum FirstBreak {
     Unbroken,
     Breaks { l: u32, b: u32, q: usize },
+}
+
+// The longest that a job of the string holds the bank.
+pub(crate) fn longest_hold(p: Plan, s: BatteryString) -> u32
+    requires { ⌜ PlanString p s ⌝ }
+    ensures { λ r. ⌜ r ≡ holdOf p s ⌝ }
+{
+    s.c.0 + p.moving_cost(s).0 * s.x
 }
 
 // The jobs of a string in a window of w days.
@@ -35,14 +41,14 @@ fn jobs_within(s: BatteryString, w: u32) -> u32
     (w - least) / s.t.0 + 1
 }
 
-// What the string asks of an interval l with blocking b, where moving is free.
-fn asks(l: u32, b: u32, s: BatteryString) -> u32
-    requires { ⌜ LawfulString s ⌝ }
+// What the string asks of an interval l with blocking b. One that may not take the bank has C for E.
+fn asks(p: Plan, l: u32, b: u32, s: BatteryString) -> u32
+    requires { ⌜ PlanString p s ⌝ }
     requires { ⌜ l ≤ 101000 ⌝ }
     requires { ⌜ b ≤ l ⌝ }
-    ensures { λ r. ⌜ r ≡ asksOf l b s ⌝ }
+    ensures { λ r. ⌜ r ≡ need p l b s ⌝ }
 {
-    jobs_within(s, l - delay_of(b, s)) * s.c.0
+    jobs_within(s, l - delay_of(b, s)) * longest_hold(p, s)
 }
 
 // What is asked of it by all strings but the one at place q, and the blocking.
@@ -50,7 +56,7 @@ fn demand_but(p: Plan, l: u32, b: u32, q: usize) -> u32
     requires { ⌜ Ready p ⌝ }
     requires { ⌜ l ≤ 101000 ⌝ }
     requires { ⌜ b ≤ l ⌝ }
-    ensures { λ r. ⌜ r ≡ demandBut (freely p) l b q ⌝ }
+    ensures { λ r. ⌜ r ≡ demandBut p l b q ⌝ }
 {
     let n = p.n;
     let strings = p.strings;
@@ -60,18 +66,19 @@ fn demand_but(p: Plan, l: u32, b: u32, q: usize) -> u32
         let s = strings[i];
         i += 1;
         if i != q {
-            sum += asks(l, b, s);
+            sum += asks(p, l, b, s);
         }
     }
     sum
 }
 
 // Whether a job of the string can block an interval of l days for b days.
-fn can_block(l: u32, b: u32, s: BatteryString) -> bool
-    ensures { λ r. ⌜ r ≡ canBlock l b s ⌝ }
+fn can_block(p: Plan, l: u32, b: u32, s: BatteryString) -> bool
+    requires { ⌜ PlanString p s ⌝ }
+    ensures { λ r. ⌜ r ≡ canBlock p l b s ⌝ }
 {
     if l < s.d.0 {
-        return b < s.c.0;
+        return b < longest_hold(p, s);
     }
     false
 }
@@ -83,12 +90,12 @@ pub(crate) fn larger(a: u32, b: u32) -> u32
 }
 
 // How long a job of the string blocks an interval of l days at most.
-fn block_days(l: u32, s: BatteryString) -> u32
-    requires { ⌜ LawfulString s ⌝ }
-    ensures { λ r. ⌜ r ≡ blockDays l s ⌝ }
+fn blocker_days(p: Plan, l: u32, s: BatteryString) -> u32
+    requires { ⌜ PlanString p s ⌝ }
+    ensures { λ r. ⌜ r ≡ blockerHold p l s ⌝ }
 {
     if l < s.d.0 {
-        return s.c.0 - 1;
+        return longest_hold(p, s) - 1;
     }
     0
 }
@@ -104,7 +111,7 @@ fn longest_block(p: Plan, l: u32) -> u32
     let mut i: usize = 0;
     while i < n {
         let s = strings[i];
-        most = larger(most, block_days(l, s));
+        most = larger(most, blocker_days(p, l, s));
         i += 1;
     }
     if l < most { l } else { most }
@@ -128,7 +135,7 @@ fn blocker_at(p: Plan, l: u32, b: u32) -> usize
     while i < n {
         let s = strings[i];
         i += 1;
-        if !can_block(l, b, s) {
+        if !can_block(p, l, b, s) {
             continue;
         }
         if l < demand_but(p, l, b, i) {
@@ -139,7 +146,7 @@ fn blocker_at(p: Plan, l: u32, b: u32) -> usize
 }
 
 // The first break at an interval of l days, with some blocking.
-fn blocked_in(p: Plan, l: u32) -> FreeBreak
+fn blocked_in(p: Plan, l: u32) -> FirstBreak
     requires { ⌜ Ready p ⌝ }
     requires { ⌜ l ≤ 101000 ⌝ }
     ensures { λ r. ⌜ Points r (firstOf (isBroken p) (flatMap (blockedBreaks p l) (upFrom 1 (longestBlock p l)))) ⌝ }
@@ -150,40 +157,48 @@ fn blocked_in(p: Plan, l: u32) -> FreeBreak
         b += 1;
         let q = blocker_at(p, l, b);
         if 0 < q {
-            return FreeBreak::Breaks { l, b, q };
+            return FirstBreak::Breaks { l, b, q };
         }
     }
-    FreeBreak::Unbroken
+    FirstBreak::Unbroken
 }
 
 // The first break at it.
-fn break_in(p: Plan, l: u32) -> FreeBreak
+fn break_in(p: Plan, l: u32) -> FirstBreak
     requires { ⌜ Ready p ⌝ }
     requires { ⌜ l ≤ 101000 ⌝ }
     ensures { λ r. ⌜ Points r (firstOf (isBroken p) (breaksIn p l)) ⌝ }
 {
     if l < demand_but(p, l, 0, 0) {
-        return FreeBreak::Breaks { l, b: 0, q: 0 };
+        return FirstBreak::Breaks { l, b: 0, q: 0 };
     }
     blocked_in(p, l)
 }
 
-// The first break. A plan that passes with free moving has none.
-pub(crate) fn free_break(p: Plan) -> FreeBreak
+// The first break. A plan that passes has none.
+pub(crate) fn sharp_break(p: Plan) -> FirstBreak
     requires { ⌜ Ready p ⌝ }
-    ensures { λ r. ⌜ Points r (freeBreak p) ⌝ }
+    ensures { λ r. ⌜ Points r (sharpBreak p) ⌝ }
 {
-    if passes(with_free_moving(p)) {
-        return FreeBreak::Unbroken;
+    if passes(p) {
+        return FirstBreak::Unbroken;
     }
     let last = bounds::multiple(p) + 999;
     let mut l: u32 = 0;
     while l < last {
         l += 1;
         let found = break_in(p, l);
-        let FreeBreak::Unbroken = found else {
+        let FirstBreak::Unbroken = found else {
             return found;
         };
     }
-    FreeBreak::Unbroken
+    FirstBreak::Unbroken
+}
+
+// The first break with free moving.
+pub(crate) fn free_break(p: Plan) -> FirstBreak
+    requires { ⌜ Ready p ⌝ }
+    ensures { λ r. ⌜ Points r (freeBreak p) ⌝ }
+{
+    sharp_break(with_free_moving(p))
 }

@@ -6,7 +6,7 @@ ghost use mathlib.Core.Path.{_≡_};
 ghost use Rattle.verdict.specs.inner.Asked.{Ready};
 ghost use Rattle.exact.specs.Missing.{movedFreely, freely};
 
-fn moved_freely(s: BatteryString) -> BatteryString
+pub(crate) fn moved_freely(s: BatteryString) -> BatteryString
     ensures { λ r. ⌜ r ≡ movedFreely s ⌝ }
 {
     let t = s.t;

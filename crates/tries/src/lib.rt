@@ -1,21 +1,23 @@
-// Releases that make a plan miss a deadline: the theorem's list where the sharp rule with free moving breaks, and lists in which a taker
-// pays.
+// Whether a plan that does not pass can miss a deadline: that it cannot, where the payable plan passes sharply; else releases over which it
+// does, the theorem's list where the sharp rule with free moving breaks, and lists in which a taker pays.
 mod asking;
 mod breaks;
 mod free;
 mod listing;
 mod openings;
+mod payable;
 mod search;
 
 use asking::passes;
 use bounds::plan_check;
-use breaks::FreeBreak;
+use breaks::FirstBreak;
 use breaks::free_break;
 use days::Length;
 use faults::Checked;
 use faults::Fault;
 use listing::listed;
 use openings::no_release;
+use payable::passes_payably;
 use rules::Plan;
 use rules::Releases;
 use search::Tried;
@@ -26,11 +28,12 @@ ghost use Rattle.days.specs.Days.{days};
 ghost use Rattle.verdict.specs.inner.Asked.{Ready};
 ghost use Rattle.tries.specs.Tries.{freeBreak, unlisted, unfound, missingOf, missingAnswer};
 
-// What is found for a plan: N of a run that misses; or that the plan passes, so that none does; or that none of the lists tried does; or
-// that none does, but there is one, of more than 1,000 releases.
+// What is found for a plan: N of a run that misses; or that the plan passes, so that none does; or that it fails and yet none does; or that
+// none of the lists tried does; or that none of them does, but there is one, of more than 1,000 releases.
 pub enum Missing {
     Refused { fault: Fault, at: usize },
     Passes,
+    Never,
     NoneFound,
     TooMany,
     Found { run: Length },
@@ -69,7 +72,7 @@ fn not_shown(p: Plan) -> Missing
     ensures { λ r. ⌜ r ≡ unfound (freeBreak p) ⌝ }
 {
     let found = free_break(p);
-    let FreeBreak::Breaks { l: _, b: _, q: _ } = found else {
+    let FirstBreak::Breaks { l: _, b: _, q: _ } = found else {
         return Missing::NoneFound;
     };
     Missing::TooMany
@@ -82,6 +85,9 @@ fn shown_for(p: Plan) -> Shown
 {
     if passes(p) {
         return without_list(Missing::Passes);
+    }
+    if passes_payably(p) {
+        return without_list(Missing::Never);
     }
     let found = first_that_misses(p);
     match found {

@@ -1,15 +1,13 @@
 // How the lists begin: a job that blocks; a job on the bank; a job on the bank, and one that takes it.
 use super::breaks::larger;
+use super::breaks::longest_hold;
 use days::Day;
 use days::Length;
-use rules::BatteryString;
 use rules::Plan;
 use rules::Release;
 ghost use mathlib.Core.Path.{_≡_};
 ghost use Prim.Native.Nat.{_+_, _≤_};
-ghost use Rattle.rules.specs.Demand.{holdOf};
 ghost use Rattle.rules.specs.Release.{noRelease};
-ghost use Rattle.laws.proofs.Lawful.{PlanString};
 ghost use Rattle.verdict.specs.inner.Asked.{Ready};
 ghost use Rattle.exact.specs.Missing.{mostLate};
 ghost use Rattle.tries.specs.Tries.{breakAt, fullRelease, blockTry, stoppedTry, paidTry};
@@ -52,14 +50,6 @@ fn full_release(p: Plan, t: u32, place: usize) -> Release
         need,
         due: day,
     }
-}
-
-// The longest that a job of the string holds the bank.
-fn longest_hold(p: Plan, s: BatteryString) -> u32
-    requires { ⌜ PlanString p s ⌝ }
-    ensures { λ r. ⌜ r ≡ holdOf p s ⌝ }
-{
-    s.c.0 + p.moving_cost(s).0 * s.x
 }
 
 // The largest J of a string.

@@ -1,6 +1,6 @@
 // The search for a try that misses, in the order of the tries.
 use super::asking::where_broken;
-use super::breaks::FreeBreak;
+use super::breaks::FirstBreak;
 use super::breaks::free_break;
 use super::listing::listed;
 use super::openings::Opening;
@@ -78,7 +78,7 @@ fn blocked(p: Plan) -> Tried
     ensures { λ r. ⌜ Finds r (firstOf (missesOn p) (freeTries p (freeBreak p))) ⌝ }
 {
     let found = free_break(p);
-    let FreeBreak::Breaks { l, b, q } = found else {
+    let FirstBreak::Breaks { l, b, q } = found else {
         return Tried::NoneMisses;
     };
     let o = blocking(p, l, b, q);

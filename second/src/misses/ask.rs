@@ -1,8 +1,9 @@
 //! Asking the clerk for releases that miss, and counting how often it knows none.
 
 use super::check::{said, Said};
-use super::free::first_breaks;
-use super::plans::{any_plan, small_late_plan, small_plan};
+use super::kinds::Kinds;
+use super::plans::{any_plan, any_small_late_plan, any_small_plan, small_late_plan, small_plan};
+use super::sharp::free_breaks;
 use crate::chance::Chance;
 use crate::clerk::ask;
 use crate::rules::every_list::can_miss;
@@ -21,109 +22,95 @@ pub struct Asked {
     pub small: u64,
     /// How many small plans with late days, every other one of which passes, held against every list too.
     pub late: u64,
+    /// How many small plans as they are drawn, and as many with late days, held against every list too.
+    pub drawn: u64,
     pub seed: u64,
 }
 
 /// Plans to a start of the clerk.
 const BATCH: u64 = 200;
 
-/// Added to the seed for the plans with late days, so that they are no others again.
+/// Added to the seed, so that no plans are others again: for those with late days, for those as they are drawn, and for these with late days.
 const LATE_SEQUENCE: u64 = 0x1a7e;
+const DRAWN_SEQUENCE: u64 = 0xd3a1;
+const DRAWN_LATE_SEQUENCE: u64 = 0xd3a2;
 
-#[derive(Default)]
 pub struct Counts {
-    passes: u64,
-    found: u64,
-    none_found: u64,
-    too_many: u64,
-    small: u64,
-    small_can_miss: u64,
-    small_found: u64,
-    late: u64,
-    late_pass: u64,
-    late_can_miss: u64,
-    late_found: u64,
+    any: Kinds,
+    small: Kinds,
+    late: Kinds,
+    drawn: Kinds,
+    drawn_late: Kinds,
 }
+
+/// What was answered for a group of plans, or what was wrong.
+type Answered = io::Result<Result<Kinds, String>>;
 
 /// Everything that was said is right, or the first that is not.
 pub fn ask_all(asked: &Asked) -> io::Result<Result<Counts, String>> {
     let folder = std::env::temp_dir().join(format!("second-misses-{}", std::process::id()));
     fs::create_dir_all(&folder)?;
-    let mut counts = any_plans(asked, &folder)?;
-    for part in [small_plans, late_plans] {
-        counts = match counts {
-            Ok(counts) => part(asked, &folder, counts)?,
-            wrong => wrong,
-        };
-    }
+    let counts = ask_groups(asked, &folder)?;
     fs::remove_dir_all(&folder)?;
     Ok(counts)
 }
 
+fn ask_groups(asked: &Asked, folder: &Path) -> io::Result<Result<Counts, String>> {
+    let seed = asked.seed;
+    let drawn = |plus: u64, number| Chance::new(seed.wrapping_add(plus), number);
+    let groups = [
+        any_plans(asked, folder)?,
+        // another sequence than that of the plans above
+        small_plans(asked, folder, asked.small, |number| {
+            small_plan(&mut Chance::new(!seed, number))
+        })?,
+        small_plans(asked, folder, asked.late, |number| {
+            small_late_plan(&mut drawn(LATE_SEQUENCE, number), number % 2 == 0)
+        })?,
+        small_plans(asked, folder, asked.drawn, |number| {
+            any_small_plan(&mut drawn(DRAWN_SEQUENCE, number))
+        })?,
+        small_plans(asked, folder, asked.drawn, |number| {
+            any_small_late_plan(&mut drawn(DRAWN_LATE_SEQUENCE, number))
+        })?,
+    ];
+    let counted: Result<Vec<Kinds>, String> = groups.into_iter().collect();
+    Ok(counted.map(|groups| {
+        let mut groups = groups.into_iter();
+        let mut next = || groups.next().expect("five groups");
+        Counts {
+            any: next(),
+            small: next(),
+            late: next(),
+            drawn: next(),
+            drawn_late: next(),
+        }
+    }))
+}
+
 /// Plans of all kinds, until enough of them did not pass.
-fn any_plans(asked: &Asked, folder: &Path) -> io::Result<Result<Counts, String>> {
-    let mut counts = Counts::default();
+fn any_plans(asked: &Asked, folder: &Path) -> Answered {
+    let mut kinds = Kinds::default();
     let mut first = 0;
-    while counts.failing() < asked.plans {
+    while kinds.failing() < asked.plans {
         let plans: Vec<Plan> = (first..first + BATCH)
             .map(|number| any_plan(&mut Chance::new(asked.seed, number)))
             .collect();
         match all_said(asked, folder, &plans)? {
             Err(wrong) => return Ok(Err(wrong)),
-            Ok(all) => all.into_iter().for_each(|one| match one {
-                Said::Passes => counts.passes += 1,
-                Said::Found => counts.found += 1,
-                Said::NoneFound => counts.none_found += 1,
-                Said::TooMany => counts.too_many += 1,
-            }),
+            Ok(all) => all.into_iter().for_each(|one| kinds.add(one, false)),
         }
         first += BATCH;
     }
-    Ok(Ok(counts))
+    Ok(Ok(kinds))
 }
 
 /// Small plans, beside what every list there is says.
-fn small_plans(
-    asked: &Asked,
-    folder: &Path,
-    mut counts: Counts,
-) -> io::Result<Result<Counts, String>> {
-    while counts.small < asked.small {
-        let end = asked.small.min(counts.small + BATCH);
-        // another sequence than that of the plans above
-        let plans: Vec<Plan> = (counts.small..end)
-            .map(|number| small_plan(&mut Chance::new(!asked.seed, number)))
-            .collect();
-        let all = match all_said(asked, folder, &plans)? {
-            Err(wrong) => return Ok(Err(wrong)),
-            Ok(all) => all,
-        };
-        for (plan, one) in plans.iter().zip(all) {
-            let (can, found) = (can_miss(plan), one == Said::Found);
-            if found && !can {
-                return Ok(Err(format!("no list misses, and one was found: {plan:?}")));
-            }
-            counts.small += 1;
-            counts.small_can_miss += u64::from(can);
-            counts.small_found += u64::from(found);
-        }
-    }
-    Ok(Ok(counts))
-}
-
-/// Small plans with late days: one that passes never misses, by every list there is, and where moving is free the lists that miss are
-/// those that are made.
-fn late_plans(
-    asked: &Asked,
-    folder: &Path,
-    mut counts: Counts,
-) -> io::Result<Result<Counts, String>> {
-    while counts.late < asked.late {
-        let end = asked.late.min(counts.late + BATCH);
-        let sequence = asked.seed.wrapping_add(LATE_SEQUENCE);
-        let plans: Vec<Plan> = (counts.late..end)
-            .map(|number| small_late_plan(&mut Chance::new(sequence, number), number % 2 == 0))
-            .collect();
+fn small_plans(asked: &Asked, folder: &Path, many: u64, drawn: impl Fn(u64) -> Plan) -> Answered {
+    let mut kinds = Kinds::beside_every_list();
+    while kinds.all() < many {
+        let end = many.min(kinds.all() + BATCH);
+        let plans: Vec<Plan> = (kinds.all()..end).map(&drawn).collect();
         let all = match all_said(asked, folder, &plans)? {
             Err(wrong) => return Ok(Err(wrong)),
             Ok(all) => all,
@@ -133,13 +120,10 @@ fn late_plans(
             if let Some(what) = claim_broken(plan, one, can) {
                 return Ok(Err(format!("{what}: {plan:?}")));
             }
-            counts.late += 1;
-            counts.late_pass += u64::from(one == Said::Passes);
-            counts.late_can_miss += u64::from(can);
-            counts.late_found += u64::from(one == Said::Found);
+            kinds.add(one, can);
         }
     }
-    Ok(Ok(counts))
+    Ok(Ok(kinds))
 }
 
 /// What every list there is says otherwise of a plan, and of what was said for it.
@@ -148,8 +132,9 @@ fn claim_broken(plan: &Plan, said: Said, can_miss: bool) -> Option<&'static str>
     let cycle = plan.cycle().expect("a small plan's H is in bounds");
     match said {
         Said::Passes if can_miss => Some("a plan that passes can miss"),
-        Said::Found if !can_miss => Some("no list misses, and one was found"),
-        _ if free && can_miss == first_breaks(plan, cycle).is_empty() => {
+        Said::Never if can_miss => Some("a list misses, and none was said to"),
+        Said::Found | Said::TooMany if !can_miss => Some("no list misses, and one was found"),
+        _ if free && can_miss == free_breaks(plan, cycle).is_empty() => {
             Some("moving is free, and every list says another thing than the rule without the blocker's own jobs")
         }
         _ => None,
@@ -220,32 +205,22 @@ fn answer_end(text: &[u8]) -> usize {
     at
 }
 
-impl Counts {
-    fn failing(&self) -> u64 {
-        self.found + self.too_many + self.none_found
-    }
-}
-
 impl fmt::Display for Counts {
     fn fmt(&self, out: &mut fmt::Formatter) -> fmt::Result {
         writeln!(
             out,
-            "second: {} plans that do not pass: releases that miss for {}, over 1,000 of them for {}, none found for {}; {} plans pass; no difference",
-            self.failing(),
-            self.found,
-            self.too_many,
-            self.none_found,
-            self.passes
+            "second: {} plans of all kinds, no difference: {}",
+            self.any.all(),
+            self.any
         )?;
-        writeln!(
-            out,
-            "second: {} small plans that fail by their moving costs alone: {} can miss, releases that miss were found for {}",
-            self.small, self.small_can_miss, self.small_found
-        )?;
-        write!(
-            out,
-            "second: {} small plans with late days: {} pass and can never miss, {} can miss, releases that miss were found for {}",
-            self.late, self.late_pass, self.late_can_miss, self.late_found
-        )
+        let beside_every_list = [
+            ("that fail by their moving costs alone", &self.small),
+            ("with late days, every other one passing", &self.late),
+            ("as they are drawn", &self.drawn),
+            ("with late days, as they are drawn", &self.drawn_late),
+        ];
+        let lines = beside_every_list
+            .map(|(which, kinds)| format!("second: {} small plans {which}: {kinds}", kinds.all()));
+        write!(out, "{}", lines.join("\n"))
     }
 }

@@ -2,5 +2,7 @@
 
 pub mod ask;
 mod check;
-mod free;
+mod kinds;
+mod payable;
 pub mod plans;
+mod sharp;

@@ -1,6 +1,6 @@
 //! Plans to be asked about: most of them do not pass.
 
-use super::free::freely;
+use super::sharp::freely;
 use crate::chance::Chance;
 use crate::plans::border::border;
 use crate::plans::shaped::{choices, contrast, equal_deadlines};
@@ -65,6 +65,17 @@ pub fn small_late_plan(chance: &mut Chance, passing: bool) -> Plan {
         }
         let late = plan.strings.iter().any(|string| string.late > 0);
         if late && (!passing || does_pass(&plan)) {
+            return plan;
+        }
+    }
+}
+
+/// A small plan with late days, as it is drawn.
+pub fn any_small_late_plan(chance: &mut Chance) -> Plan {
+    loop {
+        let mut plan = any_small_plan(chance);
+        draw_small_late(chance, &mut plan);
+        if !plan.is_punctual() {
             return plan;
         }
     }

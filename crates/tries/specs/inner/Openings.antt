@@ -16,8 +16,8 @@ use lib.ListN.{take}
 use Rattle.rules.specs.declared.BatteryString.{BatteryString}
 use Rattle.rules.specs.declared.Release.{Release}
 use Rattle.exact.specs.Missing.{firstIn, comesIn, comesFirst}
-use Rattle.tries.specs.declared.breaks.FreeBreak.{FreeBreak}
-use Rattle.tries.specs.declared.breaks.FreeBreak.the-variants.{Unbroken, Breaks}
+use Rattle.tries.specs.declared.breaks.FirstBreak.{FirstBreak}
+use Rattle.tries.specs.declared.breaks.FirstBreak.the-variants.{Unbroken, Breaks}
 use Rattle.tries.specs.declared.openings.Opening.{Opening}
 use Rattle.tries.specs.declared.search.Tried.{Tried}
 use Rattle.tries.specs.declared.search.Tried.the-variants.{NoneMisses, Misses}
@@ -42,7 +42,7 @@ abbrev pub Finds : Tried → Option Try → Type 0
 Finds NoneMisses y = y ≡ none
 Finds (Misses o l) y = Small o × (l ≤ 101000) × (y ≡ some (tryOf o l))
 
-abbrev pub Points : FreeBreak → Option Break → Type 0
+abbrev pub Points : FirstBreak → Option Break → Type 0
 Points Unbroken y = y ≡ none
 Points (Breaks l b q) y = y ≡ some (breakAt l b q)
 

@@ -2,7 +2,7 @@
 use Rattle.base.proofs.Prelude.{_+_, _-_, _≤_, _≡_, sym, ap, _∙_, cond, none, some, flatMap, arith, needs, eq-eqb, ne-eqb, zero-le}
 use Rattle.base.specs.Count.{firstOf, upFrom}
 use Rattle.tries.specs.Tries.{breakAt, longestBlock, blockedBreaks, isBroken}
-use Rattle.tries.proofs.{FreeBreaks.longest-within, Places.after, Searching.{after-none, row-found, row-later, row-end}, breaks.blocked_in.Statement.statement}
+use Rattle.tries.proofs.{SharpBreaks.longest-within, Places.after, Searching.{after-none, row-found, row-later, row-end}, breaks.blocked_in.Statement.statement}
 use Rattle.tries.proofs.breaks.blocked_in.Tie as tie
 
 abbrev Inv-loop : tie.InvT-loop

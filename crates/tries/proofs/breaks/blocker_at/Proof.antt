@@ -4,7 +4,7 @@ use Rattle.base.specs.Count.{firstOf, upFrom}
 use Rattle.rules.specs.Plan.{stringAt}
 use Rattle.verdict.proofs.StringSums.{strings-count}
 use Rattle.tries.specs.Tries.{breakAt, blockedBreaks, canBlock, isBroken}
-use Rattle.tries.proofs.{FreeBreaks.{none-blocks, blocker-over, blocker-cannot, not-over}, Places.{after, place-string}, Searching.{after-none, try-here, try-later, try-end}, breaks.blocker_at.Statement.statement}
+use Rattle.tries.proofs.{SharpBreaks.{none-blocks, blocker-over, blocker-cannot, not-over}, Places.{after, place-string, place-lawful}, Searching.{after-none, try-here, try-later, try-end}, breaks.blocker_at.Statement.statement}
 use Rattle.tries.proofs.breaks.blocker_at.Tie as tie
 
 abbrev Inv-loop : tie.InvT-loop
@@ -41,10 +41,10 @@ module _ (c : tie.After-can-block Inv-loop μ-loop) where
   inside = c .before .before .loop-test .taken
 
   -- whether the string of the place can block
-  can : canBlock (start .args .l) (start .args .b) (stringAt (start .args .p) (at .loop .i + 1)) ≡ c .can-block .result
+  can : canBlock (start .args .p) (start .args .l) (start .args .b) (stringAt (start .args .p) (at .loop .i + 1)) ≡ c .can-block .result
   can =
       let g = start .args in
-      ap (canBlock (g .l) (g .b)) (place-string (g .p) (start .pre .0) (at .loop .i) inside) ∙ sym (c .can-block .ensures)
+      ap (canBlock (g .p) (g .l) (g .b)) (place-string (g .p) (start .pre .0) (at .loop .i) inside) ∙ sym (c .can-block .ensures)
 
   -- a place that does not break it is passed
   goes-on :
@@ -99,7 +99,10 @@ blocker-at-spec =
     Inv-loop μ-loop (λ c κs. (c .pre .0, (c .pre .1 .0, c .pre .1 .1 .0))) returns loop-holds
     (λ c. omega (arith, c .before .before .before .before .before .pre .0 .lawful .nMax))
     (λ c. omega (arith, c .before .before .before .before .before .pre .0 .lawful .nMax))
-    (λ c. omega (arith, c .before .before .before .before .before .before .pre .0 .lawful .nMax)) (λ c κs. search needs)
+    (λ c. omega (arith, c .before .before .before .before .before .before .pre .0 .lawful .nMax))
+    (λ c κs.
+    let now = c .before .before in
+    place-lawful _ (now .before .before .before .before .pre .0) (now .loop .i) (c .before .loop-test .taken))
     (λ c. omega (arith, inside (c .before))) loop-again
     (λ c κs.
     let begun = start (c .before) in

@@ -3,7 +3,7 @@ use Rattle.base.proofs.Prelude.{refl, sym, flatMap, arith, zero-le}
 use Rattle.base.specs.Count.{upFrom}
 use Rattle.base.proofs.FirstOf.{firstOf-here, firstOf-later}
 use Rattle.tries.specs.Tries.{breakAt, longestBlock, blockedBreaks, isBroken}
-use Rattle.tries.proofs.{FreeBreaks.{nobody-over, not-over}, Searching.points-as, breaks.break_in.Statement.statement}
+use Rattle.tries.proofs.{SharpBreaks.{nobody-over, not-over}, Searching.points-as, breaks.break_in.Statement.statement}
 use Rattle.tries.proofs.breaks.break_in.Tie as tie
 
 returns : tie.Need-returns

@@ -28,7 +28,7 @@ loop-again c =
       omega arith,
       length-set now i v ∙ inv .1,
       unpermitted-next all now i v (inv .2),
-      changed-next movedFreely all now i v noString (omega (arith, inv .1)) (omega (arith, start .pre .ten)) (inv .2)
+      changed-next all now i movedFreely v noString (omega (arith, inv .1)) (omega (arith, start .pre .ten)) (inv .2)
           (c .moved-freely .ensures)
           ∙ inv .3,
     )
@@ -40,7 +40,7 @@ returns c =
     let p = start .args .p in
     let inv = at .loop .inv in
     let done : at .loop .strings ≡ map movedFreely (p .strings) =
-    sym (changed-all movedFreely (p .strings) (at .loop .strings) (at .loop .i) (omega (arith, inv .1)) (omega (arith, start .pre .ten)))
+    sym (changed-all (p .strings) (at .loop .strings) (at .loop .i) movedFreely (omega (arith, inv .1)) (omega (arith, start .pre .ten)))
     ∙ inv .3 in
     ap (λ ss. record { n = p .n; run = p .run; strings = ss }) done
 

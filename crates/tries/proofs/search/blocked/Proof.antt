@@ -4,7 +4,7 @@ use Rattle.base.specs.Count.{firstOf}
 use Rattle.base.proofs.FirstOf.{firstOf-end, firstOf-here, firstOf-later}
 use Rattle.rules.specs.declared.Plan.{Plan}
 use Rattle.tries.specs.{Tries.{Break, breakAt, freeTries, freeBreak, blockTry, missesOn}, inner.Openings.Points}
-use Rattle.tries.proofs.{FreeBreaks.{break-near, break-blocking}, Searching.points-none, search.blocked.Statement.statement}
+use Rattle.tries.proofs.{SharpBreaks.{free-near, free-blocking}, Searching.points-none, search.blocked.Statement.statement}
 use Rattle.tries.proofs.search.blocked.Tie as tie
 
 returns : tie.Need-returns
@@ -30,10 +30,10 @@ module _ (c : tie.After-found) where
   there = subst (λ t. Points t (freeBreak p)) (c .found .given .1) (ask .free-break .ensures)
 
   short : here .l ≤ 101000
-  short = omega (arith, break-near p here there, ask .before .pre .lawful .hMax)
+  short = omega (arith, free-near p (ask .before .pre .lawful) here there, ask .before .pre .lawful .hMax)
 
   little : here .b ≤ 1000
-  little = break-blocking p here there (ask .before .pre .lawful)
+  little = free-blocking p (ask .before .pre .lawful) here there
 
 returns-2 : tie.Need-returns-2
 returns-2 c =

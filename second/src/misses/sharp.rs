@@ -1,8 +1,8 @@
-//! Plans with every moving cost 0, and the lists that make such a plan miss.
+//! The sharp rule.
 //!
 //! The job that blocks, of a string q, has its deadline after the interval, and so has every later job of q: from the day on which it got
-//! the bank none of them counts. The rule counts q's jobs all the same where q has late days, so it asks for more than it must. A list
-//! misses where the demand without q's own jobs is too much; without late days that is where the rule breaks.
+//! the bank none of them counts. The rule counts q's jobs all the same where q has late days, so it asks for more than it must. Where the
+//! demand without q's own jobs is nowhere too much, no list misses. Where it is too much even with free moving, a list does.
 
 use crate::rules::plan::{Length, Plan};
 use crate::rules::rule::jobs;
@@ -14,7 +14,7 @@ pub fn freely(plan: &Plan) -> Plan {
     free
 }
 
-/// Where a list makes the plan miss.
+/// Where the demand without the blocker's own jobs is too much.
 #[derive(Clone, Copy)]
 pub struct Break {
     interval: Length,
@@ -23,9 +23,9 @@ pub struct Break {
     blocker: Option<usize>,
 }
 
-/// All breaks of the first pair, an interval and a blocking, that has any, moving free. A load over H counts for nothing by itself here:
-/// such a plan breaks at some pair too.
-pub fn first_breaks(plan: &Plan, cycle: Length) -> Vec<Break> {
+/// All breaks of the first pair, an interval and a blocking, that has any. A load over H counts for nothing by itself here: such a plan
+/// breaks at some pair too.
+pub fn sharp_breaks(plan: &Plan, cycle: Length) -> Vec<Break> {
     let pairs = (1..plan.largest_d() + cycle)
         .flat_map(|interval| (0..=longest_blocking(plan, interval)).map(move |b| (interval, b)));
     let breaks = pairs.map(|(interval, blocking)| breaks_at(plan, interval, blocking));
@@ -35,15 +35,27 @@ pub fn first_breaks(plan: &Plan, cycle: Length) -> Vec<Break> {
         .unwrap_or_default()
 }
 
-/// A job that is due later blocks for a day less than its work, and no longer than the interval.
+/// Where a list makes the plan miss, whatever moving costs: the breaks with free moving.
+pub fn free_breaks(plan: &Plan, cycle: Length) -> Vec<Break> {
+    sharp_breaks(&freely(plan), cycle)
+}
+
+pub fn passes_sharply(plan: &Plan, cycle: Length) -> bool {
+    sharp_breaks(plan, cycle).is_empty()
+}
+
+/// A job that is due later blocks for a day less than it can hold the bank, and no longer than the interval.
 fn longest_blocking(plan: &Plan, interval: Length) -> Length {
     let later = plan.strings.iter().filter(|string| string.d > interval);
-    let longest = later.map(|string| string.c - 1).max();
+    let longest = later.map(|string| plan.hold(string) - 1).max();
     longest.map_or(0, |days| days.min(interval))
 }
 
 fn breaks_at(plan: &Plan, interval: Length, blocking: Length) -> Vec<Break> {
-    let blocker = |at: usize| plan.strings[at].d > interval && plan.strings[at].c > blocking;
+    let blocker = |at: usize| {
+        let string = &plan.strings[at];
+        string.d > interval && plan.hold(string) > blocking
+    };
     let blockers: Vec<Option<usize>> = match blocking {
         0 => vec![None],
         _ => (0..plan.strings.len())
@@ -69,12 +81,12 @@ impl Break {
             .filter(move |(at, _)| Some(*at) != self.blocker);
         others.map(move |(_, string)| {
             let window = self.interval - self.blocking * string.x;
-            (jobs(string, window), string.c)
+            (jobs(string, window), plan.hold(string))
         })
     }
 
     fn demand(&self, plan: &Plan) -> Length {
-        let work: Length = self.counts(plan).map(|(count, c)| count * c).sum();
+        let work: Length = self.counts(plan).map(|(count, hold)| count * hold).sum();
         self.blocking + work
     }
 

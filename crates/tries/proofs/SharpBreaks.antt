@@ -1,25 +1,30 @@
--- What the first break of the sharp rule with free moving means: where there is one the rule breaks at it; where there is none it holds.
-use Rattle.base.proofs.Prelude.{ℕ, _+_, _-_, _*_, _≤_, _<_, _≡_, refl, sym, ap, _∙_, true, false, cond, Option, none, some, arith, decLe, eq-eqb, ne-eqb, ltb-true, lt-ltb, le-ltb, eqb, ltb, length, mul-le-mul, zero-le}
+-- What the first break of the sharp rule means: where there is one the rule breaks at it; where there is none it holds.
+use Rattle.base.proofs.Prelude.{ℕ, _+_, _-_, _*_, _≤_, _<_, _≡_, refl, sym, ap, _∙_, true, false, cond, Option, none, some, arith, decLe, ℕ-discrete, eq-eqb, ne-eqb, ltb-true, lt-ltb, le-ltb, eqb, ltb, length, zero-le}
 use Rattle.base.specs.Count.{All, firstOf, upFrom, largest}
 use Rattle.base.proofs.{Lists.{by-bool, all-at, sumOf-le, largest-ge, and-left, and-right, and-both, true-not-false}, Order.{all-flat, all-mapped, all-upFrom, each-of-flat, each-of-mapped, each-of-upFrom}, FirstOf.{firstOf-none, firstOf-passes, firstOf-in}}
-use Rattle.rules.specs.{declared.BatteryString.BatteryString, declared.Plan.Plan, Plan.{stringsOf, stringAt, noString, multipleOf}, Demand.{holdOf, jobs, need}}
-use Rattle.laws.proofs.Lawful.{LawfulString, LawfulPlan}
+use Rattle.rules.specs.{declared.BatteryString.BatteryString, declared.Plan.Plan, Plan.{stringsOf, stringAt, noString, multipleOf}, Demand.{holdOf, jobs, need, blockerHold}}
+use Rattle.laws.proofs.{Lawful.{LawfulPlan, PlanString}, Demand.{holdOf-other, need-taker, need-keeper, blockerHold-early}}
 use Rattle.sound.specs.Sharp.{needBut, demandBut, CanBlock, SharplyPasses}
-use Rattle.exact.specs.Missing.{freely, SharpBreak}
-use Rattle.exact.proofs.{Freely.{freely-string, freely-many, freely-hold, asksOf}, Exact.{blocked-short, sharp-of-none, none-of-sharp}}
-use Rattle.verdict.proofs.Asked.{jobs-le}
-use Rattle.tries.specs.Tries.{Break, breakAt, blockDays, longestBlock, blockedBreaks, breaksIn, allBreaks, canBlock, isBroken, freeBreak}
+use Rattle.exact.specs.Missing.{freely, delayOf, SharpBreak}
+use Rattle.exact.proofs.{Freely.{delayOf-taker, delayOf-keeper, freely-multiple, freely-lawful}, Exact.{blocked-short, sharp-of-none, none-of-sharp}}
+use Rattle.verdict.proofs.Asked.{work-le}
+use Rattle.tries.specs.Tries.{Break, breakAt, longestBlock, blockedBreaks, breaksIn, allBreaks, canBlock, isBroken, sharpBreak, freeBreak}
 
--- ---- What a string asks is small
+-- ---- What a string asks
 
-pub jobs-small : (s : BatteryString) (w : ℕ) → LawfulString s → w ≤ 101000 → jobs s w * s .c .0 ≤ 101000000
-jobs-small s w ok short =
-    let few : jobs s w ≤ 101000 = omega (arith, jobs-le s w ok) in
-    let work : s .c .0 ≤ 1000 = omega (arith, ok .cMax, ok .dMax, ok .tMax) in
-    omega (arith, mul-le-mul few work)
+-- E for each job in the days that are the string's own
+pub need-own : (p : Plan) (l b : ℕ) (s : BatteryString) → s .x ≤ 1 → need p l b s ≡ jobs s (l - delayOf b s) * holdOf p s
+need-own p l b s h =
+    elim (ℕ-discrete (s .x) 1) [
+      | yes e ↦ need-taker p l b s e ∙ rw (delayOf-taker b s e)
+      | no e ↦
+          let all-days : l - 0 ≡ l = omega arith in
+          need-keeper p l b s e ∙ rw (delayOf-keeper b s e, all-days, holdOf-other p s (omega arith))
+    ]
 
-pub asks-small : (l b : ℕ) (s : BatteryString) → LawfulString s → l ≤ 101000 → asksOf l b s ≤ 101000000
-asks-small l b s ok short = jobs-small s _ ok (omega arith)
+pub need-small : (p : Plan) (l b : ℕ) (s : BatteryString) → PlanString p s → l ≤ 101000 → need p l b s ≤ 202000000
+need-small p l b s ok short =
+    omega (arith, need-own p l b s (ok .lawful .xMax), work-le p (l - delayOf b s) s ok (omega arith))
 
 module _ (p : Plan) where
   -- ---- What is looked at
@@ -74,65 +79,57 @@ module _ (p : Plan) where
   -- ---- A string that can block
 
   module _ (l b q : ℕ) where
-    can-of : 1 ≤ q → q ≤ length (stringsOf p) → 1 ≤ b → b ≤ l → canBlock l b (stringAt p q) ≡ true → CanBlock (freely p) l b q
+    can-of : 1 ≤ q → q ≤ length (stringsOf p) → 1 ≤ b → b ≤ l → canBlock p l b (stringAt p q) ≡ true → CanBlock p l b q
     can-of low high least within can =
         let s = stringAt p q in
         let F = ltb l (s .d .0) in
-        let L = ltb b (s .c .0) in
-        let d : stringAt (freely p) q .d .0 ≡ s .d .0 = ap (λ r. r .d .0) (freely-string p q) in
-        let hold : holdOf (freely p) (stringAt (freely p) q) ≡ s .c .0 =
-        ap (holdOf (freely p)) (freely-string p q) ∙ freely-hold (freely p) s in
+        let L = ltb b (holdOf p s) in
         record {
           low = low;
-          high = omega (arith, freely-many p);
+          high = high;
           some = least;
           within = within;
-          far = omega (arith, ltb-true l (s .d .0) (and-left F L can));
-          less = omega (arith, ltb-true b (s .c .0) (and-right F L can));
+          far = ltb-true l (s .d .0) (and-left F L can);
+          less = ltb-true b (holdOf p s) (and-right F L can);
         }
 
-    of-can : CanBlock (freely p) l b q → canBlock l b (stringAt p q) ≡ true
-    of-can can =
-        let s = stringAt p q in
-        let d : stringAt (freely p) q .d .0 ≡ s .d .0 = ap (λ r. r .d .0) (freely-string p q) in
-        let hold : holdOf (freely p) (stringAt (freely p) q) ≡ s .c .0 =
-        ap (holdOf (freely p)) (freely-string p q) ∙ freely-hold (freely p) s in
-        and-both _ _ (lt-ltb l (s .d .0) (omega (arith, can .far))) (lt-ltb b (s .c .0) (omega (arith, can .less)))
+    of-can : CanBlock p l b q → canBlock p l b (stringAt p q) ≡ true
+    of-can can = and-both _ _ (lt-ltb l _ (can .far)) (lt-ltb b _ (can .less))
 
   -- ---- Broken
 
   module _ (y : Break) where
-    over-of : isBroken p y ≡ true → y .l < demandBut (freely p) (y .l) (y .b) (y .q)
+    over-of : isBroken p y ≡ true → y .l < demandBut p (y .l) (y .b) (y .q)
     unfolding isBroken
     over-of t =
-        let C = cond (eqb (y .b) 0) true (canBlock (y .l) (y .b) (stringAt p (y .q))) in
-        ltb-true _ _ (and-right C (ltb (y .l) (demandBut (freely p) (y .l) (y .b) (y .q))) t)
+        let C = cond (eqb (y .b) 0) true (canBlock p (y .l) (y .b) (stringAt p (y .q))) in
+        ltb-true _ _ (and-right C (ltb (y .l) (demandBut p (y .l) (y .b) (y .q))) t)
 
-    block-of : isBroken p y ≡ true → 1 ≤ y .b → canBlock (y .l) (y .b) (stringAt p (y .q)) ≡ true
+    block-of : isBroken p y ≡ true → 1 ≤ y .b → canBlock p (y .l) (y .b) (stringAt p (y .q)) ≡ true
     unfolding isBroken
     block-of t least =
-        let C = cond (eqb (y .b) 0) true (canBlock (y .l) (y .b) (stringAt p (y .q))) in
-        let can = and-left C (ltb (y .l) (demandBut (freely p) (y .l) (y .b) (y .q))) t in
+        let C = cond (eqb (y .b) 0) true (canBlock p (y .l) (y .b) (stringAt p (y .q))) in
+        let can = and-left C (ltb (y .l) (demandBut p (y .l) (y .b) (y .q))) t in
         rw (ne-eqb (y .b) 0 (λ e. omega arith)) at can
 
     -- the tests in turn
-    pub nobody-over : y .b ≡ 0 → y .l < demandBut (freely p) (y .l) (y .b) (y .q) → isBroken p y ≡ true
+    pub nobody-over : y .b ≡ 0 → y .l < demandBut p (y .l) (y .b) (y .q) → isBroken p y ≡ true
     unfolding isBroken
     nobody-over e over = rw (eq-eqb (y .b) 0 e) (lt-ltb _ _ over)
 
-    pub blocker-over : 1 ≤ y .b → canBlock (y .l) (y .b) (stringAt p (y .q)) ≡ true
-        → y .l < demandBut (freely p) (y .l) (y .b) (y .q) → isBroken p y ≡ true
+    pub blocker-over : 1 ≤ y .b → canBlock p (y .l) (y .b) (stringAt p (y .q)) ≡ true
+        → y .l < demandBut p (y .l) (y .b) (y .q) → isBroken p y ≡ true
     unfolding isBroken
     blocker-over least can over = rw (ne-eqb (y .b) 0 (λ e. omega arith), can) (lt-ltb _ _ over)
 
-    pub blocker-cannot : 1 ≤ y .b → canBlock (y .l) (y .b) (stringAt p (y .q)) ≡ false → isBroken p y ≡ false
+    pub blocker-cannot : 1 ≤ y .b → canBlock p (y .l) (y .b) (stringAt p (y .q)) ≡ false → isBroken p y ≡ false
     unfolding isBroken
     blocker-cannot least cannot = rw (ne-eqb (y .b) 0 (λ e. omega arith), cannot)
 
-    pub not-over : demandBut (freely p) (y .l) (y .b) (y .q) ≤ y .l → isBroken p y ≡ false
+    pub not-over : demandBut p (y .l) (y .b) (y .q) ≤ y .l → isBroken p y ≡ false
     unfolding isBroken
     not-over h =
-        let C = cond (eqb (y .b) 0) true (canBlock (y .l) (y .b) (stringAt p (y .q))) in
+        let C = cond (eqb (y .b) 0) true (canBlock p (y .l) (y .b) (stringAt p (y .q))) in
         rw (le-ltb _ _ h) (by-bool C (λ t. rw t) (λ f. rw f))
 
     broken-of : SharpBreak p (y .l) (y .b) (y .q) → isBroken p y ≡ true
@@ -152,20 +149,20 @@ module _ (p : Plan) where
         }
 
   -- no string breaks it by blocking where not even all of them ask for more than the interval
-  but-less : (l b q : ℕ) → demandBut (freely p) l b q ≤ demandBut (freely p) l b 0
+  but-less : (l b q : ℕ) → demandBut p l b q ≤ demandBut p l b 0
   unfolding demandBut needBut
   but-less l b q =
-      let n = length (stringsOf (freely p)) in
+      let n = length (stringsOf p) in
       let each =
-      sumOf-le (needBut (freely p) l b q) (needBut (freely p) l b 0) (upFrom 1 n)
-      (all-upFrom (λ i. needBut (freely p) l b q i ≤ needBut (freely p) l b 0 i) 1 n
+      sumOf-le (needBut p l b q) (needBut p l b 0) (upFrom 1 n)
+      (all-upFrom (λ i. needBut p l b q i ≤ needBut p l b 0 i) 1 n
       (λ i low high.
-      let asks = need (freely p) l b (stringAt (freely p) i) in
+      let asks = need p l b (stringAt p i) in
       let all : cond (eqb i 0) 0 asks ≡ asks = rw (ne-eqb i 0 (λ e. omega arith)) in
       by-bool (eqb i q) (λ t. rw t zero-le) (λ f. rw f (omega arith)))) in
       omega arith
 
-  pub none-blocks : (l b : ℕ) → demandBut (freely p) l b 0 ≤ l → firstOf (isBroken p) (blockedBreaks p l b) ≡ none
+  pub none-blocks : (l b : ℕ) → demandBut p l b 0 ≤ l → firstOf (isBroken p) (blockedBreaks p l b) ≡ none
   none-blocks l b h =
       firstOf-none (isBroken p) (blockedBreaks p l b) .1
       (all-mapped (λ y. isBroken p y ≡ false) (breakAt l b) (upFrom 1 (length (stringsOf p)))
@@ -173,13 +170,13 @@ module _ (p : Plan) where
       (λ q low high. not-over (breakAt l b q) (omega (arith, but-less l b q)))))
 
   -- the first break
-  module _ (y : Break) (is : freeBreak p ≡ some y) where
+  module _ (y : Break) (is : sharpBreak p ≡ some y) where
     found-reach : Reach y
-    unfolding freeBreak
+    unfolding sharpBreak
     found-reach = firstOf-in (isBroken p) Reach (allBreaks p) y all-reach is
 
     pub break-names : SharpBreak p (y .l) (y .b) (y .q)
-    unfolding freeBreak
+    unfolding sharpBreak
     break-names = sharp-of y found-reach (firstOf-passes (isBroken p) (allBreaks p) y is)
 
     pub break-near : y .l < 1000 + multipleOf p
@@ -196,9 +193,9 @@ module _ (p : Plan) where
 
   -- ---- No break
 
-  module _ (is : freeBreak p ≡ none) where
+  module _ (is : sharpBreak p ≡ none) where
     each-whole : All (λ y. isBroken p y ≡ false) (allBreaks p)
-    unfolding freeBreak
+    unfolding sharpBreak
     each-whole = firstOf-none (isBroken p) (allBreaks p) .0 is
 
     row-whole : (l : ℕ) → 1 ≤ l → l < 1000 + multipleOf p → All (λ y. isBroken p y ≡ false) (breaksIn p l)
@@ -208,18 +205,13 @@ module _ (p : Plan) where
         (each-of-flat (λ y. isBroken p y ≡ false) (breaksIn p) (upFrom 1 (multipleOf p + 999)) each-whole) l pos (omega arith)
 
     -- a blocking that some string can cause is looked at
-    longest-most : (l b q : ℕ) → CanBlock (freely p) l b q → b ≤ longestBlock p l
+    longest-most : (l b q : ℕ) → CanBlock p l b q → b ≤ longestBlock p l
     unfolding longestBlock
     longest-most l b q can =
-        let s = stringAt p q in
-        let F = ltb l (s .d .0) in
-        let L = ltb b (s .c .0) in
         let places = can .low in
-        let t = of-can l b q can in
-        let top = all-at (λ s. blockDays l s ≤ largest (blockDays l) (stringsOf p)) (stringsOf p) noString
-        (largest-ge (blockDays l) (stringsOf p)) (q - 1) (omega (arith, can .high, freely-many p)) in
-        let days : blockDays l s ≡ s .c .0 - 1 = rw (and-left F L t) in
-        omega (arith, can .within, ltb-true b (s .c .0) (and-right F L t))
+        let top = all-at (λ s. blockerHold p l s ≤ largest (blockerHold p l) (stringsOf p)) (stringsOf p) noString
+        (largest-ge (blockerHold p l) (stringsOf p)) (q - 1) (omega (arith, can .high)) in
+        omega (arith, can .within, can .less, blockerHold-early p l (stringAt p q) (can .far))
 
     whole-at : (l b q : ℕ) → l < 1000 + multipleOf p → SharpBreak p l b q → isBroken p (breakAt l b q) ≡ false
     whole-at l b q near broken =
@@ -233,22 +225,31 @@ module _ (p : Plan) where
               (omega arith) in
               each-of-upFrom (λ q. isBroken p (breakAt l b q) ≡ false) 1 (length (stringsOf p))
               (each-of-mapped (λ y. isBroken p y ≡ false) (breakAt l b) (upFrom 1 (length (stringsOf p))) row) q (can .low)
-              (omega (arith, can .high, freely-many p))
+              (omega (arith, can .high))
           | no nothing ↦
               let unblocked : b ≡ 0 = omega arith in
               let nobody : q ≡ 0 = broken .nobody unblocked in
               rw (unblocked, nobody) (row-whole l (broken .pos) near .0)
         ]
 
-    pub none-sharp : LawfulPlan p → SharplyPasses (freely p)
+    pub none-sharp : LawfulPlan p → SharplyPasses p
     none-sharp ok =
         sharp-of-none p ok
         (λ l b q near broken. true-not-false (sym (broken-of (breakAt l b q) broken) ∙ whole-at l b q near broken))
 
   -- and the other way round
-  pub sharp-none : LawfulPlan p → SharplyPasses (freely p) → freeBreak p ≡ none
-  sharp-none ok sharp = go (freeBreak p) refl
+  pub sharp-none : LawfulPlan p → SharplyPasses p → sharpBreak p ≡ none
+  sharp-none ok sharp = go (sharpBreak p) refl
     where
-      go : (o : Option Break) → freeBreak p ≡ o → freeBreak p ≡ none
+      go : (o : Option Break) → sharpBreak p ≡ o → sharpBreak p ≡ none
       go none e = e
       go (some y) e = absurd (none-of-sharp p ok sharp (y .l) (y .b) (y .q) (break-names y e))
+
+-- ---- With free moving
+
+module _ (p : Plan) (ok : LawfulPlan p) (y : Break) (is : freeBreak p ≡ some y) where
+  pub free-near : y .l < 1000 + multipleOf p
+  free-near = omega (arith, break-near (freely p) y is, freely-multiple p)
+
+  pub free-blocking : y .b ≤ 1000
+  free-blocking = break-blocking (freely p) y is (freely-lawful p ok)

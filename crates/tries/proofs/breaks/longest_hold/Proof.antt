@@ -1,11 +1,11 @@
--- `tries::openings::longest_hold` meets its contract: C and the moving cost are small, so the sum fits.
+-- `tries::breaks::longest_hold` meets its contract: C and the moving cost are small, so the sum fits.
 use Rattle.base.proofs.Prelude.{_≡_, ap, _*_, arith, needs}
 use Rattle.days.specs.declared.Length.{Length}
 use Rattle.rules.specs.Demand.{movingCost, holdOf}
 use Rattle.laws.proofs.Demand.{holdOf-le}
 use Rattle.verdict.proofs.Asked.{moving-le}
-use Rattle.tries.proofs.openings.longest_hold.Statement.{statement}
-use Rattle.tries.proofs.openings.longest_hold.Tie as tie
+use Rattle.tries.proofs.breaks.longest_hold.Statement.{statement}
+use Rattle.tries.proofs.breaks.longest_hold.Tie as tie
 
 -- the moving that X brings
 moving : (c : tie.After-moving-cost)
