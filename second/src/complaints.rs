@@ -89,12 +89,19 @@ const AT_THE_VISITS: [(&[&str], &str); 2] = [
     ),
 ];
 
+/// The same of the word for slack.
+const AT_THE_SLACK: [(&[&str], &str); 2] = [
+    (&["slack", "x.plan", "7"], "slack [FILE]"),
+    (&["slack", "x.plan"], "cannot read x.plan: no such file"),
+];
+
 pub fn compare(clerk: &Path, subject: Subject, folder: &Path) -> Result<(), Stop> {
     compare_each(clerk, folder, &COMPLAINTS)?;
     match subject {
         Subject::Register | Subject::Table => compare_each(clerk, folder, &AT_THE_REGISTER),
         Subject::Run => compare_each(clerk, folder, &AT_THE_RUN),
         Subject::Visits => compare_each(clerk, folder, &AT_THE_VISITS),
+        Subject::Slack => compare_each(clerk, folder, &AT_THE_SLACK),
         _ => Ok(()),
     }
 }

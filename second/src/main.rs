@@ -26,6 +26,7 @@ mod running;
 mod saving;
 mod selftest;
 mod showing;
+mod slack;
 mod stop;
 mod tally;
 mod texts;
@@ -63,6 +64,7 @@ fn main() -> ExitCode {
         Some(Task::Register(path, run)) => show_text(&path, |text| registered(text, run)),
         Some(Task::Table(path)) => show_text(&path, tabled),
         Some(Task::Run(path)) => show_plan(&path, running::told),
+        Some(Task::Slack(path)) => show_plan(&path, slack::answer::told),
         Some(Task::Visits(path)) => show_text(&path, visited),
         Some(Task::CheckVisits(plan, visits)) => check_visits(&plan, &visits),
         Some(Task::Board(path)) => show_board(&path),

@@ -11,12 +11,13 @@ use std::str::FromStr;
 pub const USAGE: &str =
     "usage: second --desk PATH [--files N] [--seed S] [--batch B] [--keep DIR] [--tally]
        second --clerk PATH [--about SUBJECT] [--files N] [--seed S] [--batch B] [--keep DIR] [--tally]
-              a SUBJECT is one of save quick show turn register table run visits
+              a SUBJECT is one of save quick show turn register table run visits slack
        second --boards PATH [--files N] [--seed S] [--batch B] [--keep DIR] [--tally]
        second --answer FILE
        second --register FILE N
        second --table FILE
        second --run FILE
+       second --slack FILE
        second --visits FILE
        second --check-visits FILE VISITS
        second --board FILE < START-DATE-AND-DIARY
@@ -35,6 +36,7 @@ pub enum Task {
     Register(PathBuf, RunLength),
     Table(PathBuf),
     Run(PathBuf),
+    Slack(PathBuf),
     Visits(PathBuf),
     CheckVisits(PathBuf, PathBuf),
     Board(PathBuf),
@@ -75,6 +77,8 @@ pub enum Subject {
     Run,
     /// Visits of our own runs, and visit lists.
     Visits,
+    /// How far each number of a plan can go.
+    Slack,
 }
 
 impl FromStr for Subject {
@@ -90,6 +94,7 @@ impl FromStr for Subject {
             "table" => Ok(Subject::Table),
             "run" => Ok(Subject::Run),
             "visits" => Ok(Subject::Visits),
+            "slack" => Ok(Subject::Slack),
             _ => Err(()),
         }
     }
@@ -126,6 +131,7 @@ pub fn task(mut words: impl Iterator<Item = String>) -> Option<Task> {
             "--register" => return Some(Task::Register(value(&mut words)?, value(&mut words)?)),
             "--table" => return words.next().map(|path| Task::Table(path.into())),
             "--run" => return words.next().map(|path| Task::Run(path.into())),
+            "--slack" => return words.next().map(|path| Task::Slack(path.into())),
             "--visits" => return words.next().map(|path| Task::Visits(path.into())),
             "--check-visits" => {
                 return Some(Task::CheckVisits(value(&mut words)?, value(&mut words)?))

@@ -15,6 +15,7 @@ use crate::rules::rule::verdict;
 use crate::running;
 use crate::saving::{into_page, saved, Saved};
 use crate::showing::shown;
+use crate::slack;
 use crate::turning::{turned, Way};
 use crate::visits;
 
@@ -50,6 +51,7 @@ pub fn file(subject: Subject, seed: u64, file: u64) -> Made {
         Subject::Table => plans::make(seed, file),
         Subject::Run => runs::make(seed, file),
         Subject::Visits => visits::plans::make(seed, file),
+        Subject::Slack => slack::plans::make(seed, file),
     }
 }
 
@@ -69,6 +71,7 @@ pub fn about(
         Subject::Table => about_tables(chance, text, name),
         Subject::Run => about_runs(text, name),
         Subject::Visits => visits::ask::about(chance, text, name),
+        Subject::Slack => slack::ask::about(text, name),
     }
 }
 

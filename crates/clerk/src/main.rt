@@ -5,6 +5,7 @@ mod dates;
 mod each;
 mod export;
 mod files;
+mod limits;
 mod miss;
 mod orders;
 mod plans;

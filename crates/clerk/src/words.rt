@@ -5,6 +5,7 @@ use super::dates::date;
 use super::dates::day;
 use super::dates::yearly_days;
 use super::export::register_file;
+use super::limits::show_slack;
 use super::miss::miss;
 use super::orders::same_strings;
 use super::quick::quick_verdict;
@@ -32,6 +33,8 @@ pub(crate) fn answer(command: &[u8]) -> u8 {
         show_run(command)
     } else if same(first, b"show") {
         show(command)
+    } else if same(first, b"slack") {
+        show_slack(command)
     } else if same(first, b"visits") {
         own_visits(command)
     } else if same(first, b"check-visits") {
@@ -115,6 +118,10 @@ fn help() -> u8 {
     let end = say::more(
         end,
         b"show [FILE]             the plan in FILE in decimal words\n",
+    );
+    let end = say::more(
+        end,
+        b"slack [FILE]            the verdict on the plan in FILE, and for each string how far each number can go\n",
     );
     let end = say::more(
         end,

@@ -1,6 +1,7 @@
 pub mod Pages
 pub mod Dates
 pub mod Shown
+pub mod Limits
 pub mod Stints
 pub mod Same
 pub mod Board

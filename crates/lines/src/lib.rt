@@ -1,6 +1,7 @@
 // The lines that are written for an answer (document 01, "Frames of the plan file"), on a page of text.
 mod board;
 mod dates;
+mod limits;
 mod pages;
 mod parts;
 mod rows;
@@ -15,6 +16,9 @@ pub use board::used_line;
 pub use dates::date_line;
 pub use dates::day_line;
 use dates::refused;
+pub use limits::Limit;
+pub use limits::Limits;
+pub use limits::limits_line;
 pub use pages::blank;
 pub use pages::put_text;
 use parts::assign_line;

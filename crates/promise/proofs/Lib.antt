@@ -2,7 +2,8 @@
 -- Missing: where moving is free, a fail has a list that misses. Missed: the releases that miss, as a text. OneText: reading and writing
 -- undo each other. Register: so do those of the asset register's table. Turning: version 01 to 02 and back. OtherVersion, Refused: which
 -- number is given exactly when. AnyOrder: the order of
--- the list, and whether two plans hold the same strings. Easing: a plan made easier still passes. PlanShown: a plan in decimal words.
+-- the list, and whether two plans hold the same strings. Easing: a plan made easier still passes. Slack: how far it can be changed.
+-- PlanShown: a plan in decimal words.
 -- Stints: the days of a run, stretch by stretch. Visits: the contractor's visit list. CrewBoard:
 -- the days of a run on the crew's board.
 -- ToldPrograms: demand 3 of what a C program is told. ShutOut, OnlyOne: what the contracts rule out.
@@ -17,6 +18,7 @@ pub mod OtherVersion
 pub mod Refused
 pub mod AnyOrder
 pub mod Easing
+pub mod Slack
 pub mod PlanShown
 pub mod Stints
 pub mod Visits

@@ -38,6 +38,10 @@ use Rattle.lines.proofs.used_line.Reads as used-line
 use Rattle.lines.proofs.missed_line.Reads as missed-line
 use Rattle.lines.proofs.number_line.Reads as number-line
 use Rattle.lines.proofs.visit_line.Reads as visit-line
+use Rattle.lines.proofs.limits_line.Reads as limits-line
+use Rattle.slack.specs.declared.AskedLimit.{AskedLimit}
+use Rattle.slack.proofs.limit_at.Reads as limit-at
+use Rattle.slack.proofs.limits_shown.Reads as limits-shown
 use Rattle.register.specs.declared.LineRead.{LineRead}
 use Rattle.register.proofs.three_at.Reads as three-at
 use Rattle.visits.specs.{declared.Visit.Visit, declared.OwnVisits.OwnVisits, Visits.visitsCheck}
@@ -120,6 +124,7 @@ use Rattle.entries.proofs.desk_multiple.Reads as desk-multiple
 use Rattle.entries.proofs.desk_verdict.Reads as desk-verdict
 use Rattle.entries.proofs.desk_verdict_with.Reads as desk-verdict-with
 use Rattle.entries.proofs.desk_quick.Reads as desk-quick
+use Rattle.entries.proofs.desk_limit.Reads as desk-limit
 use Rattle.entries.proofs.desk_search.Reads as desk-search
 use Rattle.entries.proofs.desk_run.Reads as desk-run
 use Rattle.entries.proofs.desk_stints.Reads as desk-stints
@@ -415,6 +420,15 @@ one-plan-shown κs a e f r s h k = h .0 ∙ sym (k .0)
 pub one-string-shown : (κs : Lfts 0) (a : _) (e f : _) (r s : Page) → string-shown.Learnt κs a r e → string-shown.Learnt κs a s f → r ≡ s
 one-string-shown κs a e f r s h k = h .0 ∙ sym (k .0)
 
+pub one-limits-line : (κs : Lfts 0) (a : _) (e f : _) (r s : Page) → limits-line.Learnt κs a r e → limits-line.Learnt κs a s f → r ≡ s
+one-limits-line κs a e f r s h k = h .0 ∙ sym (k .0)
+
+pub one-limit-at : (κs : Lfts 0) (a : _) (e f : _) (r s : AskedLimit) → limit-at.Learnt κs a r e → limit-at.Learnt κs a s f → r ≡ s
+one-limit-at κs a e f r s h k = h ∙ sym k
+
+pub one-limits-shown : (κs : Lfts 0) (a : _) (e f : _) (r s : Page) → limits-shown.Learnt κs a r e → limits-shown.Learnt κs a s f → r ≡ s
+one-limits-shown κs a e f r s h k = h .0 ∙ sym (k .0)
+
 pub one-load-shown : (κs : Lfts 0) (a : _) (e f : _) (r s : Page) → load-shown.Learnt κs a r e → load-shown.Learnt κs a s f → r ≡ s
 one-load-shown κs a e f r s h k = h .0 ∙ sym (k .0)
 
@@ -523,6 +537,10 @@ one-desk-verdict-with κs a e f r s h k = (h .0 ∙ sym (k .0), h .1 .0 ∙ sym 
 pub one-desk-quick : (κs : Lfts 2) (a : _) (e f : _) (r s : ℕ) → desk-quick.Learnt κs a r e → desk-quick.Learnt κs a s f
     → (r ≡ s) × (e .1 .0 .now ≡ f .1 .0 .now) × (e .0 .now ≡ f .0 .now)
 one-desk-quick κs a e f r s h k = (h .0 ∙ sym (k .0), h .1 .0 ∙ sym (k .1 .0), h .1 .1 ∙ sym (k .1 .1))
+
+pub one-desk-limit : (κs : Lfts 2) (a : _) (e f : _) (r s : ℕ) → desk-limit.Learnt κs a r e → desk-limit.Learnt κs a s f
+    → (r ≡ s) × (e .1 .1 .1 .0 .now ≡ f .1 .1 .1 .0 .now) × (e .0 .now ≡ f .0 .now)
+one-desk-limit κs a e f r s h k = (h .0 ∙ sym (k .0), h .1 .0 ∙ sym (k .1 .0), h .1 .1 ∙ sym (k .1 .1))
 
 pub one-desk-search : (κs : Lfts 2) (a : _) (e f : _) (r s : ℕ) → desk-search.Learnt κs a r e → desk-search.Learnt κs a s f
     → (r ≡ s) × (e .1 .0 .now ≡ f .1 .0 .now) × (e .0 .now ≡ f .0 .now)
