@@ -11,6 +11,7 @@ mod days;
 mod decimal;
 mod desk;
 mod edges;
+mod evaluation;
 mod faults;
 mod late;
 mod misses;
@@ -71,6 +72,7 @@ fn main() -> ExitCode {
         Some(Task::Days(path)) => show_plan(&path, days::told),
         Some(Task::Breaks(path)) => show_plan(&path, breaks),
         Some(Task::Wrong(mistake, path)) => show_answer(&path, |text| wrong::answer(mistake, text)),
+        Some(Task::Sets(path)) => show_sets(&path),
         Some(Task::Selftest) => run_selftest(),
         Some(Task::Calendar) => show_calendar(),
         Some(Task::Dates(asked)) => run_dates(&asked),
@@ -156,6 +158,16 @@ fn check_visits(plan: &Path, visits: &Path) -> ExitCode {
     match std::fs::read(visits) {
         Ok(list) => show_text(plan, |plan| checked(plan, &list)),
         Err(error) => unable(&format!("{}: {error}", visits.display())),
+    }
+}
+
+fn show_sets(path: &Path) -> ExitCode {
+    match std::fs::read_to_string(path) {
+        Ok(text) => match evaluation::answered(&text) {
+            Some(lines) => shown(&lines, ExitCode::SUCCESS),
+            None => unable(&format!("{}: a line that is no set", path.display())),
+        },
+        Err(error) => unable(&format!("{}: {error}", path.display())),
     }
 }
 

@@ -24,6 +24,7 @@ pub const USAGE: &str =
        second --days FILE
        second --breaks FILE
        second --wrong equation-7|one-by-one|stop-at-dmax|load-equal-to-h|start-early|stopped-pays|one-week|who-is-interrupted FILE
+       second --sets FILE
        second --calendar
        second --misses CLERK [--plans N] [--small M] [--late L] [--drawn K] [--seed S]
        second --orders CLERK DESK [--pairs N] [--seed S]
@@ -43,6 +44,8 @@ pub enum Task {
     Days(PathBuf),
     Breaks(PathBuf),
     Wrong(Mistake, PathBuf),
+    /// Sets of strings, a line each, as the benchmark of the source's evaluation writes them.
+    Sets(PathBuf),
     Selftest,
     Calendar,
     Dates(Asked),
@@ -140,6 +143,7 @@ pub fn task(mut words: impl Iterator<Item = String>) -> Option<Task> {
             "--days" => return words.next().map(|path| Task::Days(path.into())),
             "--breaks" => return words.next().map(|path| Task::Breaks(path.into())),
             "--wrong" => return Some(Task::Wrong(value(&mut words)?, value(&mut words)?)),
+            "--sets" => return words.next().map(|path| Task::Sets(path.into())),
             "--selftest" => return Some(Task::Selftest),
             "--calendar" => return Some(Task::Calendar),
             "--dates" => return asked(words).map(Task::Dates),

@@ -5,7 +5,7 @@
 -- the list, and whether two plans hold the same strings. Easing: a plan made easier still passes. Slack: how far it can be changed.
 -- PlanShown: a plan in decimal words.
 -- Stints: the days of a run, stretch by stretch. Visits: the contractor's visit list. CrewBoard:
--- the days of a run on the crew's board.
+-- the days of a run on the crew's board. TwoEnds: everybody permitted, and nobody.
 -- ToldPrograms: demand 3 of what a C program is told. ShutOut, OnlyOne: what the contracts rule out.
 pub mod UserWords
 pub mod QuickAgrees
@@ -19,6 +19,7 @@ pub mod Refused
 pub mod AnyOrder
 pub mod Easing
 pub mod Slack
+pub mod TwoEnds
 pub mod PlanShown
 pub mod Stints
 pub mod Visits

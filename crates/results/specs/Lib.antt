@@ -6,3 +6,4 @@ pub mod Change
 pub mod Blockers
 pub mod Rows
 pub mod OnTime
+pub mod TwoEnds
