@@ -80,6 +80,14 @@ const AT_THE_RUN: [(&[&str], &str); 2] = [
     (&["run", "."], "cannot read .: a folder"),
 ];
 
+/// The same of the words that say where a verdict comes from.
+const AT_THE_WHITEBOARD: [(&[&str], &str); 4] = [
+    (&["why", "x.plan", "7"], "why [FILE]"),
+    (&["why", "x.plan"], "cannot read x.plan: no such file"),
+    (&["demand", "x.plan", "7"], "demand [FILE]"),
+    (&["demand", "x.plan"], "cannot read x.plan: no such file"),
+];
+
 /// The same of the words for visits.
 const AT_THE_VISITS: [(&[&str], &str); 2] = [
     (&["visits", "x.plan"], "cannot read x.plan: no such file"),
@@ -102,6 +110,7 @@ pub fn compare(clerk: &Path, subject: Subject, folder: &Path) -> Result<(), Stop
         Subject::Run => compare_each(clerk, folder, &AT_THE_RUN),
         Subject::Visits => compare_each(clerk, folder, &AT_THE_VISITS),
         Subject::Slack => compare_each(clerk, folder, &AT_THE_SLACK),
+        Subject::Why | Subject::Demand => compare_each(clerk, folder, &AT_THE_WHITEBOARD),
         _ => Ok(()),
     }
 }

@@ -12,6 +12,7 @@ mod decimal;
 mod desk;
 mod edges;
 mod evaluation;
+mod explaining;
 mod faults;
 mod late;
 mod misses;
@@ -66,6 +67,8 @@ fn main() -> ExitCode {
         Some(Task::Table(path)) => show_text(&path, tabled),
         Some(Task::Run(path)) => show_plan(&path, running::told),
         Some(Task::Slack(path)) => show_plan(&path, slack::answer::told),
+        Some(Task::Why(path)) => show_text(&path, explaining::explained),
+        Some(Task::Demand(path)) => show_text(&path, explaining::staircase),
         Some(Task::Visits(path)) => show_text(&path, visited),
         Some(Task::CheckVisits(plan, visits)) => check_visits(&plan, &visits),
         Some(Task::Board(path)) => show_board(&path),

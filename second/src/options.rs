@@ -11,13 +11,15 @@ use std::str::FromStr;
 pub const USAGE: &str =
     "usage: second --desk PATH [--files N] [--seed S] [--batch B] [--keep DIR] [--tally]
        second --clerk PATH [--about SUBJECT] [--files N] [--seed S] [--batch B] [--keep DIR] [--tally]
-              a SUBJECT is one of save quick show turn register table run visits slack
+              a SUBJECT is one of save quick show turn register table run visits why demand slack
        second --boards PATH [--files N] [--seed S] [--batch B] [--keep DIR] [--tally]
        second --answer FILE
        second --register FILE N
        second --table FILE
        second --run FILE
        second --slack FILE
+       second --why FILE
+       second --demand FILE
        second --visits FILE
        second --check-visits FILE VISITS
        second --board FILE < START-DATE-AND-DIARY
@@ -38,6 +40,8 @@ pub enum Task {
     Table(PathBuf),
     Run(PathBuf),
     Slack(PathBuf),
+    Why(PathBuf),
+    Demand(PathBuf),
     Visits(PathBuf),
     CheckVisits(PathBuf, PathBuf),
     Board(PathBuf),
@@ -82,6 +86,10 @@ pub enum Subject {
     Visits,
     /// How far each number of a plan can go.
     Slack,
+    /// Verdicts told string by string.
+    Why,
+    /// Demands told interval by interval.
+    Demand,
 }
 
 impl FromStr for Subject {
@@ -98,6 +106,8 @@ impl FromStr for Subject {
             "run" => Ok(Subject::Run),
             "visits" => Ok(Subject::Visits),
             "slack" => Ok(Subject::Slack),
+            "why" => Ok(Subject::Why),
+            "demand" => Ok(Subject::Demand),
             _ => Err(()),
         }
     }
@@ -135,6 +145,8 @@ pub fn task(mut words: impl Iterator<Item = String>) -> Option<Task> {
             "--table" => return words.next().map(|path| Task::Table(path.into())),
             "--run" => return words.next().map(|path| Task::Run(path.into())),
             "--slack" => return words.next().map(|path| Task::Slack(path.into())),
+            "--why" => return words.next().map(|path| Task::Why(path.into())),
+            "--demand" => return words.next().map(|path| Task::Demand(path.into())),
             "--visits" => return words.next().map(|path| Task::Visits(path.into())),
             "--check-visits" => {
                 return Some(Task::CheckVisits(value(&mut words)?, value(&mut words)?))

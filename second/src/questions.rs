@@ -2,6 +2,7 @@
 
 use crate::chance::Chance;
 use crate::edges::pages;
+use crate::explaining::{explained, staircase};
 use crate::mix::{make, make_at_the_border, make_to_turn, Made};
 use crate::options::Subject;
 use crate::plans::runs;
@@ -45,7 +46,7 @@ impl Asked {
 pub fn file(subject: Subject, seed: u64, file: u64) -> Made {
     match subject {
         Subject::Save | Subject::Show => make(seed, file),
-        Subject::Quick => make_at_the_border(seed, file),
+        Subject::Quick | Subject::Why | Subject::Demand => make_at_the_border(seed, file),
         Subject::Turn => make_to_turn(seed, file),
         Subject::Register => exports::make(seed, file),
         Subject::Table => plans::make(seed, file),
@@ -72,6 +73,8 @@ pub fn about(
         Subject::Run => about_runs(text, name),
         Subject::Visits => visits::ask::about(chance, text, name),
         Subject::Slack => slack::ask::about(text, name),
+        Subject::Why => Ok(vec![Asked::new(format!("why {name}"), explained(text))]),
+        Subject::Demand => Ok(vec![Asked::new(format!("demand {name}"), staircase(text))]),
     }
 }
 

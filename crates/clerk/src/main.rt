@@ -3,6 +3,7 @@
 mod commands;
 mod dates;
 mod each;
+mod explain;
 mod export;
 mod files;
 mod limits;

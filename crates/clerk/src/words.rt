@@ -4,6 +4,8 @@ use super::commands::word;
 use super::dates::date;
 use super::dates::day;
 use super::dates::yearly_days;
+use super::explain::demand;
+use super::explain::why;
 use super::export::register_file;
 use super::limits::show_slack;
 use super::miss::miss;
@@ -29,6 +31,10 @@ pub(crate) fn answer(command: &[u8]) -> u8 {
         quick_verdict(command)
     } else if same(first, b"miss") {
         miss(command)
+    } else if same(first, b"why") {
+        why(command)
+    } else if same(first, b"demand") {
+        demand(command)
     } else if same(first, b"run") {
         show_run(command)
     } else if same(first, b"show") {
@@ -73,6 +79,10 @@ fn help() -> u8 {
     let end = say::more(
         end,
         b"day NUMBER              the date and the weekday of a day number\n",
+    );
+    let end = say::more(
+        end,
+        b"demand [FILE]           the demand of the plan in FILE, interval by interval, and where the rule is broken\n",
     );
     let end = say::more(
         end,
@@ -142,6 +152,10 @@ fn help() -> u8 {
     let end = say::more(
         end,
         b"visits [FILE]           the visits of our own run of the plan in FILE: release,first day,length\n",
+    );
+    let end = say::more(
+        end,
+        b"why [FILE]              where the verdict on the plan in FILE comes from: a pair, string by string\n",
     );
     let end = say::more(end, b"yearly MM-DD EDITION FIRST LAST\n");
     let end = say::more(

@@ -6,4 +6,5 @@ pub mod Stints
 pub mod Same
 pub mod Board
 pub mod Visits
+pub mod Why
 pub mod inner

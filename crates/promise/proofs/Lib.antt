@@ -6,6 +6,7 @@
 -- PlanShown: a plan in decimal words.
 -- Stints: the days of a run, stretch by stretch. Visits: the contractor's visit list. CrewBoard:
 -- the days of a run on the crew's board. TwoEnds: everybody permitted, and nobody.
+-- Whiteboard: where a verdict comes from, string by string and interval by interval.
 -- ToldPrograms: demand 3 of what a C program is told. ShutOut, OnlyOne: what the contracts rule out.
 pub mod UserWords
 pub mod QuickAgrees
@@ -29,3 +30,4 @@ pub mod ShutOut
 pub mod Dates
 pub mod ToldPrograms
 pub mod OnlyOne
+pub mod Whiteboard

@@ -114,6 +114,25 @@ use Rattle.lines.proofs.alone_line.Reads as alone-line
 use Rattle.lines.proofs.counts_line.Reads as counts-line
 use Rattle.matching.proofs.same_strings.Reads as same-strings
 use Rattle.matching.proofs.matched_line.Reads as matched-line
+use Rattle.lines.proofs.pair_line.Reads as pair-line
+use Rattle.lines.proofs.blocker_line.Reads as blocker-line
+use Rattle.lines.proofs.blocking_line.Reads as blocking-line
+use Rattle.lines.proofs.share_line.Reads as share-line
+use Rattle.lines.proofs.demand_line.Reads as demand-line
+use Rattle.lines.proofs.multiple_line.Reads as multiple-line
+use Rattle.lines.proofs.over_line.Reads as over-line
+use Rattle.lines.proofs.stair_line.Reads as stair-line
+use Rattle.lines.proofs.stretch_line.Reads as stretch-line
+use Rattle.lines.proofs.nowhere_line.Reads as nowhere-line
+use Rattle.why.specs.declared.Subject.{Subject}
+use Rattle.why.proofs.named.Reads as named
+use Rattle.why.proofs.last_interval.Reads as last-interval
+use Rattle.why.proofs.blocker_shown.Reads as blocker-shown
+use Rattle.why.proofs.share_shown.Reads as share-shown
+use Rattle.why.proofs.demand_shown.Reads as demand-shown
+use Rattle.why.proofs.stair_shown.Reads as stair-shown
+use Rattle.why.proofs.stretch_shown.Reads as stretch-shown
+use Rattle.why.proofs.nowhere_shown.Reads as nowhere-shown
 use Rattle.showing.proofs.plan_shown.Reads as plan-shown
 use Rattle.showing.proofs.string_shown.Reads as string-shown
 use Rattle.showing.proofs.load_shown.Reads as load-shown
@@ -434,6 +453,61 @@ one-load-shown κs a e f r s h k = h .0 ∙ sym (k .0)
 
 pub one-release-shown : (κs : Lfts 0) (a : _) (e f : _) (r s : Page) → release-shown.Learnt κs a r e → release-shown.Learnt κs a s f → r ≡ s
 one-release-shown κs a e f r s h k = h .0 ∙ sym (k .0)
+
+-- lines of a verdict explained, and why
+pub one-named : (κs : Lfts 0) (a : _) (e f : _) (r s : Subject) → named.Learnt κs a r e → named.Learnt κs a s f → r ≡ s
+one-named κs a e f r s h k = h ∙ sym k
+
+pub one-last-interval : (κs : Lfts 0) (a : _) (e f : _) (r s : ℕ) → last-interval.Learnt κs a r e → last-interval.Learnt κs a s f → r ≡ s
+one-last-interval κs a e f r s h k = h ∙ sym k
+
+pub one-blocker-shown : (κs : Lfts 0) (a : _) (e f : _) (r s : Page) → blocker-shown.Learnt κs a r e → blocker-shown.Learnt κs a s f → r ≡ s
+one-blocker-shown κs a e f r s h k = h .0 ∙ sym (k .0)
+
+pub one-share-shown : (κs : Lfts 0) (a : _) (e f : _) (r s : Page) → share-shown.Learnt κs a r e → share-shown.Learnt κs a s f → r ≡ s
+one-share-shown κs a e f r s h k = h .0 ∙ sym (k .0)
+
+pub one-demand-shown : (κs : Lfts 0) (a : _) (e f : _) (r s : Page) → demand-shown.Learnt κs a r e → demand-shown.Learnt κs a s f → r ≡ s
+one-demand-shown κs a e f r s h k = h .0 ∙ sym (k .0)
+
+pub one-stair-shown : (κs : Lfts 0) (a : _) (e f : _) (r s : Page) → stair-shown.Learnt κs a r e → stair-shown.Learnt κs a s f → r ≡ s
+one-stair-shown κs a e f r s h k = h .0 ∙ sym (k .0)
+
+pub one-stretch-shown : (κs : Lfts 0) (a : _) (e f : _) (r s : Page) → stretch-shown.Learnt κs a r e → stretch-shown.Learnt κs a s f → r ≡ s
+one-stretch-shown κs a e f r s h k = h .0 ∙ sym (k .0)
+
+pub one-nowhere-shown : (κs : Lfts 0) (a : _) (e f : _) (r s : Page) → nowhere-shown.Learnt κs a r e → nowhere-shown.Learnt κs a s f → r ≡ s
+one-nowhere-shown κs a e f r s h k = h .0 ∙ sym (k .0)
+
+pub one-pair-line : (κs : Lfts 0) (a : _) (e f : _) (r s : Page) → pair-line.Learnt κs a r e → pair-line.Learnt κs a s f → r ≡ s
+one-pair-line κs a e f r s h k = h .0 ∙ sym (k .0)
+
+pub one-blocker-line : (κs : Lfts 0) (a : _) (e f : _) (r s : Page) → blocker-line.Learnt κs a r e → blocker-line.Learnt κs a s f → r ≡ s
+one-blocker-line κs a e f r s h k = h .0 ∙ sym (k .0)
+
+pub one-blocking-line : (κs : Lfts 0) (a : _) (e f : _) (r s : Page) → blocking-line.Learnt κs a r e → blocking-line.Learnt κs a s f → r ≡ s
+one-blocking-line κs a e f r s h k = h .0 ∙ sym (k .0)
+
+pub one-share-line : (κs : Lfts 0) (a : _) (e f : _) (r s : Page) → share-line.Learnt κs a r e → share-line.Learnt κs a s f → r ≡ s
+one-share-line κs a e f r s h k = h .0 ∙ sym (k .0)
+
+pub one-demand-line : (κs : Lfts 0) (a : _) (e f : _) (r s : Page) → demand-line.Learnt κs a r e → demand-line.Learnt κs a s f → r ≡ s
+one-demand-line κs a e f r s h k = h .0 ∙ sym (k .0)
+
+pub one-multiple-line : (κs : Lfts 0) (a : _) (e f : _) (r s : Page) → multiple-line.Learnt κs a r e → multiple-line.Learnt κs a s f → r ≡ s
+one-multiple-line κs a e f r s h k = h .0 ∙ sym (k .0)
+
+pub one-over-line : (κs : Lfts 0) (a : _) (e f : _) (r s : Page) → over-line.Learnt κs a r e → over-line.Learnt κs a s f → r ≡ s
+one-over-line κs a e f r s h k = h .0 ∙ sym (k .0)
+
+pub one-stair-line : (κs : Lfts 0) (a : _) (e f : _) (r s : Page) → stair-line.Learnt κs a r e → stair-line.Learnt κs a s f → r ≡ s
+one-stair-line κs a e f r s h k = h .0 ∙ sym (k .0)
+
+pub one-stretch-line : (κs : Lfts 0) (a : _) (e f : _) (r s : Page) → stretch-line.Learnt κs a r e → stretch-line.Learnt κs a s f → r ≡ s
+one-stretch-line κs a e f r s h k = h .0 ∙ sym (k .0)
+
+pub one-nowhere-line : (κs : Lfts 0) (a : _) (e f : _) (r s : Page) → nowhere-line.Learnt κs a r e → nowhere-line.Learnt κs a s f → r ≡ s
+one-nowhere-line κs a e f r s h k = h .0 ∙ sym (k .0)
 
 -- answers
 pub one-answer : (κs : Lfts 1) (a : _) (e f : _) (r s : Answer) → answer.Learnt κs a r e → answer.Learnt κs a s f

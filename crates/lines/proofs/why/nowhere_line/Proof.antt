@@ -1,0 +1,11 @@
+-- `lines::why::nowhere_line` meets its contract: the template filled is the line.
+use Rattle.base.proofs.Prelude.{needs}
+use Rattle.rules.specs.Lines.{bytesOf, wordedIn}
+use Rattle.lines.specs.{Why.nowhereLine, inner.Templates.{marked, takes, filledIn}}
+use Rattle.lines.proofs.why.nowhere_line.Statement.{statement}
+use Rattle.lines.proofs.why.nowhere_line.Tie as tie
+
+pub nowhere-line-spec : {M : Type 1} → statement M
+unfolding bytesOf wordedIn marked takes filledIn nowhereLine
+nowhere-line-spec = tie.close (tie.spec (λ c. search needs) (λ c. search needs) (λ c. search needs)
+    (λ c κs. search needs) λ c. c .lone-line .ensures)

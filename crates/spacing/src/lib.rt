@@ -1,0 +1,1 @@
+// Releases further apart than a plan asks for. Definitions and theorems only: no code.
