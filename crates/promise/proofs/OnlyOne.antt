@@ -6,7 +6,7 @@
 use Rattle.base.proofs.Prelude.{_≡_, sym, _∙_, Bool, ℕ, List}
 use Rattle.days.specs.{declared.Later.Later, declared.Gap.Gap, declared.Length.Length}
 use Rattle.faults.specs.declared.Checked.{Checked}
-use Rattle.rules.specs.{declared.Reading.Reading, declared.AskedVerdict.AskedVerdict, declared.AskedBroken.AskedBroken, declared.AskedAssign.AskedAssign, declared.AskedOutcome.AskedOutcome, declared.Figures.Figures, declared.Answer.Answer, declared.Job.Job, declared.Slot.Slot, declared.Use.Use, declared.Stint.Stint, declared.Stinted.Stinted, declared.Plan.Plan, declared.Releases.Releases}
+use Rattle.rules.specs.{declared.Reading.Reading, declared.AskedVerdict.AskedVerdict, declared.AskedBroken.AskedBroken, declared.AskedAssign.AskedAssign, declared.AskedOutcome.AskedOutcome, declared.Figures.Figures, declared.Answer.Answer, declared.Job.Job, declared.Use.Use, declared.Stint.Stint, declared.Stinted.Stinted, declared.Plan.Plan, declared.Releases.Releases}
 use Rattle.lines.specs.declared.Page.{Page}
 use Rattle.calendar.specs.{declared.Date.Date, declared.WhichDate.WhichDate, declared.WhichDay.WhichDay, declared.WhichWeekday.WhichWeekday, declared.WhichYearly.WhichYearly, declared.WhichEdition.WhichEdition, declared.Listed.Listed, declared.DateText.DateText, declared.YearlyText.YearlyText}
 use Rattle.missed.specs.declared.Missed.{Missed}
@@ -56,13 +56,14 @@ use Rattle.boards.proofs.board_end.Reads as board-end
 use Rattle.rules.proofs.Plan.moving_cost.Reads as Plan-moving-cost
 use Rattle.rules.proofs.Plan.with_run.Reads as Plan-with-run
 use Rattle.rules.proofs.Verdict.passes.Reads as Verdict-passes
-use Rattle.slots.proofs.chosen_place.Reads as chosen-place
+use Rattle.slots.proofs.passes.Reads as passes
+use Rattle.slots.proofs.is_ahead.Reads as is-ahead
+use Rattle.slots.proofs.is_on_bank.Reads as is-on-bank
 use Rattle.slots.proofs.stopped_job.Reads as stopped-job
 use Rattle.slots.proofs.seated_job.Reads as seated-job
 use Rattle.slots.proofs.part_left.Reads as part-left
 use Rattle.slots.proofs.spent_by.Reads as spent-by
 use Rattle.slots.proofs.use_for.Reads as use-for
-use Rattle.slots.proofs.empty_slots.Reads as empty-slots
 use Rattle.bounds.proofs.string_lawful.Reads as string-lawful
 use Rattle.bounds.proofs.multiple.Reads as multiple
 use Rattle.bounds.proofs.first_unlawful.Reads as first-unlawful
@@ -234,8 +235,14 @@ pub one-Verdict-passes : (κs : Lfts 0) (a : _) (e f : _) (r s : Bool) → Verdi
 one-Verdict-passes κs a e f r s h k = h ∙ sym k
 
 -- slots
-pub one-chosen-place : (κs : Lfts 0) (a : _) (e f : _) (r s : ℕ) → chosen-place.Learnt κs a r e → chosen-place.Learnt κs a s f → r ≡ s
-one-chosen-place κs a e f r s h k = h ∙ sym k
+pub one-passes : (κs : Lfts 0) (a : _) (e f : _) (r s : Bool) → passes.Learnt κs a r e → passes.Learnt κs a s f → r ≡ s
+one-passes κs a e f r s h k = h ∙ sym k
+
+pub one-is-ahead : (κs : Lfts 0) (a : _) (e f : _) (r s : Bool) → is-ahead.Learnt κs a r e → is-ahead.Learnt κs a s f → r ≡ s
+one-is-ahead κs a e f r s h k = h ∙ sym k
+
+pub one-is-on-bank : (κs : Lfts 0) (a : _) (e f : _) (r s : Bool) → is-on-bank.Learnt κs a r e → is-on-bank.Learnt κs a s f → r ≡ s
+one-is-on-bank κs a e f r s h k = h ∙ sym k
 
 pub one-stopped-job : (κs : Lfts 0) (a : _) (e f : _) (r s : Job) → stopped-job.Learnt κs a r e → stopped-job.Learnt κs a s f → r ≡ s
 one-stopped-job κs a e f r s h k = h ∙ sym k
@@ -251,9 +258,6 @@ one-spent-by κs a e f r s h k = h ∙ sym k
 
 pub one-use-for : (κs : Lfts 0) (a : _) (e f : _) (r s : Use) → use-for.Learnt κs a r e → use-for.Learnt κs a s f → r ≡ s
 one-use-for κs a e f r s h k = h ∙ sym k
-
-pub one-empty-slots : (κs : Lfts 0) (a : _) (e f : _) (r s : List Slot) → empty-slots.Learnt κs a r e → empty-slots.Learnt κs a s f → r ≡ s
-one-empty-slots κs a e f r s h k = h ∙ sym k
 
 -- bounds
 pub one-string-lawful : (κs : Lfts 0) (a : _) (e f : _) (r s : Bool) → string-lawful.Learnt κs a r e → string-lawful.Learnt κs a s f → r ≡ s

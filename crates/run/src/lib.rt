@@ -1,8 +1,11 @@
 // The run: what the bank does under a plan and a list of releases, how the run ends, and its stints. Its days are those of the page, one by
 // one; the code goes from event to event.
-mod change; // change.rt: slots with one job made another
+mod row; // row.rt: ten slots as a row of numbers
+mod choice; // choice.rt: the place that answers a question
+mod start; // start.rt: the slots before any release
+mod change; // change.rt: the job that takes the bank pays
 mod release; // release.rt: step 2
-mod day; // day.rt: steps 3 to 5
+mod day; // day.rt: steps 1 and 3 to 5
 mod tally; // tally.rt: the days by kind
 mod book; // book.rt: the stints
 mod walk; // walk.rt: from event to event
