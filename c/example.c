@@ -53,8 +53,6 @@ static void say(uint32_t kind, const uint64_t out[DESK_PLACES]) {
     case DESK_LIST_MISSES: printf("a list misses in %" PRIu64 " days\n", out[0]); break;
     case DESK_LIST_TOO_LONG: puts("a list misses, of over 1000 releases"); break;
     case DESK_NONE_FOUND: puts("none found"); break;
-    case DESK_LIMIT: printf("limit %" PRIu64 "\n", out[0]); break;
-    case DESK_NO_LIMIT: puts("limit none"); break;
     }
 }
 
@@ -97,10 +95,6 @@ int main(int words, char **word) {
     say(desk_can_miss(nobody_permitted, COUNT(nobody_permitted), out, COUNT(out)), out);
     say(desk_can_miss(long_list, COUNT(long_list), out, COUNT(out)), out);
     say(desk_can_miss(open_question, COUNT(open_question), out, COUNT(out)), out);
-    puts("# how far C, D, T and moving of string 1 can go; late days of string 2; a place without a string");
-    for (const char *letter = "CDTA"; *letter; letter++) say(desk_limit(plan, COUNT(plan), 1, (uint32_t)*letter, out, COUNT(out)), out);
-    say(desk_limit(plan, COUNT(plan), 2, 'J', out, COUNT(out)), out);
-    say(desk_limit(plan, COUNT(plan), 3, 'C', out, COUNT(out)), out);
 
     puts("# its check and H; cut short; with a set of no such plan; a release that lacks its due day; three places lent");
     say(desk_check(plan, COUNT(plan), out, COUNT(out)), out);

@@ -9,14 +9,6 @@ mod desk {
             pub fn desk_verdict(plan: *const u32, count: usize, out: *mut u64, room: usize) -> u32;
             pub fn desk_verdict_with(plan: *const u32, count: usize, set: u32, out: *mut u64, room: usize) -> u32;
             pub fn desk_quick(plan: *const u32, count: usize, out: *mut u64, room: usize) -> u32;
-            pub fn desk_limit(
-                plan: *const u32,
-                count: usize,
-                place: usize,
-                letter: u32,
-                out: *mut u64,
-                room: usize,
-            ) -> u32;
             pub fn desk_search(plan: *const u32, count: usize, out: *mut u64, room: usize) -> u32;
             pub fn desk_can_miss(plan: *const u32, count: usize, out: *mut u64, room: usize) -> u32;
             pub fn desk_run(
@@ -86,10 +78,6 @@ mod desk {
 
     pub fn quick(plan: &[u32]) -> Told {
         told(|out, room| unsafe { entry::desk_quick(plan.as_ptr(), plan.len(), out, room) })
-    }
-
-    pub fn limit(plan: &[u32], place: usize, letter: u8) -> Told {
-        told(|out, room| unsafe { entry::desk_limit(plan.as_ptr(), plan.len(), place, letter.into(), out, room) })
     }
 
     pub fn search(plan: &[u32]) -> Told {
@@ -197,8 +185,6 @@ fn say(Told(kind, [a, b, c, d]): Told) {
         15 => println!("a list misses in {} days", a),
         16 => println!("a list misses, of over 1000 releases"),
         17 => println!("none found"),
-        18 => println!("limit {}", a),
-        19 => println!("limit none"),
         _ => unreachable!(),
     }
 }
@@ -228,12 +214,6 @@ fn main() -> std::io::Result<()> {
     for plan in [&PLAN[..], &ALONE, &NOBODY_PERMITTED, &LONG_LIST, &OPEN_QUESTION] {
         say(desk::can_miss(plan));
     }
-    println!("# how far C, D, T and moving of string 1 can go; late days of string 2; a place without a string");
-    for letter in *b"CDTA" {
-        say(desk::limit(&PLAN, 1, letter));
-    }
-    say(desk::limit(&PLAN, 2, b'J'));
-    say(desk::limit(&PLAN, 3, b'C'));
 
     println!("# its check and H; cut short; with a set of no such plan; a release that lacks its due day; three places lent");
     say(desk::check(&PLAN));

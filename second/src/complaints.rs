@@ -80,12 +80,14 @@ const AT_THE_RUN: [(&[&str], &str); 2] = [
     (&["run", "."], "cannot read .: a folder"),
 ];
 
-/// The same of the words that say where a verdict comes from.
-const AT_THE_WHITEBOARD: [(&[&str], &str); 4] = [
-    (&["why", "x.plan", "7"], "why [FILE]"),
-    (&["why", "x.plan"], "cannot read x.plan: no such file"),
-    (&["demand", "x.plan", "7"], "demand [FILE]"),
-    (&["demand", "x.plan"], "cannot read x.plan: no such file"),
+/// The same of the words beside the whiteboard.
+const AT_THE_BOARD: [(&[&str], &str); 6] = [
+    (&["assign", "x.plan", "7"], "assign [FILE]"),
+    (&["assign", "x.plan"], "cannot read x.plan: no such file"),
+    (&["sets", "x.plan", "7"], "sets [FILE]"),
+    (&["sets", "x.plan"], "cannot read x.plan: no such file"),
+    (&["bars", "x.plan", "7"], "bars [FILE]"),
+    (&["bars", "x.plan"], "cannot read x.plan: no such file"),
 ];
 
 /// The same of the words for visits.
@@ -97,20 +99,15 @@ const AT_THE_VISITS: [(&[&str], &str); 2] = [
     ),
 ];
 
-/// The same of the word for slack.
-const AT_THE_SLACK: [(&[&str], &str); 2] = [
-    (&["slack", "x.plan", "7"], "slack [FILE]"),
-    (&["slack", "x.plan"], "cannot read x.plan: no such file"),
-];
-
 pub fn compare(clerk: &Path, subject: Subject, folder: &Path) -> Result<(), Stop> {
     compare_each(clerk, folder, &COMPLAINTS)?;
     match subject {
         Subject::Register | Subject::Table => compare_each(clerk, folder, &AT_THE_REGISTER),
         Subject::Run => compare_each(clerk, folder, &AT_THE_RUN),
         Subject::Visits => compare_each(clerk, folder, &AT_THE_VISITS),
-        Subject::Slack => compare_each(clerk, folder, &AT_THE_SLACK),
-        Subject::Why | Subject::Demand => compare_each(clerk, folder, &AT_THE_WHITEBOARD),
+        Subject::Assign | Subject::Sets | Subject::Bars => {
+            compare_each(clerk, folder, &AT_THE_BOARD)
+        }
         _ => Ok(()),
     }
 }

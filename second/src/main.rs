@@ -1,5 +1,7 @@
 //! A second program, written from documents 01 and 02 alone, that the desk and the clerk are compared with.
 
+mod assigning;
+mod bars;
 mod batch;
 mod calendar;
 mod chance;
@@ -11,8 +13,6 @@ mod days;
 mod decimal;
 mod desk;
 mod edges;
-mod evaluation;
-mod explaining;
 mod faults;
 mod late;
 mod misses;
@@ -27,8 +27,8 @@ mod rules;
 mod running;
 mod saving;
 mod selftest;
+mod sets;
 mod showing;
-mod slack;
 mod stop;
 mod tally;
 mod texts;
@@ -66,16 +66,16 @@ fn main() -> ExitCode {
         Some(Task::Register(path, run)) => show_text(&path, |text| registered(text, run)),
         Some(Task::Table(path)) => show_text(&path, tabled),
         Some(Task::Run(path)) => show_plan(&path, running::told),
-        Some(Task::Slack(path)) => show_plan(&path, slack::answer::told),
-        Some(Task::Why(path)) => show_text(&path, explaining::explained),
-        Some(Task::Demand(path)) => show_text(&path, explaining::staircase),
         Some(Task::Visits(path)) => show_text(&path, visited),
         Some(Task::CheckVisits(plan, visits)) => check_visits(&plan, &visits),
         Some(Task::Board(path)) => show_board(&path),
+        Some(Task::Assign(path)) => show_text(&path, assigning::assigned),
+        Some(Task::Sets(path)) => show_plan(&path, sets::lines),
+        Some(Task::Bars(path)) => show_plan(&path, bars::told),
         Some(Task::Days(path)) => show_plan(&path, days::told),
         Some(Task::Breaks(path)) => show_plan(&path, breaks),
         Some(Task::Wrong(mistake, path)) => show_answer(&path, |text| wrong::answer(mistake, text)),
-        Some(Task::Sets(path)) => show_sets(&path),
+        Some(Task::Mistakes) => shown(&wrong::listed(), ExitCode::SUCCESS),
         Some(Task::Selftest) => run_selftest(),
         Some(Task::Calendar) => show_calendar(),
         Some(Task::Dates(asked)) => run_dates(&asked),
@@ -161,16 +161,6 @@ fn check_visits(plan: &Path, visits: &Path) -> ExitCode {
     match std::fs::read(visits) {
         Ok(list) => show_text(plan, |plan| checked(plan, &list)),
         Err(error) => unable(&format!("{}: {error}", visits.display())),
-    }
-}
-
-fn show_sets(path: &Path) -> ExitCode {
-    match std::fs::read_to_string(path) {
-        Ok(text) => match evaluation::answered(&text) {
-            Some(lines) => shown(&lines, ExitCode::SUCCESS),
-            None => unable(&format!("{}: a line that is no set", path.display())),
-        },
-        Err(error) => unable(&format!("{}: {error}", path.display())),
     }
 }
 

@@ -11,22 +11,22 @@ use std::str::FromStr;
 pub const USAGE: &str =
     "usage: second --desk PATH [--files N] [--seed S] [--batch B] [--keep DIR] [--tally]
        second --clerk PATH [--about SUBJECT] [--files N] [--seed S] [--batch B] [--keep DIR] [--tally]
-              a SUBJECT is one of save quick show turn register table run visits why demand slack
+              a SUBJECT is one of save quick show turn register table run visits assign sets bars
        second --boards PATH [--files N] [--seed S] [--batch B] [--keep DIR] [--tally]
        second --answer FILE
        second --register FILE N
        second --table FILE
        second --run FILE
-       second --slack FILE
-       second --why FILE
-       second --demand FILE
        second --visits FILE
        second --check-visits FILE VISITS
        second --board FILE < START-DATE-AND-DIARY
+       second --assign FILE
+       second --sets FILE
+       second --bars FILE
        second --days FILE
        second --breaks FILE
        second --wrong equation-7|one-by-one|stop-at-dmax|load-equal-to-h|start-early|stopped-pays|one-week|who-is-interrupted FILE
-       second --sets FILE
+       second --mistakes
        second --calendar
        second --misses CLERK [--plans N] [--small M] [--late L] [--drawn K] [--seed S]
        second --orders CLERK DESK [--pairs N] [--seed S]
@@ -39,17 +39,16 @@ pub enum Task {
     Register(PathBuf, RunLength),
     Table(PathBuf),
     Run(PathBuf),
-    Slack(PathBuf),
-    Why(PathBuf),
-    Demand(PathBuf),
     Visits(PathBuf),
     CheckVisits(PathBuf, PathBuf),
     Board(PathBuf),
+    Assign(PathBuf),
+    Sets(PathBuf),
+    Bars(PathBuf),
     Days(PathBuf),
     Breaks(PathBuf),
     Wrong(Mistake, PathBuf),
-    /// Sets of strings, a line each, as the benchmark of the source's evaluation writes them.
-    Sets(PathBuf),
+    Mistakes,
     Selftest,
     Calendar,
     Dates(Asked),
@@ -84,12 +83,12 @@ pub enum Subject {
     Run,
     /// Visits of our own runs, and visit lists.
     Visits,
-    /// How far each number of a plan can go.
-    Slack,
-    /// Verdicts told string by string.
-    Why,
-    /// Demands told interval by interval.
-    Demand,
+    /// Plans with the set that the search finds.
+    Assign,
+    /// Every permission set.
+    Sets,
+    /// Runs as bars.
+    Bars,
 }
 
 impl FromStr for Subject {
@@ -105,9 +104,9 @@ impl FromStr for Subject {
             "table" => Ok(Subject::Table),
             "run" => Ok(Subject::Run),
             "visits" => Ok(Subject::Visits),
-            "slack" => Ok(Subject::Slack),
-            "why" => Ok(Subject::Why),
-            "demand" => Ok(Subject::Demand),
+            "assign" => Ok(Subject::Assign),
+            "sets" => Ok(Subject::Sets),
+            "bars" => Ok(Subject::Bars),
             _ => Err(()),
         }
     }
@@ -144,18 +143,18 @@ pub fn task(mut words: impl Iterator<Item = String>) -> Option<Task> {
             "--register" => return Some(Task::Register(value(&mut words)?, value(&mut words)?)),
             "--table" => return words.next().map(|path| Task::Table(path.into())),
             "--run" => return words.next().map(|path| Task::Run(path.into())),
-            "--slack" => return words.next().map(|path| Task::Slack(path.into())),
-            "--why" => return words.next().map(|path| Task::Why(path.into())),
-            "--demand" => return words.next().map(|path| Task::Demand(path.into())),
             "--visits" => return words.next().map(|path| Task::Visits(path.into())),
             "--check-visits" => {
                 return Some(Task::CheckVisits(value(&mut words)?, value(&mut words)?))
             }
             "--board" => return words.next().map(|path| Task::Board(path.into())),
+            "--assign" => return words.next().map(|path| Task::Assign(path.into())),
+            "--sets" => return words.next().map(|path| Task::Sets(path.into())),
+            "--bars" => return words.next().map(|path| Task::Bars(path.into())),
             "--days" => return words.next().map(|path| Task::Days(path.into())),
             "--breaks" => return words.next().map(|path| Task::Breaks(path.into())),
             "--wrong" => return Some(Task::Wrong(value(&mut words)?, value(&mut words)?)),
-            "--sets" => return words.next().map(|path| Task::Sets(path.into())),
+            "--mistakes" => return Some(Task::Mistakes),
             "--selftest" => return Some(Task::Selftest),
             "--calendar" => return Some(Task::Calendar),
             "--dates" => return asked(words).map(Task::Dates),

@@ -3,7 +3,6 @@
 use crate::calendar::answer::Calendar;
 use crate::chance::Chance;
 use crate::crew;
-use crate::evaluation;
 use crate::late;
 use crate::misses::plans::{any_small_plan, small_late_plan};
 use crate::orders::answer::{matched, Matched};
@@ -45,7 +44,6 @@ pub fn wrong_cases() -> Vec<&'static str> {
         beside_dates(),
         crew::checks::cases(),
         mistakes(),
-        evaluation::cases(),
     ]
     .concat();
     cases

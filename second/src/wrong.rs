@@ -3,7 +3,7 @@
 use crate::rules::answer::Answer;
 use crate::rules::frames::read;
 use crate::rules::plan::{BatteryString, Length, Plan};
-use crate::rules::rule::{blocking_limit, demand_by, passes_by, verdict_by, Rule, PAGE};
+use crate::rules::rule::{blocking_limit, demand, passes, verdict_by, Rule, PAGE};
 use crate::rules::run::{run_by, Policy};
 use crate::rules::search::search_by;
 use std::str::FromStr;
@@ -27,15 +27,48 @@ pub enum Mistake {
     WhoIsInterrupted,
 }
 
-const NAMES: [(&str, Mistake); 8] = [
-    ("equation-7", Mistake::Equation7),
-    ("one-by-one", Mistake::OneByOne),
-    ("stop-at-dmax", Mistake::StopAtDmax),
-    ("load-equal-to-h", Mistake::LoadEqualToH),
-    ("start-early", Mistake::StartEarly),
-    ("stopped-pays", Mistake::StoppedPays),
-    ("one-week", Mistake::OneWeek),
-    ("who-is-interrupted", Mistake::WhoIsInterrupted),
+/// Each with its name and what is done instead of what the page says.
+const NAMES: [(&str, Mistake, &str); 8] = [
+    (
+        "equation-7",
+        Mistake::Equation7,
+        "the blocker's C in place of its E - 1",
+    ),
+    (
+        "one-by-one",
+        Mistake::OneByOne,
+        "permissions switched on one by one in place of the search",
+    ),
+    (
+        "stop-at-dmax",
+        Mistake::StopAtDmax,
+        "intervals compared up to the largest D",
+    ),
+    (
+        "load-equal-to-h",
+        Mistake::LoadEqualToH,
+        "a load of exactly H taken for an overload",
+    ),
+    (
+        "start-early",
+        Mistake::StartEarly,
+        "a job started before the day's other releases have joined",
+    ),
+    (
+        "stopped-pays",
+        Mistake::StoppedPays,
+        "the moving charged to the job that was stopped",
+    ),
+    (
+        "one-week",
+        Mistake::OneWeek,
+        "one week of intervals compared",
+    ),
+    (
+        "who-is-interrupted",
+        Mistake::WhoIsInterrupted,
+        "X read as who may be interrupted",
+    ),
 ];
 
 const WEEK: Length = 7;
@@ -44,9 +77,15 @@ impl FromStr for Mistake {
     type Err = ();
 
     fn from_str(word: &str) -> Result<Mistake, ()> {
-        let found = NAMES.iter().find(|(name, _)| *name == word);
-        found.map(|(_, mistake)| *mistake).ok_or(())
+        let found = NAMES.iter().find(|(name, ..)| *name == word);
+        found.map(|(_, mistake, _)| *mistake).ok_or(())
     }
+}
+
+/// A line for each mistake.
+pub fn listed() -> String {
+    let line = |(name, _, what): &(&str, Mistake, &str)| format!("{name:20}{what}\n");
+    NAMES.iter().map(line).collect()
 }
 
 /// The three lines with the mistake in them; a refusal is the same.
@@ -61,7 +100,7 @@ fn answer_for(mistake: Mistake, plan: &Plan) -> Answer {
     let cycle = plan.cycle().expect("a plan that was read has H in bounds");
     let rule = rule(mistake);
     let set = if mistake == Mistake::OneByOne {
-        switched_on(&rule, plan, cycle)
+        switched_on(plan, cycle)
     } else {
         search_by(&rule, plan, cycle)
     };
@@ -126,25 +165,25 @@ fn held_where_others_give_way(plan: &Plan, string: &BatteryString) -> Length {
 
 /// Algorithm 3: the strings by rising D; whenever the rule breaks from the k-th D up to the next, the k-th and those before
 /// it are given permission, the latest first, as long as it breaks. What is on stays on.
-pub fn switched_on(rule: &Rule, plan: &Plan, cycle: Length) -> Option<u32> {
+fn switched_on(plan: &Plan, cycle: Length) -> Option<u32> {
     let mut order: Vec<usize> = (0..plan.strings.len()).collect();
     order.sort_by_key(|at| plan.strings[*at].d);
     let mut set = 0;
     for k in 0..order.len() - 1 {
         let (from, to) = (plan.strings[order[k]].d, plan.strings[order[k + 1]].d);
         for &at in order[..=k].iter().rev() {
-            if set >> at & 1 == 1 || !breaks_between(rule, &plan.with_set(set), from, to) {
+            if set >> at & 1 == 1 || !breaks_between(&plan.with_set(set), from, to) {
                 break;
             }
             set |= 1 << at;
         }
     }
-    passes_by(rule, &plan.with_set(set), cycle).then(|| set)
+    passes(&plan.with_set(set), cycle).then(|| set)
 }
 
-fn breaks_between(rule: &Rule, plan: &Plan, from: Length, to: Length) -> bool {
+fn breaks_between(plan: &Plan, from: Length, to: Length) -> bool {
     (from..to).any(|interval| {
-        (0..=blocking_limit(rule, plan, interval))
-            .any(|blocking| demand_by(rule, plan, interval, blocking) > interval)
+        (0..=blocking_limit(&PAGE, plan, interval))
+            .any(|blocking| demand(plan, interval, blocking) > interval)
     })
 }

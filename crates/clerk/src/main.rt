@@ -3,10 +3,8 @@
 mod commands;
 mod dates;
 mod each;
-mod explain;
 mod export;
 mod files;
-mod limits;
 mod miss;
 mod orders;
 mod plans;
@@ -17,6 +15,7 @@ mod say;
 mod show;
 mod turn;
 mod visiting;
+mod whiteboard;
 mod words;
 
 use commands::same;

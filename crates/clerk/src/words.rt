@@ -4,10 +4,7 @@ use super::commands::word;
 use super::dates::date;
 use super::dates::day;
 use super::dates::yearly_days;
-use super::explain::demand;
-use super::explain::why;
 use super::export::register_file;
-use super::limits::show_slack;
 use super::miss::miss;
 use super::orders::same_strings;
 use super::quick::quick_verdict;
@@ -18,6 +15,8 @@ use super::show::show;
 use super::turn::turn;
 use super::visiting::check_visits;
 use super::visiting::own_visits;
+use super::whiteboard::assign;
+use super::whiteboard::list_sets;
 
 pub(crate) fn answer(command: &[u8]) -> u8 {
     let first = word(command, 0);
@@ -31,16 +30,14 @@ pub(crate) fn answer(command: &[u8]) -> u8 {
         quick_verdict(command)
     } else if same(first, b"miss") {
         miss(command)
-    } else if same(first, b"why") {
-        why(command)
-    } else if same(first, b"demand") {
-        demand(command)
+    } else if same(first, b"assign") {
+        assign(command)
+    } else if same(first, b"sets") {
+        list_sets(command)
     } else if same(first, b"run") {
         show_run(command)
     } else if same(first, b"show") {
         show(command)
-    } else if same(first, b"slack") {
-        show_slack(command)
     } else if same(first, b"visits") {
         own_visits(command)
     } else if same(first, b"check-visits") {
@@ -67,7 +64,10 @@ pub(crate) fn answer(command: &[u8]) -> u8 {
 }
 
 fn help() -> u8 {
-    let end = say::answer(b"check-visits FILE VISITS\n");
+    let end = say::answer(
+        b"assign [FILE]           write the plan in FILE with the set that the search finds\n",
+    );
+    let end = say::more(end, b"check-visits FILE VISITS\n");
     let end = say::more(
         end,
         b"                        whether a contractor's visit list is accepted for the plan in FILE\n",
@@ -79,10 +79,6 @@ fn help() -> u8 {
     let end = say::more(
         end,
         b"day NUMBER              the date and the weekday of a day number\n",
-    );
-    let end = say::more(
-        end,
-        b"demand [FILE]           the demand of the plan in FILE, interval by interval, and where the rule is broken\n",
     );
     let end = say::more(
         end,
@@ -127,11 +123,11 @@ fn help() -> u8 {
     );
     let end = say::more(
         end,
-        b"show [FILE]             the plan in FILE in decimal words\n",
+        b"sets [FILE]             every permission set of the plan in FILE in the search's order, with its verdict\n",
     );
     let end = say::more(
         end,
-        b"slack [FILE]            the verdict on the plan in FILE, and for each string how far each number can go\n",
+        b"show [FILE]             the plan in FILE in decimal words\n",
     );
     let end = say::more(
         end,
@@ -152,10 +148,6 @@ fn help() -> u8 {
     let end = say::more(
         end,
         b"visits [FILE]           the visits of our own run of the plan in FILE: release,first day,length\n",
-    );
-    let end = say::more(
-        end,
-        b"why [FILE]              where the verdict on the plan in FILE comes from: a pair, string by string\n",
     );
     let end = say::more(end, b"yearly MM-DD EDITION FIRST LAST\n");
     let end = say::more(

@@ -8,8 +8,6 @@
 --                           with the release's place in the list)
 --     releaseFrom ns at     that release; another number that is lacking is 0
 --     releasesGiven ns      the releases that the numbers say; over 1,000 they are refused (7 with 1,001), and no later one is looked at
---     limitGiven p i c      the limit of the number that the letter c names, C, D, T, A or J in ASCII; another letter names none, and is
---                           answered as a place without a string
 --     dateGiven y m d       the date of three numbers, whether it exists or not
 use Prim.Native.Nat.{ℕ, _+_, _*_, _/_, _%_, min}
 use mathlib.Core.Bool.{cond, _&&_}
@@ -25,9 +23,6 @@ use Rattle.rules.specs.declared.Releases.{Releases}
 use Rattle.rules.specs.Plan.{noString}
 use Rattle.rules.specs.Release.{noRelease}
 use Rattle.calendar.specs.declared.Date.{Date}
-use Rattle.slack.specs.declared.AskedLimit.{AskedLimit}
-use Rattle.slack.specs.declared.Letter.the-variants as letter
-use Rattle.slack.specs.Slack.{limitAnswer}
 
 unfoldable pub stringCount : List ℕ → ℕ
 stringCount ns = cond (eqb (length ns % 6) 1 && leb (length ns / 6) 10) (length ns / 6) 0
@@ -75,12 +70,3 @@ releasesGiven ns =
 
 abbrev pub dateGiven : ℕ → ℕ → ℕ → Date
 dateGiven y m d = record { year = y; month = m; day = d }
-
-unfoldable pub limitGiven : Plan → ℕ → ℕ → AskedLimit
-limitGiven p i c =
-    cond (eqb c 0x43) (limitAnswer p i letter.C)
-    (cond (eqb c 0x44) (limitAnswer p i letter.D)
-    (cond (eqb c 0x54) (limitAnswer p i letter.T)
-    (cond (eqb c 0x41) (limitAnswer p i letter.A)
-    (cond (eqb c 0x4a) (limitAnswer p i letter.J)
-    (limitAnswer p 0 letter.C)))))

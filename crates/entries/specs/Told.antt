@@ -19,14 +19,10 @@
 --     15    a list misses         the days of its run
 --     16    a list misses, and it has over 1,000 releases
 --     17    none was found
---     18    a limit               its value
---     19    no limit: no lawful value passes
 -- Where fewer than four numbers are said, 0 stands in the places after them.
 --     rowOf s               kind and numbers of what an answer says (rules/specs/Said.antt)
 --     stintedRow s          the same of what is answered where the stints of a run are asked for
 --     missingRow m          the same of what is answered where it is asked whether a plan can miss
---     limitedRow l          the same of a limit
---     limitRow a            the same of what is answered where a limit is asked for
 --     dateRow w, dayRow w   the same of the calendar's answers
 --     kindTold r places     what is returned
 --     placesTold r places   the places afterwards: the four numbers, and then its own later places
@@ -47,10 +43,6 @@ use Rattle.calendar.specs.declared.WhichDate.{WhichDate}
 use Rattle.calendar.specs.declared.WhichDate.the-variants as which-date
 use Rattle.calendar.specs.declared.WhichDay.{WhichDay}
 use Rattle.calendar.specs.declared.WhichDay.the-variants as which-day
-use Rattle.lines.specs.declared.limits.Limit.{Limit}
-use Rattle.lines.specs.declared.limits.Limit.the-variants as limit
-use Rattle.slack.specs.declared.AskedLimit.{AskedLimit}
-use Rattle.slack.specs.declared.AskedLimit.the-variants as asked-limit
 use Rattle.entries.specs.declared.told.Row.{Row}
 
 abbrev pub row : ℕ → ℕ → ℕ → ℕ → ℕ → Row
@@ -81,14 +73,6 @@ missingRow missing.Never = row 14 0 0 0 0
 missingRow (missing.Found n) = row 15 (n .0) 0 0 0
 missingRow missing.TooMany = row 16 0 0 0 0
 missingRow missing.NoneFound = row 17 0 0 0 0
-
-abbrev pub limitedRow : Limit → Row
-limitedRow limit.Nothing = row 19 0 0 0 0
-limitedRow (limit.At v) = row 18 v 0 0 0
-
-abbrev pub limitRow : AskedLimit → Row
-limitRow (asked-limit.Refused f at) = refusedRow (faultNumber f) at
-limitRow (asked-limit.Given l) = limitedRow l
 
 abbrev pub dateRow : WhichDate → Row
 dateRow (which-date.Is d) = row 10 (d .year) (d .month) (d .day) 0

@@ -7,13 +7,10 @@ use rules::NO_STRING;
 use rules::Plan;
 use rules::Release;
 use rules::Releases;
-use slack::AskedLimit;
-use slack::Letter;
-use slack::limit_at;
 ghost use mathlib.Core.Path.{_≡_};
 ghost use Prim.Native.Nat.{_+_, _≤_, min};
 ghost use lib.ListN.{length, getD};
-ghost use Rattle.entries.specs.Given.{stringCount, stringFrom, planGiven, releaseCount, needFrom, releaseFrom, releasesGiven, limitGiven};
+ghost use Rattle.entries.specs.Given.{stringCount, stringFrom, planGiven, releaseCount, needFrom, releaseFrom, releasesGiven};
 
 // The number at a place; 0 where the numbers have ended.
 fn number_at(numbers: &[u32], at: usize) -> u32
@@ -131,26 +128,4 @@ pub(crate) fn releases_given(numbers: &[u32]) -> Releases
         i += 1;
     }
     Releases { count, list }
-}
-
-// The limit of the number that a letter names. Another letter names none: it is answered as a place without a string.
-pub(crate) fn limit_given(p: Plan, place: usize, letter: u32) -> AskedLimit
-    ensures exact { λ r. ⌜ r ≡ limitGiven p place letter ⌝ }
-{
-    if letter == 67 {
-        return limit_at(p, place, Letter::C);
-    }
-    if letter == 68 {
-        return limit_at(p, place, Letter::D);
-    }
-    if letter == 84 {
-        return limit_at(p, place, Letter::T);
-    }
-    if letter == 65 {
-        return limit_at(p, place, Letter::A);
-    }
-    if letter == 74 {
-        return limit_at(p, place, Letter::J);
-    }
-    limit_at(p, 0, Letter::C)
 }

@@ -7,7 +7,6 @@ use bounds::multiple;
 use bounds::plan_check;
 use calendar::Date;
 use days::Day;
-use given::limit_given;
 use given::plan_given;
 use given::releases_given;
 use told::NO_ROOM;
@@ -15,7 +14,6 @@ use told::assign_row;
 use told::checked_row;
 use told::date_row;
 use told::day_row;
-use told::limit_row;
 use told::missing_row;
 use told::outcome_row;
 use told::stinted_row;
@@ -36,9 +34,9 @@ ghost use Rattle.demand.specs.Quick.{quickAnswer};
 ghost use Rattle.calendar.specs.Refusals.{dateAnswer, dayAnswer};
 ghost use Rattle.visits.specs.Texts.{visitTextCheck};
 ghost use Rattle.tries.specs.Tries.{missingAnswer};
-ghost use Rattle.entries.specs.Given.{planGiven, releasesGiven, limitGiven, dateGiven};
+ghost use Rattle.entries.specs.Given.{planGiven, releasesGiven, dateGiven};
 ghost use Rattle.lines.specs.Pages.{lengthTold, pageTold};
-ghost use Rattle.entries.specs.Told.{rowOf, stintedRow, limitRow, missingRow, dateRow, dayRow, kindTold, placesTold, listTold};
+ghost use Rattle.entries.specs.Told.{rowOf, stintedRow, missingRow, dateRow, dayRow, kindTold, placesTold, listTold};
 
 // Whether a plan is lawful; if not, the first fault.
 #[no_mangle]
@@ -105,17 +103,6 @@ pub extern "C" fn desk_search(plan: &[u32], out: &mut [u64]) -> u32
     ensures kept { λ r. ⌜ now (plan .exit) ≡ now (plan .entry) ⌝ }
 {
     tell(assign_row(verdict::search(plan_given(plan))), out)
-}
-
-// The hardest lawful value of a number of the string at a place with which the plan passes. The number is named by its letter.
-#[no_mangle]
-pub extern "C" fn desk_limit(plan: &[u32], place: usize, letter: u32, out: &mut [u64]) -> u32
-    ensures exact { λ r. ⌜ r ≡ kindTold (limitRow (limitGiven (planGiven (now (plan .entry))) place letter)) (now (out .entry)) ⌝ }
-    ensures out { λ r. ⌜ now (out .exit) ≡ placesTold (limitRow (limitGiven (planGiven (now (plan .entry))) place letter))
-        (now (out .entry)) ⌝ }
-    ensures kept { λ r. ⌜ now (plan .exit) ≡ now (plan .entry) ⌝ }
-{
-    tell(limit_row(limit_given(plan_given(plan), place, letter)), out)
 }
 
 // How the run ends under a plan and a list of releases.

@@ -4,7 +4,6 @@ use calendar::WhichDay;
 use faults::Checked;
 use faults::Fault;
 use faults::fault_number;
-use lines::Limit;
 use lines::Page;
 use lines::put_text;
 use rules::AskedAssign;
@@ -14,7 +13,6 @@ use rules::Assign;
 use rules::Outcome;
 use rules::Stinted;
 use rules::Verdict;
-use slack::AskedLimit;
 use tries::Missing;
 ghost use mathlib.Core.Path.{_≡_};
 ghost use Prim.Native.Nat.{_≤_};
@@ -22,7 +20,7 @@ ghost use lib.ListN.{length};
 ghost use Rattle.faults.specs.Checks.{faultNumber};
 ghost use Rattle.rules.specs.Said.{checkedSays, askedVerdictSays, askedAssignSays, askedOutcomeSays};
 ghost use Rattle.lines.specs.Pages.{textOf, lengthTold, pageTold};
-ghost use Rattle.entries.specs.Told.{row, refusedRow, rowOf, stintedRow, limitRow, limitedRow, missingRow, dateRow, dayRow, kindTold, placesTold};
+ghost use Rattle.entries.specs.Told.{row, refusedRow, rowOf, stintedRow, missingRow, dateRow, dayRow, kindTold, placesTold};
 
 // A kind, and the numbers that it comes with; 0 stands where there is nothing to say.
 pub(crate) struct Row {
@@ -68,10 +66,6 @@ const LIST_MISSES: u32 = 15;
 const LIST_TOO_LONG: u32 = 16;
 
 const NONE_FOUND: u32 = 17;
-
-const LIMIT: u32 = 18;
-
-const NO_LIMIT: u32 = 19;
 
 // A row of counts.
 fn row_of(kind: u32, first: u32, second: u32, third: u32, fourth: u32) -> Row
@@ -153,24 +147,6 @@ pub(crate) fn outcome_row(o: AskedOutcome) -> Row
             Outcome::Miss { day, place } => row_at(MISS, day.0, place),
             Outcome::Clean { work, moving, idle } => row_of(CLEAN, work.0, moving.0, idle.0, 0),
         },
-    }
-}
-
-fn limited_row(limit: Limit) -> Row
-    ensures exact { λ r. ⌜ r ≡ limitedRow limit ⌝ }
-{
-    match limit {
-        Limit::Nothing => row_of(NO_LIMIT, 0, 0, 0, 0),
-        Limit::At { value } => row_of(LIMIT, value, 0, 0, 0),
-    }
-}
-
-pub(crate) fn limit_row(asked: AskedLimit) -> Row
-    ensures exact { λ r. ⌜ r ≡ limitRow asked ⌝ }
-{
-    match asked {
-        AskedLimit::Refused { fault, at } => refused_row(fault, at),
-        AskedLimit::Given { limit } => limited_row(limit),
     }
 }
 

@@ -1,10 +1,10 @@
 pub mod Pages
 pub mod Dates
 pub mod Shown
-pub mod Limits
 pub mod Stints
 pub mod Same
 pub mod Board
 pub mod Visits
-pub mod Why
+pub mod Sets
+pub mod Bars
 pub mod inner

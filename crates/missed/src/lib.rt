@@ -13,8 +13,8 @@ ghost use Rattle.rules.specs.Plan.{withRun};
 ghost use Rattle.tries.specs.Tries.{missingAnswer};
 ghost use Rattle.missed.specs.Missed.{asSaved, putAnswer, putPage, missedAnswer, missedPage};
 
-// The length of the text that was written; or that the plan passes, so that there is nothing to show; or that it fails and yet no list
-// misses; or that no list was found; or that there is one, but of more than 1,000 releases.
+// The length of the text that was written; or that the plan passes, so that there is nothing to show; or that it fails and yet no list misses;
+// or that no list was found; or that there is one, but of more than 1,000 releases.
 pub enum Missed {
     Refused { fault: Fault, at: usize },
     Passes,

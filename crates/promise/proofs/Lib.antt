@@ -2,11 +2,9 @@
 -- Missing: where moving is free, a fail has a list that misses. Missed: the releases that miss, as a text. OneText: reading and writing
 -- undo each other. Register: so do those of the asset register's table. Turning: version 01 to 02 and back. OtherVersion, Refused: which
 -- number is given exactly when. AnyOrder: the order of
--- the list, and whether two plans hold the same strings. Easing: a plan made easier still passes. Slack: how far it can be changed.
--- PlanShown: a plan in decimal words.
--- Stints: the days of a run, stretch by stretch. Visits: the contractor's visit list. CrewBoard:
--- the days of a run on the crew's board. TwoEnds: everybody permitted, and nobody.
--- Whiteboard: where a verdict comes from, string by string and interval by interval.
+-- the list, and whether two plans hold the same strings. Easing: a plan made easier still passes. PlanShown: a plan in decimal words.
+-- Stints: the days of a run, stretch by stretch. Whiteboard: the plan with the set found, every set, the run as bars. Visits: the contractor's visit list. CrewBoard:
+-- the days of a run on the crew's board.
 -- ToldPrograms: demand 3 of what a C program is told. ShutOut, OnlyOne: what the contracts rule out.
 pub mod UserWords
 pub mod QuickAgrees
@@ -19,10 +17,9 @@ pub mod OtherVersion
 pub mod Refused
 pub mod AnyOrder
 pub mod Easing
-pub mod Slack
-pub mod TwoEnds
 pub mod PlanShown
 pub mod Stints
+pub mod Whiteboard
 pub mod Visits
 pub mod CrewBoard
 pub mod Missed
@@ -30,4 +27,3 @@ pub mod ShutOut
 pub mod Dates
 pub mod ToldPrograms
 pub mod OnlyOne
-pub mod Whiteboard

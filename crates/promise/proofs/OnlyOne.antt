@@ -38,10 +38,6 @@ use Rattle.lines.proofs.used_line.Reads as used-line
 use Rattle.lines.proofs.missed_line.Reads as missed-line
 use Rattle.lines.proofs.number_line.Reads as number-line
 use Rattle.lines.proofs.visit_line.Reads as visit-line
-use Rattle.lines.proofs.limits_line.Reads as limits-line
-use Rattle.slack.specs.declared.AskedLimit.{AskedLimit}
-use Rattle.slack.proofs.limit_at.Reads as limit-at
-use Rattle.slack.proofs.limits_shown.Reads as limits-shown
 use Rattle.register.specs.declared.LineRead.{LineRead}
 use Rattle.register.proofs.three_at.Reads as three-at
 use Rattle.visits.specs.{declared.Visit.Visit, declared.OwnVisits.OwnVisits, Visits.visitsCheck}
@@ -107,6 +103,12 @@ use Rattle.lines.proofs.row_line.Reads as row-line
 use Rattle.lines.proofs.plan_line.Reads as plan-line
 use Rattle.lines.proofs.string_line.Reads as string-line
 use Rattle.lines.proofs.stint_line.Reads as stint-line
+use Rattle.lines.proofs.set_line.Reads as set-line
+use Rattle.lines.proofs.day_row.Reads as day-row
+use Rattle.lines.proofs.bar_row.Reads as bar-row
+use Rattle.lines.proofs.marks_line.Reads as marks-line
+use Rattle.lines.proofs.idle_line.Reads as idle-line
+use Rattle.lines.proofs.cut_line.Reads as cut-line
 use Rattle.lines.proofs.load_line.Reads as load-line
 use Rattle.lines.proofs.release_line.Reads as release-line
 use Rattle.lines.proofs.same_line.Reads as same-line
@@ -114,36 +116,24 @@ use Rattle.lines.proofs.alone_line.Reads as alone-line
 use Rattle.lines.proofs.counts_line.Reads as counts-line
 use Rattle.matching.proofs.same_strings.Reads as same-strings
 use Rattle.matching.proofs.matched_line.Reads as matched-line
-use Rattle.lines.proofs.pair_line.Reads as pair-line
-use Rattle.lines.proofs.blocker_line.Reads as blocker-line
-use Rattle.lines.proofs.blocking_line.Reads as blocking-line
-use Rattle.lines.proofs.share_line.Reads as share-line
-use Rattle.lines.proofs.demand_line.Reads as demand-line
-use Rattle.lines.proofs.multiple_line.Reads as multiple-line
-use Rattle.lines.proofs.over_line.Reads as over-line
-use Rattle.lines.proofs.stair_line.Reads as stair-line
-use Rattle.lines.proofs.stretch_line.Reads as stretch-line
-use Rattle.lines.proofs.nowhere_line.Reads as nowhere-line
-use Rattle.why.specs.declared.Subject.{Subject}
-use Rattle.why.proofs.named.Reads as named
-use Rattle.why.proofs.last_interval.Reads as last-interval
-use Rattle.why.proofs.blocker_shown.Reads as blocker-shown
-use Rattle.why.proofs.share_shown.Reads as share-shown
-use Rattle.why.proofs.demand_shown.Reads as demand-shown
-use Rattle.why.proofs.stair_shown.Reads as stair-shown
-use Rattle.why.proofs.stretch_shown.Reads as stretch-shown
-use Rattle.why.proofs.nowhere_shown.Reads as nowhere-shown
 use Rattle.showing.proofs.plan_shown.Reads as plan-shown
 use Rattle.showing.proofs.string_shown.Reads as string-shown
 use Rattle.showing.proofs.load_shown.Reads as load-shown
 use Rattle.showing.proofs.release_shown.Reads as release-shown
+use Rattle.assigning.specs.declared.Assigned.{Assigned}
+use Rattle.assigning.proofs.assign.Reads as assign
+use Rattle.sets.proofs.set_shown.Reads as set-shown
+use Rattle.bars.proofs.head_shown.Reads as head-shown
+use Rattle.bars.proofs.row_shown.Reads as row-shown
+use Rattle.bars.proofs.idle_shown.Reads as idle-shown
+use Rattle.bars.proofs.cut_shown.Reads as cut-shown
+use Rattle.verdict.proofs.with_set.Reads as with-set
 use Rattle.answers.proofs.answer.Reads as answer
 use Rattle.entries.proofs.desk_check.Reads as desk-check
 use Rattle.entries.proofs.desk_multiple.Reads as desk-multiple
 use Rattle.entries.proofs.desk_verdict.Reads as desk-verdict
 use Rattle.entries.proofs.desk_verdict_with.Reads as desk-verdict-with
 use Rattle.entries.proofs.desk_quick.Reads as desk-quick
-use Rattle.entries.proofs.desk_limit.Reads as desk-limit
 use Rattle.entries.proofs.desk_search.Reads as desk-search
 use Rattle.entries.proofs.desk_run.Reads as desk-run
 use Rattle.entries.proofs.desk_stints.Reads as desk-stints
@@ -332,7 +322,15 @@ pub one-miss : (κs : Lfts 2) (a : _) (e f : _) (r s : Missed) → miss.Learnt �
     → (r ≡ s) × (e .1 .0 .now ≡ f .1 .0 .now) × (e .0 .now ≡ f .0 .now)
 one-miss κs a e f r s h k = (h .0 ∙ sym (k .0), h .1 .0 ∙ sym (k .1 .0), h .1 .1 ∙ sym (k .1 .1))
 
+-- assigning: the same are lent
+pub one-assign : (κs : Lfts 2) (a : _) (e f : _) (r s : Assigned) → assign.Learnt κs a r e → assign.Learnt κs a s f
+    → (r ≡ s) × (e .1 .0 .now ≡ f .1 .0 .now) × (e .0 .now ≡ f .0 .now)
+one-assign κs a e f r s h k = (h .0 ∙ sym (k .0), h .1 .0 ∙ sym (k .1 .0), h .1 .1 ∙ sym (k .1 .1))
+
 -- verdict
+pub one-with-set : (κs : Lfts 0) (a : _) (e f : _) (r s : Plan) → with-set.Learnt κs a r e → with-set.Learnt κs a s f → r ≡ s
+one-with-set κs a e f r s h k = h ∙ sym k
+
 pub one-verdict : (κs : Lfts 0) (a : _) (e f : _) (r s : AskedVerdict) → verdict.Learnt κs a r e → verdict.Learnt κs a s f → r ≡ s
 one-verdict κs a e f r s h k = h ∙ sym k
 
@@ -407,6 +405,24 @@ one-plan-line κs a e f r s h k = h .0 ∙ sym (k .0)
 pub one-string-line : (κs : Lfts 0) (a : _) (e f : _) (r s : Page) → string-line.Learnt κs a r e → string-line.Learnt κs a s f → r ≡ s
 one-string-line κs a e f r s h k = h .0 ∙ sym (k .0)
 
+pub one-set-line : (κs : Lfts 0) (a : _) (e f : _) (r s : Page) → set-line.Learnt κs a r e → set-line.Learnt κs a s f → r ≡ s
+one-set-line κs a e f r s h k = h .0 ∙ sym (k .0)
+
+pub one-day-row : (κs : Lfts 0) (a : _) (e f : _) (r s : Page) → day-row.Learnt κs a r e → day-row.Learnt κs a s f → r ≡ s
+one-day-row κs a e f r s h k = h .0 ∙ sym (k .0)
+
+pub one-bar-row : (κs : Lfts 0) (a : _) (e f : _) (r s : Page) → bar-row.Learnt κs a r e → bar-row.Learnt κs a s f → r ≡ s
+one-bar-row κs a e f r s h k = h .0 ∙ sym (k .0)
+
+pub one-marks-line : (κs : Lfts 0) (a : _) (e f : _) (r s : Page) → marks-line.Learnt κs a r e → marks-line.Learnt κs a s f → r ≡ s
+one-marks-line κs a e f r s h k = h .0 ∙ sym (k .0)
+
+pub one-idle-line : (κs : Lfts 0) (a : _) (e f : _) (r s : Page) → idle-line.Learnt κs a r e → idle-line.Learnt κs a s f → r ≡ s
+one-idle-line κs a e f r s h k = h .0 ∙ sym (k .0)
+
+pub one-cut-line : (κs : Lfts 0) (a : _) (e f : _) (r s : Page) → cut-line.Learnt κs a r e → cut-line.Learnt κs a s f → r ≡ s
+one-cut-line κs a e f r s h k = h .0 ∙ sym (k .0)
+
 pub one-stint-line : (κs : Lfts 0) (a : _) (e f : _) (r s : Page) → stint-line.Learnt κs a r e → stint-line.Learnt κs a s f → r ≡ s
 one-stint-line κs a e f r s h k = h .0 ∙ sym (k .0)
 
@@ -439,75 +455,26 @@ one-plan-shown κs a e f r s h k = h .0 ∙ sym (k .0)
 pub one-string-shown : (κs : Lfts 0) (a : _) (e f : _) (r s : Page) → string-shown.Learnt κs a r e → string-shown.Learnt κs a s f → r ≡ s
 one-string-shown κs a e f r s h k = h .0 ∙ sym (k .0)
 
-pub one-limits-line : (κs : Lfts 0) (a : _) (e f : _) (r s : Page) → limits-line.Learnt κs a r e → limits-line.Learnt κs a s f → r ≡ s
-one-limits-line κs a e f r s h k = h .0 ∙ sym (k .0)
+pub one-set-shown : (κs : Lfts 0) (a : _) (e f : _) (r s : Page) → set-shown.Learnt κs a r e → set-shown.Learnt κs a s f → r ≡ s
+one-set-shown κs a e f r s h k = h .0 ∙ sym (k .0)
 
-pub one-limit-at : (κs : Lfts 0) (a : _) (e f : _) (r s : AskedLimit) → limit-at.Learnt κs a r e → limit-at.Learnt κs a s f → r ≡ s
-one-limit-at κs a e f r s h k = h ∙ sym k
+pub one-head-shown : (κs : Lfts 0) (a : _) (e f : _) (r s : Page) → head-shown.Learnt κs a r e → head-shown.Learnt κs a s f → r ≡ s
+one-head-shown κs a e f r s h k = h .0 ∙ sym (k .0)
 
-pub one-limits-shown : (κs : Lfts 0) (a : _) (e f : _) (r s : Page) → limits-shown.Learnt κs a r e → limits-shown.Learnt κs a s f → r ≡ s
-one-limits-shown κs a e f r s h k = h .0 ∙ sym (k .0)
+pub one-row-shown : (κs : Lfts 0) (a : _) (e f : _) (r s : Page) → row-shown.Learnt κs a r e → row-shown.Learnt κs a s f → r ≡ s
+one-row-shown κs a e f r s h k = h .0 ∙ sym (k .0)
+
+pub one-idle-shown : (κs : Lfts 0) (a : _) (e f : _) (r s : Page) → idle-shown.Learnt κs a r e → idle-shown.Learnt κs a s f → r ≡ s
+one-idle-shown κs a e f r s h k = h .0 ∙ sym (k .0)
+
+pub one-cut-shown : (κs : Lfts 0) (a : _) (e f : _) (r s : Page) → cut-shown.Learnt κs a r e → cut-shown.Learnt κs a s f → r ≡ s
+one-cut-shown κs a e f r s h k = h .0 ∙ sym (k .0)
 
 pub one-load-shown : (κs : Lfts 0) (a : _) (e f : _) (r s : Page) → load-shown.Learnt κs a r e → load-shown.Learnt κs a s f → r ≡ s
 one-load-shown κs a e f r s h k = h .0 ∙ sym (k .0)
 
 pub one-release-shown : (κs : Lfts 0) (a : _) (e f : _) (r s : Page) → release-shown.Learnt κs a r e → release-shown.Learnt κs a s f → r ≡ s
 one-release-shown κs a e f r s h k = h .0 ∙ sym (k .0)
-
--- lines of a verdict explained, and why
-pub one-named : (κs : Lfts 0) (a : _) (e f : _) (r s : Subject) → named.Learnt κs a r e → named.Learnt κs a s f → r ≡ s
-one-named κs a e f r s h k = h ∙ sym k
-
-pub one-last-interval : (κs : Lfts 0) (a : _) (e f : _) (r s : ℕ) → last-interval.Learnt κs a r e → last-interval.Learnt κs a s f → r ≡ s
-one-last-interval κs a e f r s h k = h ∙ sym k
-
-pub one-blocker-shown : (κs : Lfts 0) (a : _) (e f : _) (r s : Page) → blocker-shown.Learnt κs a r e → blocker-shown.Learnt κs a s f → r ≡ s
-one-blocker-shown κs a e f r s h k = h .0 ∙ sym (k .0)
-
-pub one-share-shown : (κs : Lfts 0) (a : _) (e f : _) (r s : Page) → share-shown.Learnt κs a r e → share-shown.Learnt κs a s f → r ≡ s
-one-share-shown κs a e f r s h k = h .0 ∙ sym (k .0)
-
-pub one-demand-shown : (κs : Lfts 0) (a : _) (e f : _) (r s : Page) → demand-shown.Learnt κs a r e → demand-shown.Learnt κs a s f → r ≡ s
-one-demand-shown κs a e f r s h k = h .0 ∙ sym (k .0)
-
-pub one-stair-shown : (κs : Lfts 0) (a : _) (e f : _) (r s : Page) → stair-shown.Learnt κs a r e → stair-shown.Learnt κs a s f → r ≡ s
-one-stair-shown κs a e f r s h k = h .0 ∙ sym (k .0)
-
-pub one-stretch-shown : (κs : Lfts 0) (a : _) (e f : _) (r s : Page) → stretch-shown.Learnt κs a r e → stretch-shown.Learnt κs a s f → r ≡ s
-one-stretch-shown κs a e f r s h k = h .0 ∙ sym (k .0)
-
-pub one-nowhere-shown : (κs : Lfts 0) (a : _) (e f : _) (r s : Page) → nowhere-shown.Learnt κs a r e → nowhere-shown.Learnt κs a s f → r ≡ s
-one-nowhere-shown κs a e f r s h k = h .0 ∙ sym (k .0)
-
-pub one-pair-line : (κs : Lfts 0) (a : _) (e f : _) (r s : Page) → pair-line.Learnt κs a r e → pair-line.Learnt κs a s f → r ≡ s
-one-pair-line κs a e f r s h k = h .0 ∙ sym (k .0)
-
-pub one-blocker-line : (κs : Lfts 0) (a : _) (e f : _) (r s : Page) → blocker-line.Learnt κs a r e → blocker-line.Learnt κs a s f → r ≡ s
-one-blocker-line κs a e f r s h k = h .0 ∙ sym (k .0)
-
-pub one-blocking-line : (κs : Lfts 0) (a : _) (e f : _) (r s : Page) → blocking-line.Learnt κs a r e → blocking-line.Learnt κs a s f → r ≡ s
-one-blocking-line κs a e f r s h k = h .0 ∙ sym (k .0)
-
-pub one-share-line : (κs : Lfts 0) (a : _) (e f : _) (r s : Page) → share-line.Learnt κs a r e → share-line.Learnt κs a s f → r ≡ s
-one-share-line κs a e f r s h k = h .0 ∙ sym (k .0)
-
-pub one-demand-line : (κs : Lfts 0) (a : _) (e f : _) (r s : Page) → demand-line.Learnt κs a r e → demand-line.Learnt κs a s f → r ≡ s
-one-demand-line κs a e f r s h k = h .0 ∙ sym (k .0)
-
-pub one-multiple-line : (κs : Lfts 0) (a : _) (e f : _) (r s : Page) → multiple-line.Learnt κs a r e → multiple-line.Learnt κs a s f → r ≡ s
-one-multiple-line κs a e f r s h k = h .0 ∙ sym (k .0)
-
-pub one-over-line : (κs : Lfts 0) (a : _) (e f : _) (r s : Page) → over-line.Learnt κs a r e → over-line.Learnt κs a s f → r ≡ s
-one-over-line κs a e f r s h k = h .0 ∙ sym (k .0)
-
-pub one-stair-line : (κs : Lfts 0) (a : _) (e f : _) (r s : Page) → stair-line.Learnt κs a r e → stair-line.Learnt κs a s f → r ≡ s
-one-stair-line κs a e f r s h k = h .0 ∙ sym (k .0)
-
-pub one-stretch-line : (κs : Lfts 0) (a : _) (e f : _) (r s : Page) → stretch-line.Learnt κs a r e → stretch-line.Learnt κs a s f → r ≡ s
-one-stretch-line κs a e f r s h k = h .0 ∙ sym (k .0)
-
-pub one-nowhere-line : (κs : Lfts 0) (a : _) (e f : _) (r s : Page) → nowhere-line.Learnt κs a r e → nowhere-line.Learnt κs a s f → r ≡ s
-one-nowhere-line κs a e f r s h k = h .0 ∙ sym (k .0)
 
 -- answers
 pub one-answer : (κs : Lfts 1) (a : _) (e f : _) (r s : Answer) → answer.Learnt κs a r e → answer.Learnt κs a s f
@@ -611,10 +578,6 @@ one-desk-verdict-with κs a e f r s h k = (h .0 ∙ sym (k .0), h .1 .0 ∙ sym 
 pub one-desk-quick : (κs : Lfts 2) (a : _) (e f : _) (r s : ℕ) → desk-quick.Learnt κs a r e → desk-quick.Learnt κs a s f
     → (r ≡ s) × (e .1 .0 .now ≡ f .1 .0 .now) × (e .0 .now ≡ f .0 .now)
 one-desk-quick κs a e f r s h k = (h .0 ∙ sym (k .0), h .1 .0 ∙ sym (k .1 .0), h .1 .1 ∙ sym (k .1 .1))
-
-pub one-desk-limit : (κs : Lfts 2) (a : _) (e f : _) (r s : ℕ) → desk-limit.Learnt κs a r e → desk-limit.Learnt κs a s f
-    → (r ≡ s) × (e .1 .1 .1 .0 .now ≡ f .1 .1 .1 .0 .now) × (e .0 .now ≡ f .0 .now)
-one-desk-limit κs a e f r s h k = (h .0 ∙ sym (k .0), h .1 .0 ∙ sym (k .1 .0), h .1 .1 ∙ sym (k .1 .1))
 
 pub one-desk-search : (κs : Lfts 2) (a : _) (e f : _) (r s : ℕ) → desk-search.Learnt κs a r e → desk-search.Learnt κs a s f
     → (r ≡ s) × (e .1 .0 .now ≡ f .1 .0 .now) × (e .0 .now ≡ f .0 .now)

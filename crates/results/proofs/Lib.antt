@@ -29,17 +29,10 @@ pub mod EachChange
 pub mod Permissions
 pub mod DueLater
 -- Blockers side by side. Weaker: a longer blocker is the stricter rule, and what that means for plans and sets that passed before W-205.
--- Ruled: a rule is decided by its range. SideBySide: four rules in one table. ADayIsAll: no more than a day can be taken off. Found:
--- where a set passes, the search finds one.
-pub mod Found
+-- Ruled: a rule is decided by its range. SideBySide: four rules in one table. ADayIsAll: no more than a day can be taken off.
 pub mod Weaker
 pub mod Ruled
 pub mod SideBySide
 pub mod ADayIsAll
 -- Late access. OnTime: without late days, and with each release on its due day, every rule is what it was.
 pub mod OnTime
--- The two ends of the rule. TwoEnds: everybody permitted, and nobody; the search is never worse than either. WhoShould: where moving is
--- free everybody may have a permission, and where it is dear nobody. Apart: a table of plans that pass at one end, at the other, between.
-pub mod TwoEnds
-pub mod WhoShould
-pub mod Apart

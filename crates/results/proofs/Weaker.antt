@@ -1,12 +1,13 @@
 -- A rule with shorter blockers is the weaker one. The desk's is E less one day (W-205), document 01's was E: so every plan that passed
 -- before W-205 passes after it, and the search finds a set with as many takers or fewer.
-use Rattle.base.proofs.Prelude.{ℕ, _^_, _≤_, _<_, _≡_, refl, _↔_, _&&_, arith, ones, leb, ltb}
+use Rattle.base.proofs.Prelude.{ℕ, _^_, _≤_, _<_, _≡_, refl, sym, ap, _∙_, _↔_, true, _&&_, Option, none, some, arith, ones, leb, ltb}
 use native.Mathlib.Nat.{le-trans}
-use Rattle.rules.specs.{declared.BatteryString.BatteryString, declared.Plan.Plan, declared.Assign.the-variants.Takers, Plan.{stringsOf, leewayMin, dMax}, Demand.{blockerHold, blockLimit, Passes}, Search.{withSet, searchOf}}
-use Rattle.base.proofs.{Lists.{by-bool, largest-mono}, Order.all-of}
+use Rattle.rules.specs.{declared.BatteryString.BatteryString, declared.Plan.Plan, declared.Assign.the-variants.{Takers, Nobody}, Plan.{stringsOf, leewayMin, dMax}, Demand.{blockerHold, blockLimit, Passes}, Search.{assigned, withSet, setPasses, ordered, searchOf}}
+use Rattle.base.specs.Count.{firstOf}
+use Rattle.base.proofs.{Lists.{by-bool, true-not-false, largest-mono}, Order.all-of}
 use Rattle.laws.proofs.Lawful.{LawfulPlan}
+use Rattle.demand.proofs.Search.{setPasses-exactly, none-of-nobody, search-fewest}
 use Rattle.results.specs.Blockers.{Blocker, holdLess, daysBy, limitBy, PassesBy}
-use Rattle.results.proofs.Found.{passing-found}
 
 -- ---- Shorter blockers
 
@@ -50,4 +51,15 @@ passed-passes p rule = desk-rule p .1 (weaker 0 1 (omega arith) p rule)
 -- and where a set passed before, the search finds one now, with as many takers or fewer
 pub found-with-fewer : (p : Plan) → LawfulPlan p → (k : ℕ) → k < 2 ^ p .n → PassesBy (holdLess 0) (withSet p k)
     → (m : ℕ) × (searchOf p ≡ Takers m) × (ones m ≤ ones k)
-found-with-fewer p ok k below rule = passing-found p ok k below (passed-passes (withSet p k) rule)
+found-with-fewer p ok k below rule = which (firstOf (setPasses p) (ordered (p .n))) refl
+  where
+    passes : setPasses p k ≡ true
+    passes = setPasses-exactly p ok k .1 (passed-passes (withSet p k) rule)
+
+    which : (o : Option ℕ) → firstOf (setPasses p) (ordered (p .n)) ≡ o → (m : ℕ) × (searchOf p ≡ Takers m) × (ones m ≤ ones k)
+    which none e =
+        let nobody : searchOf p ≡ Nobody = unfold searchOf in ap assigned e in
+        absurd (true-not-false (sym passes ∙ none-of-nobody p nobody k below))
+    which (some m) e =
+        let found : searchOf p ≡ Takers m = unfold searchOf in ap assigned e in
+        (m, found, search-fewest p m found k below passes)

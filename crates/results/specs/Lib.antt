@@ -6,4 +6,3 @@ pub mod Change
 pub mod Blockers
 pub mod Rows
 pub mod OnTime
-pub mod TwoEnds

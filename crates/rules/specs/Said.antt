@@ -14,9 +14,9 @@
 --     unbroken, breaks interval blocking      the first pair that breaks the rule
 --     stints count                            how many stints were listed
 --     text length                             what was written into a page
---     passing, never, none-found, too-many, misses run
---                                             releases that miss: none, the plan passes; none, though it fails; none was found; there are
---                                             some, but more than 1,000; the days of a run that misses
+--     passing, none-found, too-many, misses run
+--                                             releases that miss: none, the plan passes; none was found; there are some, but more than
+--                                             1,000; the days of a run that misses
 --     brokenSays b, askedBrokenSays b         what the first broken pair says, and what is said where it is asked for
 --     stintedSays s                           what is said where the stints of a run are asked for
 -- Of texts that are written and of releases that miss the crates writing, tries and missed have it: savedSays, missingSays, missedSays.
@@ -92,7 +92,6 @@ pub data Noted : Type 0 where
   stints : ℕ → Noted
   text : ℕ → Noted
   passing : Noted
-  never : Noted
   none-found : Noted
   too-many : Noted
   misses : ℕ → Noted

@@ -1,6 +1,6 @@
 -- Found: a try that is found misses, and where one is found. Meaning: what each answer means. Worked:
--- plans with their answers. SharpBreaks: what the first break of the sharp rule means. Places, Packing, DayByDay, Freed, Searching,
--- Charging: laws for the loops. OwnBreak: the first broken pair.
+-- plans with their answers. SharpBreaks: what the first break of the sharp rule means. Places, Packing, DayByDay, Freed, Searching, Charging:
+-- laws for the loops. OwnBreak: the first broken pair.
 pub mod SharpBreaks
 pub mod Found
 pub mod Meaning

@@ -60,6 +60,6 @@ unfolding
     runOf
     countCheck runLengthCheck stringsCheck multipleCheck planCheck releasesCheck runCheck runAnswer
     needBut demandBut mostLate blockerRelease delayOf dueComing comesIn comesFirst releasesIn othersIn
-    canLose chargeable costsWhere rounds payable longestBlock allBreaks isBroken sharpBreak passesPayably
-    listOf stoppedTries paidTries tries isMiss missesOn found missingOf missingAnswer
+    canLose chargeable costsWhere rounds payable
+    longestBlock allBreaks isBroken sharpBreak passesPayably listOf stoppedTries paidTries tries isMiss missesOn found missingOf missingAnswer
 answers = refl

@@ -1,5 +1,5 @@
-// The verdict on a plan, full and quick, the first pair that breaks the rule, the search for permissions, and the plan's figures. No caller
-// is trusted to have checked anything: each entry checks first.
+// The verdict on a plan, full and quick, the first pair that breaks the rule, the search for permissions, the plan with a set, and the
+// plan's figures. No caller is trusted to have checked anything: each entry that judges checks first.
 mod asking;
 mod growing;
 mod holds;
@@ -19,7 +19,7 @@ use holds::figures_over;
 use holds::no_figures;
 use pairs::judged;
 use permissions::first_set;
-use permissions::with_set;
+pub use permissions::with_set;
 use rules::AskedAssign;
 use rules::AskedBroken;
 use rules::AskedVerdict;

@@ -209,8 +209,8 @@ impl fmt::Display for Counts {
     fn fmt(&self, out: &mut fmt::Formatter) -> fmt::Result {
         writeln!(
             out,
-            "second: {} plans of all kinds, no difference: {}",
-            self.any.all(),
+            "second: {} plans that do not pass, no difference: {}",
+            self.any.failing(),
             self.any
         )?;
         let beside_every_list = [

@@ -110,7 +110,7 @@ pub fn demand(plan: &Plan, interval: Length, blocking: Length) -> Length {
 }
 
 /// Where a string may not take the bank its E is its C.
-pub fn demand_by(rule: &Rule, plan: &Plan, interval: Length, blocking: Length) -> Length {
+fn demand_by(rule: &Rule, plan: &Plan, interval: Length, blocking: Length) -> Length {
     let mut demand = blocking;
     for string in &plan.strings {
         let window = if (rule.comes_after)(string) {

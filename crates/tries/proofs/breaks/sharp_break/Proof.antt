@@ -1,5 +1,5 @@
--- `tries::breaks::sharp_break` meets its contract: the first break of the intervals left is the first of all; and where the plan passes
--- there is none.
+-- `tries::breaks::sharp_break` meets its contract: the first break of the intervals left is the first of all; and where the plan passes there
+-- is none.
 use Rattle.base.proofs.Prelude.{ℕ, _+_, _-_, _≤_, _≡_, sym, ap, _∙_, true, none, flatMap, arith, needs, zero-le}
 use Rattle.base.specs.Count.{firstOf, upFrom}
 use Rattle.rules.specs.{declared.Plan.Plan, Plan.multipleOf, Verdict.{verdictOf, isPass}}

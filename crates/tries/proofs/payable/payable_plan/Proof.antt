@@ -33,9 +33,7 @@ loop-again c =
     let made = c .round .ensures in (
       omega (arith, turn .loop-test .taken),
       subst Ready (sym made) (uncharged-ready (at .loop .left) (at .loop .inv .1)),
-      ap (rounds (n - (at .loop .k + 1))) made
-          ∙ sym (round-done n (at .loop .k) (at .loop .left) (turn .loop-test .taken))
-          ∙ at .loop .inv .2,
+      ap (rounds (n - (at .loop .k + 1))) made ∙ sym (round-done n (at .loop .k) (at .loop .left) (turn .loop-test .taken)) ∙ at .loop .inv .2,
     )
 
 -- no round is left
@@ -49,6 +47,5 @@ returns c =
 pub payable-plan-spec : {M : Type 1} → statement M
 payable-plan-spec =
     tie.close (tie.spec
-    Inv-loop μ-loop (λ c. (zero-le, c .pre, ap (λ m. rounds m (c .args .p)) (omega arith))) (λ c κs. c .before .loop .inv .1)
-    (λ c. omega arith) (λ c. omega arith)
+    Inv-loop μ-loop (λ c. (zero-le, c .pre, ap (λ m. rounds m (c .args .p)) (omega arith))) (λ c κs. c .before .loop .inv .1) (λ c. omega arith) (λ c. omega arith)
     loop-again returns)

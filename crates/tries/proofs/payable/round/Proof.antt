@@ -59,6 +59,5 @@ pub round-spec : {M : Type 1} → statement M
 round-spec =
     tie.close (tie.spec
     Inv-loop μ-loop (λ c. (omega arith, c .before .before .pre .ten, refl, refl)) (λ c. omega arith) (λ c. omega arith)
-    (λ c. omega arith) (λ c κs. (c .before .before .before .before .before .pre, (omega arith, omega arith))) (λ c κs. search needs)
-    (λ c. omega arith) (λ c. omega arith) (λ c. omega arith) (λ c. omega arith)
+    (λ c. omega arith) (λ c κs. (c .before .before .before .before .before .pre, (omega arith, omega arith))) (λ c κs. search needs) (λ c. omega arith) (λ c. omega arith) (λ c. omega arith) (λ c. omega arith)
     loop-again returns)

@@ -1,3 +1,0 @@
-pub mod Slack
-pub mod Beyond
-pub mod inner
