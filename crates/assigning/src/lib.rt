@@ -12,7 +12,7 @@ use verdict::{search, with_set};
 use writing::Saved;
 
 // The length of the text that was written; or that no set passes, so that there is nothing to write.
-#[derive(Drop)]
+#[derive(Clone, Copy)]
 pub enum Assigned {
     Refused { fault: Fault, at: usize },
     Nobody,

@@ -14,7 +14,7 @@ use run::stint_at;
 const NO_COLUMN: Column = Column { first: 0, days: 0 };
 
 // The columns drawn so far: the first `count` of seventy.
-#[derive(Drop)]
+#[derive(Clone, Copy)]
 pub(crate) struct Drawn {
     pub(crate) count: usize,
     pub(crate) columns: [Column; 70],

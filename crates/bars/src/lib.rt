@@ -23,7 +23,7 @@ use rules::{Answer, Plan, Releases};
 use sheet::{Sheet, listed};
 
 // A column of the bars: its first day, and how many days it stands for: one, or those of a long idle stretch.
-#[derive(Drop)]
+#[derive(Clone, Copy)]
 pub struct Column {
     pub first: u32,
     pub days: u32,

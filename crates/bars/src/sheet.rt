@@ -14,7 +14,7 @@ use rules::{AskedOutcome, Outcome, Plan, Releases, Stinted};
 use run::{run, stints};
 
 // What is refused has neither stints nor columns. A run that misses ends on the day of the miss, and the bank has done nothing on it.
-#[derive(Drop)]
+#[derive(Clone, Copy)]
 pub(crate) struct Sheet {
     pub(crate) checked: Checked,
     pub(crate) stints: usize,

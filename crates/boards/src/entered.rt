@@ -20,14 +20,14 @@ const NO_DAY: WhichDay = WhichDay::Refused {
 };
 
 // What a line of the diary gives.
-#[derive(Drop)]
+#[derive(Clone, Copy)]
 pub(crate) enum Noted {
     Test(Test),
     Refused(Fault),
 }
 
 // What the diary gives: whether all lines are lawful and, where they are, the tests.
-#[derive(Drop)]
+#[derive(Clone, Copy)]
 pub(crate) struct Noting {
     pub(crate) checked: Checked,
     pub(crate) diary: Diary,

@@ -12,7 +12,7 @@ use rules::Outcome;
 pub use whole::board_read;
 
 // A yearly test: a month and a day, and the edition of the guide by which it is done.
-#[derive(Drop)]
+#[derive(Clone, Copy)]
 pub struct Test {
     pub month: u32,
     pub day: u32,
@@ -27,14 +27,14 @@ pub const NO_TEST: Test = Test {
 };
 
 // The crew's diary: of the twenty tests the first `count` count.
-#[derive(Drop)]
+#[derive(Clone, Copy)]
 pub struct Diary {
     pub count: usize,
     pub tests: [Test; 20],
 }
 
 // What standard input says: whether it is lawful and, where it is, the day of the start and the diary.
-#[derive(Drop)]
+#[derive(Clone, Copy)]
 pub struct Input {
     pub checked: Checked,
     pub start: Day,
@@ -42,7 +42,7 @@ pub struct Input {
 }
 
 // A board to be written: the day of the start, the diary, how many stints of the run a lent list holds, and how the run ended.
-#[derive(Drop)]
+#[derive(Clone, Copy)]
 pub struct Board {
     pub checked: Checked,
     pub start: Day,
@@ -52,7 +52,7 @@ pub struct Board {
 }
 
 // What was put on a page: whole days, and their bytes.
-#[derive(Drop)]
+#[derive(Clone, Copy)]
 pub struct Filled {
     pub days: usize,
     pub length: usize,

@@ -8,7 +8,7 @@ use days::{Day, Gap, Length};
 use rules::{Plan, Release, Releases};
 
 // The due day of the last release of a place, where there was one.
-#[derive(Drop)]
+#[derive(Clone, Copy)]
 pub(crate) enum Last {
     Never,
     On(Day),

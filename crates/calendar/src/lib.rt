@@ -21,7 +21,7 @@ use year::{february, in_year, year_start};
 pub(crate) const LAST_DAY: u32 = 146096;
 
 // A day of a month of a year. It may not exist: every function that is given one says so.
-#[derive(Drop)]
+#[derive(Clone, Copy)]
 pub struct Date {
     pub year: u32,
     pub month: u32,
@@ -29,7 +29,7 @@ pub struct Date {
 }
 
 // The week from Saturday on: day 0 is a Saturday.
-#[derive(Drop)]
+#[derive(Clone, Copy)]
 pub enum Weekday {
     Saturday,
     Sunday,
@@ -41,58 +41,58 @@ pub enum Weekday {
 }
 
 // A month and a day of it, in whatever year.
-#[derive(Drop)]
+#[derive(Clone, Copy)]
 pub struct YearlyDate {
     pub month: u32,
     pub day: u32,
 }
 
-#[derive(Drop)]
+#[derive(Clone, Copy)]
 pub enum WhichDate {
     Is(Date),
     Refused { fault: Fault, at: usize },
 }
 
-#[derive(Drop)]
+#[derive(Clone, Copy)]
 pub enum WhichDay {
     Is(Day),
     Refused { fault: Fault, at: usize },
 }
 
-#[derive(Drop)]
+#[derive(Clone, Copy)]
 pub enum WhichWeekday {
     Is(Weekday),
     Refused { fault: Fault, at: usize },
 }
 
-#[derive(Drop)]
+#[derive(Clone, Copy)]
 pub enum WhichYearly {
     Is(YearlyDate),
     Refused { fault: Fault, at: usize },
 }
 
-#[derive(Drop)]
+#[derive(Clone, Copy)]
 pub enum WhichEdition {
     Is(u32),
     Refused { fault: Fault, at: usize },
 }
 
 // How many days were listed.
-#[derive(Drop)]
+#[derive(Clone, Copy)]
 pub enum Listed {
     Days(usize),
     Refused { fault: Fault, at: usize },
 }
 
 // A date's text; zeros where it is refused.
-#[derive(Drop)]
+#[derive(Clone, Copy)]
 pub struct DateText {
     pub checked: Checked,
     pub bytes: [u8; 10],
 }
 
 // A yearly date's text; zeros where it is refused.
-#[derive(Drop)]
+#[derive(Clone, Copy)]
 pub struct YearlyText {
     pub checked: Checked,
     pub bytes: [u8; 5],

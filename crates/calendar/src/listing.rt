@@ -13,7 +13,7 @@ use days::Day;
 use faults::Fault;
 
 // The day on which a test falls in a year.
-#[derive(Drop)]
+#[derive(Clone, Copy)]
 pub(crate) enum Fall {
     On(u32),
     Never,

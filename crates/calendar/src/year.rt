@@ -5,7 +5,7 @@ ghost use Rattle.calendar.specs.Numbers.{days_before_year, last_day};
 ghost use Rattle.calendar.specs.inner.Places.{InYear};
 
 // Whole years or months, and the days that are left.
-#[derive(Drop)]
+#[derive(Clone, Copy)]
 pub(crate) struct Within {
     pub whole: u32,
     pub rest: u32,

@@ -67,7 +67,7 @@ pub(crate) fn same(a: &[u8], b: &[u8]) -> bool {
 }
 
 // A word that is a number in decimal digits: below 2^64, or larger.
-#[derive(Drop)]
+#[derive(Clone, Copy)]
 pub(crate) enum Number {
     Is { value: u64 },
     Larger,

@@ -3,7 +3,7 @@ use super::commands::{same, word, word_count};
 use super::say::complain_of;
 
 // What was read into lent room, from its start on: how many bytes. Nothing where the file cannot be read to its end or to the room's.
-#[derive(Drop)]
+#[derive(Clone, Copy)]
 pub(crate) enum Got {
     Bytes { count: usize },
     Nothing,

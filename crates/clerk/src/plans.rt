@@ -7,7 +7,7 @@ use rules::{Plan, Reading, Releases};
 
 // A plan file that was opened. Where `end` is ANSWERED it holds a lawful plan, and the answer is still to be given; else that has been
 // given, and ended so.
-#[derive(Drop)]
+#[derive(Clone, Copy)]
 pub(crate) struct Opened {
     pub(crate) end: u8,
     pub(crate) plan: Plan,

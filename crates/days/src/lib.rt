@@ -4,22 +4,22 @@ ghost use Rattle.std.specs.Prelude.{◌≡◌, ltb};
 ghost use Rattle.days.specs.Days.{later_of, gap_of};
 
 // A day of the run or of the calendar, counted from 0.
-#[derive(Drop)]
+#[derive(Clone, Copy)]
 pub struct Day(pub u32);
 
 // A number of days.
-#[derive(Drop)]
+#[derive(Clone, Copy)]
 pub struct Length(pub u32);
 
 // What a day plus a length is: a day, or nothing that a day number can say.
-#[derive(Drop)]
+#[derive(Clone, Copy)]
 pub enum Later {
     On(Day),
     Beyond,
 }
 
 // What a day minus another is: a length, or nothing where the other is the later one.
-#[derive(Drop)]
+#[derive(Clone, Copy)]
 pub enum Gap {
     Of(Length),
     Backwards,

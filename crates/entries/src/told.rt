@@ -13,7 +13,7 @@ use slack::AskedLimit;
 use tries::Missing;
 
 // A kind, and the numbers that it comes with; 0 stands where there is nothing to say.
-#[derive(Drop)]
+#[derive(Clone, Copy)]
 pub(crate) struct Row {
     pub kind: u32,
     pub first: u64,

@@ -3,7 +3,7 @@ ghost use Rattle.std.specs.Prelude.{◌≡◌};
 ghost use Rattle.faults.specs.Checks.{fault_number};
 
 // Why a plan, a text or a list is refused.
-#[derive(Drop)]
+#[derive(Clone, Copy)]
 pub enum Fault {
     TextTooLong,
     LineMalformed,
@@ -23,7 +23,7 @@ pub enum Fault {
 }
 
 // Whether all rules were met; if not, the first fault, and where: a line, a place, or 0 for the whole.
-#[derive(Drop)]
+#[derive(Clone, Copy)]
 pub enum Checked {
     Lawful,
     Refused { fault: Fault, at: usize },

@@ -5,14 +5,14 @@ ghost use Rattle.rules.specs.Layout.{held_to};
 ghost use Rattle.layouts.specs.inner.Versions.{code_of};
 
 // A field: the bytes that stand ahead of it in its frame, and its own.
-#[derive(Drop)]
+#[derive(Clone, Copy)]
 pub struct Field {
     pub at: usize,
     pub size: usize,
 }
 
 // A frame: its kind, its bytes, and the bytes of text that its line takes.
-#[derive(Drop)]
+#[derive(Clone, Copy)]
 pub struct Layout {
     pub kind: u32,
     pub size: usize,
@@ -22,7 +22,7 @@ pub struct Layout {
 // A version: its number, its three frames, and the fields that other versions have in another place. `common` is the moving cost that
 // the header says for every string, `own` the one that a string frame says, `late` its late days, `due` the due day that a release frame
 // says. A field that a frame does not have takes no byte.
-#[derive(Drop)]
+#[derive(Clone, Copy)]
 pub struct Version {
     pub number: u32,
     pub header: Layout,

@@ -39,7 +39,7 @@ pub use why::{
 };
 
 // Text and what is left of the page: the first `len` bytes are the text; zeros stand behind it.
-#[derive(Drop)]
+#[derive(Clone, Copy)]
 pub struct Page {
     pub len: usize,
     pub bytes: [u8; 256],

@@ -11,14 +11,14 @@ use days::Length;
 use rules::BatteryString;
 
 // How far a number can go: to a value, or no value will do.
-#[derive(Drop)]
+#[derive(Clone, Copy)]
 pub enum Limit {
     Nothing,
     At { value: u32 },
 }
 
 // The limits of a string's C, D, T, moving cost and late days.
-#[derive(Drop)]
+#[derive(Clone, Copy)]
 pub struct Limits {
     pub c: Limit,
     pub d: Limit,

@@ -10,7 +10,7 @@ use faults::{Fault, fault_number};
 
 // Which rule of a refusal's number is broken, with the numbers that it speaks of: 1, 2, 3, 4, 5, 6, 7, 8 in this order. A character is
 // counted from 1 within its line.
-#[derive(Drop)]
+#[derive(Clone, Copy)]
 pub enum Reason {
     TooLong,
     Empty,

@@ -12,7 +12,7 @@ use rules::Verdict;
 
 // What stands behind the verdict on a set: nothing; of the one that the search finds, that it is the one; of one that does not pass,
 // whether the plan with it can miss, where that is known.
-#[derive(Drop)]
+#[derive(Clone, Copy)]
 pub enum SetNote {
     Nothing,
     FewestTakers,

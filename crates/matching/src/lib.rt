@@ -13,7 +13,7 @@ use rules::Plan;
 
 // The same strings in another order, and how many; or the first string of the first plan that has no partner left; or how many strings
 // each plan has, where that differs.
-#[derive(Drop)]
+#[derive(Clone, Copy)]
 pub enum Matching {
     Same { count: usize },
     Alone { place: usize },
@@ -21,7 +21,7 @@ pub enum Matching {
 }
 
 // With the place in the second plan of each string of the first, by place; 0 where there is no string, and everywhere unless all match.
-#[derive(Drop)]
+#[derive(Clone, Copy)]
 pub struct Matched {
     pub matching: Matching,
     pub places: [usize; 10],

@@ -14,7 +14,7 @@ use writing::Saved;
 
 // The length of the text that was written; or that the plan passes, so that there is nothing to show; or that it fails and yet no list
 // misses; or that no list was found; or that there is one, but of more than 1,000 releases.
-#[derive(Drop)]
+#[derive(Clone, Copy)]
 pub enum Missed {
     Refused { fault: Fault, at: usize },
     Passes,

@@ -22,7 +22,7 @@ use rules::{Plan, Reading, refused_reading};
 use strings::{plan_in, string_lines_check};
 
 // Release lines that are frames, up to the first that is not or the end: how many, and the fault that ended them.
-#[derive(Drop)]
+#[derive(Clone, Copy)]
 pub struct Framed {
     pub count: usize,
     pub checked: Checked,

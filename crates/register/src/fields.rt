@@ -4,7 +4,7 @@ ghost use Rattle.register.specs.Table.{fields_of};
 ghost use Rattle.register.specs.inner.Fields.{bytes_ahead, lead, number_or, numbers_read};
 
 // The numbers of a line, at most six; zeros behind them, and where a line is not formed so.
-#[derive(Drop)]
+#[derive(Clone, Copy)]
 pub(crate) struct Numbers {
     pub(crate) formed: bool,
     pub(crate) values: [u32; 6],

@@ -20,7 +20,7 @@ use writing::Saved;
 
 // What a reader gives for a line: that the text has ended; that the line is no row; or the string that it says. With the place at which
 // the next line starts.
-#[derive(Drop)]
+#[derive(Clone, Copy)]
 pub enum Row {
     End,
     Malformed { next: usize },
@@ -29,7 +29,7 @@ pub enum Row {
 
 // What is read of a line that has to say so many numbers: whether it does; its numbers, at most six, and zeros behind them, all zeros where
 // it does not; and the place at which the next line starts.
-#[derive(Drop)]
+#[derive(Clone, Copy)]
 pub struct LineRead {
     pub formed: bool,
     pub values: [u32; 6],
@@ -37,7 +37,7 @@ pub struct LineRead {
 }
 
 // A reader: an export, and the place in it at which the next row starts.
-#[derive(Drop)]
+#[derive(Clone, Copy)]
 pub struct Export<'a> {
     pub text: &'a [u8],
     pub at: usize,

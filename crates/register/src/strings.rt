@@ -9,7 +9,7 @@ use faults::{Checked, Fault};
 use rules::{BatteryString, NO_STRING};
 
 // Whether all rows are lawful and, where they are, how many there are and their strings.
-#[derive(Drop)]
+#[derive(Clone, Copy)]
 pub(crate) struct Strings {
     pub(crate) checked: Checked,
     pub(crate) n: usize,

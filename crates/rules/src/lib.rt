@@ -13,7 +13,7 @@ use faults::{Checked, Fault};
 
 // A battery string: least days between two due days, most working days of a job, days from due day to deadline, whether its jobs may
 // take the bank (1) or not (0), the moving days that a job pays which takes it, and how many days after its due day a job may come.
-#[derive(Drop)]
+#[derive(Clone, Copy)]
 pub struct BatteryString {
     pub t: Length,
     pub c: Length,
@@ -34,7 +34,7 @@ pub const NO_STRING: BatteryString = BatteryString {
 };
 
 // A plan: n strings by place, and the days of its run. Of the ten strings the first n count.
-#[derive(Drop)]
+#[derive(Clone, Copy)]
 pub struct Plan {
     pub n: usize,
     pub run: Length,
@@ -61,7 +61,7 @@ impl Plan {
 }
 
 // A release: its day, the place of its string (from 1), the working days it needs, and its due day, from which the deadline counts.
-#[derive(Drop)]
+#[derive(Clone, Copy)]
 pub struct Release {
     pub day: Day,
     pub place: usize,
@@ -78,14 +78,14 @@ pub const NO_RELEASE: Release = Release {
 };
 
 // A list of releases. Of the thousand the first `count` count; a larger count is refused.
-#[derive(Drop)]
+#[derive(Clone, Copy)]
 pub struct Releases {
     pub count: usize,
     pub list: [Release; 1000],
 }
 
 // What a text says: whether it is lawful and, where it is, the plan and the releases.
-#[derive(Drop)]
+#[derive(Clone, Copy)]
 pub struct Reading {
     pub checked: Checked,
     pub plan: Plan,
@@ -111,7 +111,7 @@ pub fn refused_reading(fault: Fault, at: usize) -> Reading
 }
 
 // The verdict on a plan. A fail names the interval, the blocking and the demand there; pairs are those compared.
-#[derive(Drop)]
+#[derive(Clone, Copy)]
 pub enum Verdict {
     Overload,
     Fail {
@@ -144,21 +144,21 @@ impl Verdict {
 }
 
 // The first pair, in order of l, then b, at which the demand rule breaks.
-#[derive(Drop)]
+#[derive(Clone, Copy)]
 pub enum Broken {
     Nowhere,
     At { interval: Length, blocking: Length },
 }
 
 // What the search finds: a permission set, in which place 1 is worth 1, place 2 is worth 2, place 3 is worth 4.
-#[derive(Drop)]
+#[derive(Clone, Copy)]
 pub enum Assign {
     Takers { set: u32 },
     Nobody,
 }
 
 // How a run ends: at a miss, or clean, with the days of each kind.
-#[derive(Drop)]
+#[derive(Clone, Copy)]
 pub enum Outcome {
     Miss {
         day: Day,
@@ -172,35 +172,35 @@ pub enum Outcome {
 }
 
 // What is answered where a verdict is asked for: the refusal of what was handed over, or the verdict.
-#[derive(Drop)]
+#[derive(Clone, Copy)]
 pub enum AskedVerdict {
     Refused { fault: Fault, at: usize },
     Given { verdict: Verdict },
 }
 
 // The same where the first broken pair is asked for.
-#[derive(Drop)]
+#[derive(Clone, Copy)]
 pub enum AskedBroken {
     Refused { fault: Fault, at: usize },
     Given { broken: Broken },
 }
 
 // The same where a search is asked for.
-#[derive(Drop)]
+#[derive(Clone, Copy)]
 pub enum AskedAssign {
     Refused { fault: Fault, at: usize },
     Given { assign: Assign },
 }
 
 // The same where a run is asked for.
-#[derive(Drop)]
+#[derive(Clone, Copy)]
 pub enum AskedOutcome {
     Refused { fault: Fault, at: usize },
     Given { outcome: Outcome },
 }
 
 // All that is answered for a plan file: its refusal, or the three answers, none of which can be a refusal.
-#[derive(Drop)]
+#[derive(Clone, Copy)]
 pub enum Answer {
     Refused {
         fault: Fault,
@@ -214,7 +214,7 @@ pub enum Answer {
 }
 
 // The figures of a plan that its file does not say: whether it is lawful and, where it is, H, the load, and E by place.
-#[derive(Drop)]
+#[derive(Clone, Copy)]
 pub struct Figures {
     pub checked: Checked,
     pub multiple: u32,
@@ -223,7 +223,7 @@ pub struct Figures {
 }
 
 // The job of a slot, with the days of work and of moving that are left.
-#[derive(Drop)]
+#[derive(Clone, Copy)]
 pub enum Job {
     Empty,
     Waiting { work: Length, moving: Length },
@@ -231,7 +231,7 @@ pub enum Job {
 }
 
 // The slot of a string: its job, when that was released and is due, and which release of the list it serves (from 1).
-#[derive(Drop)]
+#[derive(Clone, Copy)]
 pub struct Slot {
     pub string: BatteryString,
     pub job: Job,
@@ -241,7 +241,7 @@ pub struct Slot {
 }
 
 // What the bank did on a day: nothing, or work or moving for the release that the job at a place serves.
-#[derive(Drop)]
+#[derive(Clone, Copy)]
 pub enum Use {
     Idle,
     Work { place: usize, serves: usize },
@@ -249,7 +249,7 @@ pub enum Use {
 }
 
 // A stretch of days of the run on which the bank did one thing.
-#[derive(Drop)]
+#[derive(Clone, Copy)]
 pub struct Stint {
     pub first: Day,
     pub length: Length,
@@ -257,7 +257,7 @@ pub struct Stint {
 }
 
 // What is answered where the stints of a run are asked for: the refusal of what was handed over, or how many were listed.
-#[derive(Drop)]
+#[derive(Clone, Copy)]
 pub enum Stinted {
     Refused { fault: Fault, at: usize },
     Listed { stints: usize },

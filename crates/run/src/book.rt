@@ -7,7 +7,7 @@ use days::Length;
 use rules::{Stint, Use};
 
 // How many stints are finished, and the one that may yet grow; before day 0 it has no days.
-#[derive(Drop)]
+#[derive(Clone, Copy)]
 pub(crate) struct Book {
     pub(crate) finished: usize,
     pub(crate) current: Stint,

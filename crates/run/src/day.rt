@@ -108,7 +108,7 @@ fn day_at_least(length: Length) -> Length
 }
 
 // How a stretch ends: what the bank did on each of its days, how many they were, and the slots.
-#[derive(Drop)]
+#[derive(Clone, Copy)]
 pub(crate) struct Evening {
     pub(crate) used: Use,
     pub(crate) length: Length,

@@ -5,7 +5,7 @@ ghost use Rattle.run.specs.inner.Tally.{Under, added_to};
 use days::Length;
 use rules::{Outcome, Use};
 
-#[derive(Drop)]
+#[derive(Clone, Copy)]
 pub(crate) struct Tally {
     pub(crate) work: Length,
     pub(crate) moving: Length,

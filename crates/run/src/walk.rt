@@ -14,7 +14,7 @@ use rules::{Outcome, Plan, Releases, Stint, Use};
 use slots::{Question, chosen_place, empty_slots};
 
 // How the run ended, and how many stints it had.
-#[derive(Drop)]
+#[derive(Clone, Copy)]
 pub(crate) struct Walked {
     pub(crate) outcome: Outcome,
     pub(crate) stints: usize,

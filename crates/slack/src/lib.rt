@@ -20,7 +20,7 @@ pub use shown::limits_shown;
 use values::lawful_values;
 
 // A number of a string: its C, D, T, moving cost or late days.
-#[derive(Drop)]
+#[derive(Clone, Copy)]
 pub enum Letter {
     C,
     D,
@@ -30,7 +30,7 @@ pub enum Letter {
 }
 
 // What is answered where a limit is asked for: the refusal of the plan, or the limit.
-#[derive(Drop)]
+#[derive(Clone, Copy)]
 pub enum AskedLimit {
     Refused { fault: Fault, at: usize },
     Given { limit: Limit },

@@ -10,7 +10,7 @@ use super::changing::lawful_with;
 use rules::Plan;
 
 // Of the 1,001 values the first `count` count.
-#[derive(Drop)]
+#[derive(Clone, Copy)]
 pub(crate) struct Values {
     pub(crate) count: usize,
     pub(crate) list: [u32; 1001],

@@ -13,7 +13,7 @@ pub use start::empty_slots;
 // What is asked of the slots: a job that is late on a day; the job on the bank; a job released on a day that may take the
 // bank from one with a given deadline; the waiting job that goes first; the job due first of those with something left that are due after
 // a day.
-#[derive(Drop)]
+#[derive(Clone, Copy)]
 pub enum Question {
     Late { day: Day },
     Holding,

@@ -15,7 +15,7 @@ use super::listing::delay_of;
 use rules::{BatteryString, Plan};
 
 // Where it breaks: nowhere, or the interval, the blocking and the place of the string that blocks, 0 for nobody.
-#[derive(Drop)]
+#[derive(Clone, Copy)]
 pub(crate) enum FirstBreak {
     Unbroken,
     Breaks { l: u32, b: u32, q: usize },

@@ -26,7 +26,7 @@ use search::{Tried, first_that_misses};
 
 // What is found for a plan: N of a run that misses; or that the plan passes, so that none does; or that it fails and yet none does; or that
 // none of the lists tried does; or that none of them does, but there is one, of more than 1,000 releases.
-#[derive(Drop)]
+#[derive(Clone, Copy)]
 pub enum Missing {
     Refused { fault: Fault, at: usize },
     Passes,
@@ -37,7 +37,7 @@ pub enum Missing {
 }
 
 // What is shown for a plan: what was found, and the releases, none where no run was found.
-#[derive(Drop)]
+#[derive(Clone, Copy)]
 pub struct Shown {
     pub missing: Missing,
     pub releases: Releases,

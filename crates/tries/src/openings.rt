@@ -11,7 +11,7 @@ use days::{Day, Length};
 use rules::{Plan, Release};
 
 // The first releases, as many as `count` says, of the two; the day on which the interval begins; and the days of it before takers come.
-#[derive(Drop)]
+#[derive(Clone, Copy)]
 pub(crate) struct Opening {
     pub(crate) count: usize,
     pub(crate) first: Release,

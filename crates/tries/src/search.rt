@@ -17,7 +17,7 @@ use days::Length;
 use rules::{AskedOutcome, Broken, Outcome, Plan};
 
 // What a search over tries finds: the first that misses, how its list begins and the days of its interval.
-#[derive(Drop)]
+#[derive(Clone, Copy)]
 pub(crate) enum Tried {
     NoneMisses,
     Misses { opening: Opening, l: u32 },

@@ -8,7 +8,7 @@ ghost use Rattle.verdict.specs.inner.Asked.{Ready, asked_of, asked_by};
 use rules::{BatteryString, Plan};
 
 // What jobs ask, by whether they may take the bank.
-#[derive(Drop)]
+#[derive(Clone, Copy)]
 pub(crate) struct Work {
     pub(crate) keepers: u32,
     pub(crate) takers: u32,

@@ -12,7 +12,7 @@ use super::limits::{largest_d, limit, smallest_leeway};
 use rules::{Plan, Verdict};
 
 // Sixteen pairs, the one that served last in front. An interval of 0 is none. Nothing is promised of them: each is asked anew.
-#[derive(Drop)]
+#[derive(Clone, Copy)]
 pub(crate) struct Remembered {
     pub(crate) intervals: [u32; 16],
     pub(crate) blockings: [u32; 16],
@@ -103,7 +103,7 @@ pub(crate) fn learnt(known: Remembered, found: Verdict, h: u32) -> Remembered {
 }
 
 // Whether a plan passes, and what is remembered afterwards.
-#[derive(Drop)]
+#[derive(Clone, Copy)]
 pub(crate) struct Trial {
     pub(crate) passes: bool,
     pub(crate) known: Remembered,

@@ -12,7 +12,7 @@ use super::limits::smaller;
 use rules::{BatteryString, Plan};
 
 // Of each string its T, and what a job of it asks where it may not take the bank and where it may: 0 in one of the two.
-#[derive(Drop)]
+#[derive(Clone, Copy)]
 pub(crate) struct Parts {
     pub(crate) every: [u32; 10],
     pub(crate) keeps: [u32; 10],
@@ -21,7 +21,7 @@ pub(crate) struct Parts {
 
 // What the strings ask within an interval and not within the one before it, by whether they may take the bank; and the soonest interval
 // after it at which a count steps.
-#[derive(Drop)]
+#[derive(Clone, Copy)]
 pub(crate) struct Step {
     pub(crate) keepers: u32,
     pub(crate) takers: u32,

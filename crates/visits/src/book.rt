@@ -24,7 +24,7 @@ const HAD: usize = 4000;
 
 // How the list stands: whether a rule was broken, how many releases there are, the end of the last visit and the release that it served;
 // 0 and 0 before the first.
-#[derive(Drop)]
+#[derive(Clone, Copy)]
 pub(crate) struct Standing {
     pub(crate) checked: Checked,
     pub(crate) count: usize,

@@ -14,7 +14,7 @@ use rules::{Plan, Releases};
 pub use texts::{check_visit_files, check_visit_text};
 
 // A visit: the release that it serves (its place in the list, from 1), its first day and its length.
-#[derive(Drop)]
+#[derive(Clone, Copy)]
 pub struct Visit {
     pub release: u32,
     pub first: Day,
@@ -22,7 +22,7 @@ pub struct Visit {
 }
 
 // The visits of our own run: whether they were refused and, where they were not, how many there are; they stand first in the list.
-#[derive(Drop)]
+#[derive(Clone, Copy)]
 pub struct OwnVisits {
     pub checked: Checked,
     pub count: usize,

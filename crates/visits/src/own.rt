@@ -18,7 +18,7 @@ const NO_VISIT: Visit = Visit {
 };
 
 // Where a visit goes, the visit, and how many there are then.
-#[derive(Drop)]
+#[derive(Clone, Copy)]
 pub(crate) struct Placed {
     pub(crate) at: usize,
     pub(crate) visit: Visit,

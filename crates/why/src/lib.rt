@@ -25,7 +25,7 @@ use rules::{Answer, AskedVerdict, Plan, Verdict};
 use stretches::{broken_somewhere, stretch_from};
 
 // What is explained of a plan.
-#[derive(Drop)]
+#[derive(Clone, Copy)]
 pub enum Subject {
     Refused { fault: Fault, at: usize },
     Overload,

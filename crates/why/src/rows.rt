@@ -12,14 +12,14 @@ use super::limits::limit_at;
 use rules::Plan;
 
 // The largest demand over the blockings of an interval, and whether some demand is larger than a day before.
-#[derive(Drop)]
+#[derive(Clone, Copy)]
 pub(crate) struct Row {
     pub(crate) top: u64,
     pub(crate) grows: bool,
 }
 
 // A pair, and the days that its demand leaves.
-#[derive(Drop)]
+#[derive(Clone, Copy)]
 pub(crate) struct Spot {
     pub(crate) l: u32,
     pub(crate) b: u32,

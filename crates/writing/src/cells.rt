@@ -5,7 +5,7 @@ ghost use Rattle.writing.specs.inner.Cells.{cells_size, cells_text, Room};
 use super::digits::{put_end, put_number};
 
 // What a frame says in one place, its kind or a field: the number, and in how many bytes.
-#[derive(Drop)]
+#[derive(Clone, Copy)]
 pub(crate) struct Cell {
     pub(crate) size: usize,
     pub(crate) value: u32,

@@ -17,7 +17,7 @@ use lines::put_plan;
 use rules::{Plan, Releases};
 
 // The length of the text that was written, or why nothing was.
-#[derive(Drop)]
+#[derive(Clone, Copy)]
 pub enum Saved {
     Refused { fault: Fault, at: usize },
     Text { length: usize },
