@@ -17,3 +17,4 @@ pub mod Digits
 pub mod Greatest
 pub mod Divisors
 pub mod Multiples
+pub mod RoomFilled

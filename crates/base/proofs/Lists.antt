@@ -192,7 +192,8 @@ module _ {ℓ} {A : Type ℓ} where
   smallest_with-all f m [] = tt
   smallest_with-all f m (x ∷ xs) = (
     omega arith,
-    all_map (λ y. smallest_with f m xs ≤ f y) (λ y. min (f x) (smallest_with f m xs) ≤ f y) (λ y h. omega arith) xs (smallest_with-all f m xs),
+    all_map (λ y. smallest_with f m xs ≤ f y) (λ y. min (f x) (smallest_with f m xs) ≤ f y) (λ y h. omega arith) xs
+        (smallest_with-all f m xs),
   )
 
   -- a smallest is above what all are above, and where it is below m it is reached somewhere
@@ -204,7 +205,8 @@ module _ {ℓ} {A : Type ℓ} where
       let first = all.0 in
       omega arith
 
-  pub smallest_with-some : (f : A → ℕ) (m : ℕ) (xs : List A) (z : A) → smallest_with f m xs < m → Some (λ x. f x ≡ smallest_with f m xs) xs z
+  pub smallest_with-some : (f : A → ℕ) (m : ℕ) (xs : List A) (z : A) → smallest_with f m xs < m
+      → Some (λ x. f x ≡ smallest_with f m xs) xs z
   unfolding smallest_with
   smallest_with-some f m [] z h = absurd (omega arith)
   smallest_with-some f m (x ∷ xs) z h =

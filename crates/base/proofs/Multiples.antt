@@ -91,7 +91,8 @@ module _ {ℓ} {A : Type ℓ} (f : A → ℕ) where
       (λ h. ((first.0 h).0, rest.0 (first.0 h).1), λ h. first.1 (h.0, rest.1 h.1))
 
   -- step by step: one more joins those before it
-  pub lcm_of-take : (xs : List A) (z : A) (i : ℕ) → i < length xs → lcm_of f (take (suc i) xs) ≡ lcm (lcm_of f (take i xs)) (f (get_or xs i z))
+  pub lcm_of-take : (xs : List A) (z : A) (i : ℕ) → i < length xs → lcm_of f (take (suc i) xs)
+      ≡ lcm (lcm_of f (take i xs)) (f (get_or xs i z))
   unfolding lcm_of
   lcm_of-take [] z i h = absurd (not-suc-le-zero h)
   lcm_of-take (x ∷ xs) z zero h = lcm-comm (f x) 1

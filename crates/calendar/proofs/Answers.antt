@@ -3,7 +3,7 @@ use Rattle.base.proofs.Prelude.{ℕ, ◌≤◌, ◌<◌, ◌≡◌, refl, sym, a
 use Rattle.base.proofs.Lists.{by_bool, true-not-false}
 use Rattle.days.specs.{declared.Day.Day, Days.day}
 use Rattle.faults.specs.{declared.Fault.Fault, declared.Fault.TheVariants.{NoRoom, NoSuchDate, NoSuchEdition}}
-use Rattle.calendar.specs.{declared.Date.Date, declared.YearlyDate.YearlyDate, declared.Weekday.TheVariants.Saturday, Years.{leap_year, months_with, month_lengths, month_length}, Dates.{epoch, date_exists}, Numbers.{days_before_year, days_before_month, day_number, date_of, last_day}, Weekdays.weekday_of, Yearly.{no_edition, on_leap_day, in_no_year, yearly_days}, Refusals.{date_answer, day_answer, weekday_answer, yearly_check, listed_if, stored_if, yearly_answer, yearly_listed}, Said.{Said, refused, days, date_says, day_says, weekday_says, listed_says}}
+use Rattle.calendar.specs.{declared.Date.Date, declared.YearlyDate.YearlyDate, declared.Weekday.TheVariants.Saturday, Years.{leap_year, months_with, month_lengths, month_length}, Dates.{epoch, date_exists}, Numbers.{days_before_year, days_before_month, day_number, date_of, last_day}, Weekdays.weekday_of, Yearly.{no_edition, on_leap_day, in_no_year, yearly_days}, Refusals.{date_answer, day_answer, weekday_answer, yearly_check, listed_if, stored_if, yearly_answer, yearly_listed}, Said.{refused, days, date_says, day_says, weekday_says, listed_says}}
 use Rattle.base.specs.Count.{sum_of, up_from}
 use Rattle.calendar.proofs.{BothWays.{date_of-exists, day_number-date_of, day_number-in-range, date_of-day_number}, Editions.editions-agree}
 use Rattle.calendar.specs.declared.WhichDate.TheVariants as which-date
@@ -25,7 +25,10 @@ never z = omega arith
 -- a date that is answered is the day's own, and exists
 date_answer-date : (k : ℕ) (d : Date) → date_answer k ≡ which-date.Is d → (k ≤ last_day) × (d ≡ date_of k)
 date_answer-date k d h =
-    elim (dec_le k last_day) [ yes within ↦ inside within (date_answer-is k within) | no over ↦ outside (date_answer-refused k (omega arith)) ]
+    elim (dec_le k last_day) [
+      | yes within ↦ inside within (date_answer-is k within)
+      | no over ↦ outside (date_answer-refused k (omega arith))
+    ]
   where
     inside : k ≤ last_day → date_answer k ≡ which-date.Is (date_of k) → (k ≤ last_day) × (d ≡ date_of k)
     inside within is =
@@ -282,7 +285,8 @@ module _ (ed : ℕ) (t : YearlyDate) (a e : ℕ) (list : List ℕ) where
 
 -- of every date but 29 February the editions answer and list the same
 pub answers_agree : (t : YearlyDate) → on_leap_day t ≡ false → (a e : ℕ) (list : List ℕ)
-    → (yearly_answer 1 t a e (length list) ≡ yearly_answer 2 t a e (length list)) × (yearly_listed 1 t a e list ≡ yearly_listed 2 t a e list)
+    → (yearly_answer 1 t a e (length list) ≡ yearly_answer 2 t a e (length list))
+    × (yearly_listed 1 t a e list ≡ yearly_listed 2 t a e list)
 unfolding yearly_check listed_if stored_if yearly_answer yearly_listed
 answers_agree t other a e list =
     let same = editions-agree t other a e in

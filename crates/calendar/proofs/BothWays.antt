@@ -1,5 +1,5 @@
 -- Both ways agree on every day and every date: the sheets of the calendar, counted from the first, are its dates in their order, each once.
-use Rattle.base.proofs.Prelude.{ℕ, zero, suc, ◌+◌, ◌-◌, ◌≤◌, ◌<◌, ◌≡◌, refl, ap, ◌∙◌, true, ◌↔◌, arith, dec_le, lt-ltb, le-ltb}
+use Rattle.base.proofs.Prelude.{ℕ, zero, suc, ◌+◌, ◌≤◌, ◌<◌, ◌≡◌, refl, ap, ◌∙◌, true, ◌↔◌, arith, dec_le, lt-ltb, le-ltb}
 use Rattle.calendar.specs.{declared.Date.Date, Years.{month_length, months_with, month_lengths, leap_year}, Dates.{date, epoch, date_exists, earlier, date_after}, Numbers.{days_before_year, days_before_month, day_number, date_of, last_day}}
 use Rattle.calendar.proofs.{Months.{month_length-bounds, days_before_month-first, days_before_month-next, days_before_month-all}, Existing.{Existing, existing, exists, days_before_year-next, days_before_year-2000, days_before_year-2400, day_number-january, day_number-last}, Order.{Compared, sooner, same, later, comes-before-or-after, before-number, earlier-of-before, before-of-earlier}}
 
@@ -79,8 +79,14 @@ date_after-existing d x before-end = made (sheet d x)
         end h =
             let high = x.to-2399 in
             let final : d.year + 1 ≡ 2400 = omega arith in
-            omega
-            (arith, day_number-after d x, ap day_number e, day_number-january (d.year + 1), ap days_before_year final, days_before_year-2400)
+            omega (
+              arith,
+              day_number-after d x,
+              ap day_number e,
+              day_number-january (d.year + 1),
+              ap days_before_year final,
+              days_before_year-2400,
+            )
 
 epoch-exists : date_exists epoch ≡ true
 unfolding date_exists month_length month_lengths months_with leap_year

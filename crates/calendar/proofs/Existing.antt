@@ -53,7 +53,13 @@ days_before_year-next y low =
 pub days_before_year-le : (y z : ℕ) → y ≤ z → days_before_year y ≤ days_before_year z
 days_before_year-le y z h =
     let far : y - 2000 + (z - 2000 - (y - 2000)) ≡ z - 2000 = omega arith in
-    omega (arith, days_before_year-closed y, days_before_year-closed z, year_start-mono (y - 2000) (z - 2000 - (y - 2000)), ap year_start far)
+    omega (
+      arith,
+      days_before_year-closed y,
+      days_before_year-closed z,
+      year_start-mono (y - 2000) (z - 2000 - (y - 2000)),
+      ap year_start far,
+    )
 
 pub days_before_year-2000 : days_before_year 2000 ≡ 0
 unfolding year_start up

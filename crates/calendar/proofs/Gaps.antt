@@ -93,7 +93,12 @@ module _ (y : ℕ) (from : 2000 ≤ y) where
       let some = february_of-least y in
       let some_next = february_of-least (suc y) in
       gap-of (suc y) _
-      (omega (arith, days_before_month-early y 2 (omega arith) (omega arith), days_before_month-early (suc y) 2 (omega arith) (omega arith)))
+      (omega (
+        arith,
+        days_before_month-early y 2 (omega arith) (omega arith),
+        days_before_month-early (suc y) 2 (omega arith)
+            (omega arith),
+      ))
 
 -- the last day of February exists in every year
 february-exists : (y : ℕ) → 2000 ≤ y → y ≤ 2399 → Existing (date y 2 (february_of y))

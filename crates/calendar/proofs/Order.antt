@@ -1,6 +1,6 @@
 -- Earlier dates have smaller day numbers: no two dates have one number.
 --     Before d e            why d is earlier than e
-use Rattle.base.proofs.Prelude.{◌+◌, ◌-◌, ◌<◌, ◌≡◌, refl, ap, sym, Bool, true, false, ◌||◌, arith, dec_le, ltb, eqb, ltb-true, eqb-true, lt-ltb, le-ltb, eq-eqb}
+use Rattle.base.proofs.Prelude.{◌+◌, ◌<◌, ◌≡◌, refl, ap, sym, Bool, true, false, ◌||◌, arith, dec_le, ltb, eqb, ltb-true, eqb-true, lt-ltb, le-ltb, eq-eqb}
 use Rattle.base.proofs.Lists.{and_left, and_right}
 use Rattle.calendar.specs.{declared.Date.Date, Dates.{date, earlier}, Numbers.{days_before_year, days_before_month, day_number}}
 use Rattle.calendar.proofs.{Months.days_before_month-le, Existing.{Existing, days_before_year-le, day_number-from-month, day_number-to-month, day_number-from-year, day_number-to-year}}

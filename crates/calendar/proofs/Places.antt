@@ -1,5 +1,5 @@
 -- A day that lies in a year and a month is the day of one date.
-use Rattle.base.proofs.Prelude.{ℕ, ◌+◌, ◌-◌, ◌≤◌, ◌≡◌, sym, ap, ◌∙◌, cond, arith}
+use Rattle.base.proofs.Prelude.{ℕ, ◌+◌, ◌≤◌, ◌≡◌, sym, ap, ◌∙◌, cond, arith}
 use Rattle.base.proofs.Lists.{by_bool}
 use Rattle.calendar.specs.{declared.Date.Date, Years.{leap_year, year_length, month_lengths, month_length}, Dates.date, Numbers.{days_before_month, day_number, date_of}, inner.Places.{InYear, InMonth}}
 use Rattle.calendar.proofs.{Existing.{Existing, exists, day_number-parts}, BothWays.date_of-day_number}

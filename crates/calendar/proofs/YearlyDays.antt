@@ -71,4 +71,5 @@ module _ (ed : ℕ) (t : YearlyDate) (a e : ℕ) where
   -- none if the first day is after the last
   pub yearly-none : e < a → yearly_days ed t a e ≡ []
   unfolding days_in
-  yearly-none h = keep-none (λ k. in_bounds a k e) (λ k. in_bounds-not a k e (λ low high. omega arith)) (map day_number (dates_in ed t years))
+  yearly-none h = keep-none (λ k. in_bounds a k e) (λ k. in_bounds-not a k e (λ low high. omega arith))
+      (map day_number (dates_in ed t years))

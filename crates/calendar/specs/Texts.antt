@@ -91,7 +91,8 @@ unfoldable pub yearly_in : List ℕ → YearlyDate
 yearly_in text = record { month = number (take 2 text); day = number (take 2 (drop 3 text)) }
 
 unfoldable pub date_reading : List ℕ → WhichDate
-date_reading text = cond (fits date_form text && date_exists (date_in text)) (which-date.Is (date_in text)) (which-date.Refused NoSuchDate 0)
+date_reading text =
+    cond (fits date_form text && date_exists (date_in text)) (which-date.Is (date_in text)) (which-date.Refused NoSuchDate 0)
 
 unfoldable pub yearly_reading : List ℕ → WhichYearly
 yearly_reading text =

@@ -1,4 +1,6 @@
 // The Gregorian calendar from 1 January 2000, which is day 0, to 31 December 2399 (document 02, W-203). Knows no plan.
+#![tactic(auto)]
+
 mod listing;
 mod month;
 mod text;

@@ -30,7 +30,7 @@ fn fits_at(c: u8, b: u8) -> bool
 // Whether a text has a form.
 pub fn fits(form: &[u8], text: &[u8]) -> bool
     ensures exact { result ≡ fits_form form.now text.now }
-    ensures kept { (form.now ≡ form.now) × (text.now ≡ text.now) }
+    ensures kept { (form.exit.now ≡ form.entry.now) × (text.exit.now ≡ text.entry.now) }
 {
     if form.len() < text.len() {
         return false;
@@ -75,7 +75,7 @@ fn pair_at(text: &[u8], at: usize) -> u32
 // The date that a text writes.
 pub fn date_read(text: &[u8]) -> WhichDate
     ensures exact { result ≡ date_reading text.now }
-    ensures kept { text.now ≡ text.now }
+    ensures kept { text.exit.now ≡ text.entry.now }
 {
     if !fits(b"0000-00-00", text) {
         return WhichDate::Refused {
@@ -101,7 +101,7 @@ pub fn date_read(text: &[u8]) -> WhichDate
 // The month and the day that a text writes.
 pub fn yearly_read(text: &[u8]) -> WhichYearly
     ensures exact { result ≡ yearly_reading text.now }
-    ensures kept { text.now ≡ text.now }
+    ensures kept { text.exit.now ≡ text.entry.now }
 {
     if !fits(b"00-00", text) {
         return WhichYearly::Refused {
@@ -126,7 +126,7 @@ pub fn yearly_read(text: &[u8]) -> WhichYearly
 // The edition that a text writes.
 pub fn edition_read(text: &[u8]) -> WhichEdition
     ensures exact { result ≡ edition_reading text.now }
-    ensures kept { text.now ≡ text.now }
+    ensures kept { text.exit.now ≡ text.entry.now }
 {
     if !fits(b"0", text) {
         return WhichEdition::Refused {
@@ -182,7 +182,7 @@ fn no_number(text: &[u8]) -> bool
 // The day that a text writes in decimal.
 pub fn day_read(text: &[u8]) -> WhichDay
     ensures exact { result ≡ day_reading text.now }
-    ensures kept { text.now ≡ text.now }
+    ensures kept { text.exit.now ≡ text.entry.now }
 {
     let day = digits_number(text);
     if no_number(text) {

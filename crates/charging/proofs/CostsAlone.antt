@@ -1,7 +1,6 @@
 -- Two plans that differ in moving costs alone, and in none that a payer of the run pays, run alike: with the costs forgotten their slots
 -- are the same on each day.
 use Rattle.base.proofs.Prelude.{ℕ, zero, suc, ◌-◌, ◌≡◌, refl, sym, ap, ◌∙◌, subst, ◌≢◌, cond, List, [], ◌∷◌, map, arith, ℕ_discrete, dec_le, ne_eqb, eqb, set, get_or-map}
-use Rattle.days.specs.Days.{day}
 use Rattle.rules.specs.{declared.BatteryString.BatteryString, declared.Plan.Plan, declared.Release.Release, declared.Slot.Slot, Plan.{strings_of, string_at, no_string}, Release.first_unlawful, Demand.moving_cost, Run.{empty_slot, slot_at, with_job, stopped, charged, stop, charge, new_slot, join_from, joined, holder, payer, taken, given, spent, use_of, morning, state_at, use_on, late_at, late_on, history}}
 use Rattle.base.proofs.Lists.{by_bool}
 use Rattle.laws.proofs.{Lawful.LawfulPlan, Slots.slot_at-suc, Steps.{taken_free, taken-kept, taken-over, payer-le}, ReleaseList.str}

@@ -1,5 +1,7 @@
 // Day numbers and lengths, kept apart: a day says when, a length says how long.
 // Day plus length is a day, day minus an earlier day is a length. Nothing here adds two days.
+#![tactic(auto)]
+
 ghost use Rattle.std.specs.Prelude.{◌≡◌, ltb};
 ghost use Rattle.days.specs.Days.{later_of, gap_of};
 

@@ -31,7 +31,8 @@ module _ (p : Plan) where
   judged-apart (some q) k m = refl
 
   verdict_over-apart :
-      (qs rs : List Pair) → first_broken p qs ≡ first_broken p rs → apart_from_pairs (verdict_over p qs) ≡ apart_from_pairs (verdict_over p rs)
+      (qs rs : List Pair) → first_broken p qs ≡ first_broken p rs → apart_from_pairs (verdict_over p qs)
+      ≡ apart_from_pairs (verdict_over p rs)
   unfolding verdict_over
   verdict_over-apart qs rs same =
       by_bool (overloaded p)

@@ -34,7 +34,8 @@ module _ (p : Plan) where
   each-of-row : (P : Pair → Type 0) (l : ℕ) → All P (pairs_at p l) → (b : ℕ) → b ≤ block_limit p l → P (pair l b)
   unfolding pairs_at
   each-of-row P l h b m =
-      each-of-up_from (λ c. P (pair l c)) 0 (suc (block_limit p l)) (each-of-mapped P (pair l) (up_from 0 (suc (block_limit p l))) h) b zero-le
+      each-of-up_from (λ c. P (pair l c)) 0 (suc (block_limit p l)) (each-of-mapped P (pair l) (up_from 0 (suc (block_limit p l))) h) b
+      zero-le
       (omega arith)
 
   -- the pairs are those with l from 1 to Dmax + H − 1 and b up to the blocking limit

@@ -2,7 +2,7 @@
 -- add at most that many to any count; summed over the strings, H more days add at most the load.
 use Rattle.base.proofs.Prelude.{ℕ, zero, suc, ◌+◌, ◌-◌, ◌*◌, ◌/◌, ◌%◌, ◌≤◌, ◌<◌, ◌≡◌, ap, ◌∙◌, arith, dec_le, div-add-mod', div-lt_iff_lt-mul, add-mul, zero-mul, mul-le-mul_right}
 use native.Mathlib.Nat.{mul_comm}
-use Rattle.rules.specs.{declared.BatteryString.BatteryString, declared.Plan.Plan, Plan.{strings_of, multiple_of, d_max}, Demand.{hold_of, jobs, need, demand, load}}
+use Rattle.rules.specs.{declared.BatteryString.BatteryString, declared.Plan.Plan, Plan.{strings_of, multiple_of}, Demand.{hold_of, jobs, need, demand, load}}
 use Rattle.base.specs.Count.{sum_of}
 use Rattle.base.proofs.{Lists.{All, all_map, sum_of-le, sum_of-eq, sum_of-add}, Order.{all_both, sum_of-zero}}
 use Rattle.laws.proofs.{Jobs.{jobs-short, jobs-from, jobs-zero, jobs-window, jobs-period}, Lawful.{LawfulString, LawfulPlan}, Demand.need-unblocked}

@@ -1,5 +1,5 @@
 -- The X of a plan plays no part in the search, and a lawful set's verdict is that of the plan with the set.
-use Rattle.base.proofs.Prelude.{ℕ, ◌/◌, ◌%◌, ◌≡◌, refl, sym, ap, ◌∙◌, List, [], ◌∷◌}
+use Rattle.base.proofs.Prelude.{ℕ, ◌/◌, ◌≡◌, refl, sym, ap, ◌∙◌, List, [], ◌∷◌}
 use Rattle.base.specs.Count.{first_of}
 use Rattle.faults.specs.declared.Checked.TheVariants.{Lawful}
 use Rattle.rules.specs.{declared.BatteryString.BatteryString, declared.Plan.Plan, declared.AskedAssign.TheVariants.Given, Verdict.{verdict_of, is_pass}, Search.{permit, with_set, set_passes, ordered, assigned, first_passing, search_of}, Refusal.{plan_check, set_check, verdict_answer, set_answer, search_answer}}

@@ -1,7 +1,7 @@
 -- A plan with a permission set: all but X stays, so a lawful plan stays lawful, with the same H.
 --     permitted s x         the string s with permission x
 use Rattle.base.proofs.Prelude.{ℕ, zero, suc, ◌/◌, ◌%◌, ◌≤◌, ◌≡◌, refl, ap, ◌∙◌, fun_ext, Bool, List, [], ◌∷◌, arith, mod-lt, eqb, take}
-use Rattle.rules.specs.{declared.BatteryString.BatteryString, declared.Plan.Plan, Plan.{strings_of, common_multiple, multiple_of, d_max}, Search.{permit, with_set}}
+use Rattle.rules.specs.{declared.BatteryString.BatteryString, declared.Plan.Plan, Plan.{strings_of, common_multiple, multiple_of}, Search.{permit, with_set}}
 use Rattle.base.specs.Count.{sum_of, every, least_from}
 use Rattle.base.proofs.Lists.{All}
 use Rattle.laws.proofs.Lawful.{LawfulString, LawfulPlan, multiple_of-pos, multiple_of-common, multiple_of-least, common_multiple-whole}

@@ -1,6 +1,6 @@
 -- The verdict's definition means what document 01 says: Pass exactly where the plan passes, with all pairs counted; and a Fail
 -- names the first pair, in order of l, then b, that breaks the rule.
-use Rattle.base.proofs.Prelude.{ℕ, ◌+◌, ◌-◌, ◌≤◌, ◌<◌, zero-le, ◌≡◌, refl, sym, ap, ◌∙◌, ◌⊎◌, inl, inr, ◌↔◌, true, false, Option, none, some, arith, dec_le, le_antisymm, length}
+use Rattle.base.proofs.Prelude.{ℕ, ◌+◌, ◌-◌, ◌≤◌, zero-le, ◌≡◌, refl, sym, ap, ◌∙◌, ◌⊎◌, inl, inr, ◌↔◌, true, false, Option, none, some, arith, dec_le, le_antisymm, length}
 use native.Mathlib.Nat.{le_trans}
 use Rattle.days.specs.{Days.days, declared.Length.Length}
 use Rattle.rules.specs.{declared.Plan.Plan, declared.Verdict.TheVariants.{Overload, Fail, Pass}, Plan.{multiple_of, d_max}, Demand.{block_limit, demand, Passes, overloaded}, Verdict.{Pair, all_pairs, broken, first_broken, compared, judged, verdict_of, verdict_over, is_pass}}
@@ -130,7 +130,8 @@ module _ (p : Plan) where
       (first_of-in (broken p) (Within p) (all_pairs p) (pair l b) (all-pairs p (Within p) (λ i c low high limit. (low, high, limit))) h).1
 
   pub fail-not-overloaded : (l b d : Length) (k : ℕ) → verdict_of p ≡ Fail l b d k → overloaded p ≡ false
-  fail-not-overloaded l b d k h = by_bool (overloaded p) (λ t. absurd (no-fail (sym (verdict_over-overload p (all_pairs p) t) ∙ h))) (λ e. e)
+  fail-not-overloaded l b d k h = by_bool (overloaded p) (λ t. absurd (no-fail (sym (verdict_over-overload p (all_pairs p) t) ∙ h)))
+      (λ e. e)
     where
       no-fail : Overload ≡ Fail l b d k → ⊥
       no-fail e =
@@ -189,13 +190,14 @@ module _ (p : Plan) where
 
   -- the verdict is Overload exactly where the plan is overloaded
   pub overload-exactly : (verdict_of p ≡ Overload) ↔ (overloaded p ≡ true)
+  unfolding judged
   overload-exactly = (overload-only, verdict_over-overload p (all_pairs p))
     where
       not-judged : (first : Option Pair) (k : ℕ) → judged p first k ≡ Overload → ⊥
-      not-judged none k h = unfold judged in
+      not-judged none k h =
           let z : ◌≡◌ {A = ℕ} 0 1 = cc in
           omega arith
-      not-judged (some q) k h = unfold judged in
+      not-judged (some q) k h =
           let z : ◌≡◌ {A = ℕ} 0 1 = cc in
           omega arith
 

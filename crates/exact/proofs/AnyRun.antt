@@ -16,7 +16,8 @@ module _ (p : Plan) (n : ℕ) where
 
   pub verdict-run : verdict_of (with_run p n) ≡ verdict_of p
   unfolding
-      verdict_over overloaded load multiple_of all_pairs pairs_at block_limit leeway_min d_max blocker_hold broken demand need hold_of moving_cost
+      verdict_over overloaded load multiple_of all_pairs pairs_at block_limit leeway_min d_max blocker_hold broken demand need hold_of
+      moving_cost
   verdict-run =
       let qs = all_pairs p in
       ap (λ v. cond (overloaded p) Overload v)

@@ -1,7 +1,7 @@
 -- Where the sharp rule with free moving breaks, a lawful release list misses in the plan as it stands, late days or not. So where moving is
 -- free the sharp rule is exact: a plan passes sharply exactly if no lawful release list misses, whatever the length of the run.
 use Rattle.base.proofs.Prelude.{ℕ, ◌+◌, ◌-◌, ◌≤◌, ◌<◌, zero-le, ◌≡◌, refl, subst, ap, ◌∙◌, ◌↔◌, false, cond, eqb, arith, dec_le, length, get_or}
-use Rattle.rules.specs.{declared.Plan.Plan, declared.Verdict.TheVariants.Overload, Plan.{strings_of, string_at, no_string, multiple_of, with_run, d_max}, Demand.{moving_cost, hold_of, need, demand, Passes, overloaded}, Verdict.verdict_of}
+use Rattle.rules.specs.{declared.Plan.Plan, declared.Verdict.TheVariants.Overload, Plan.{strings_of, string_at, no_string, multiple_of, with_run}, Demand.{moving_cost, hold_of, need, demand, Passes, overloaded}, Verdict.verdict_of}
 use Rattle.base.specs.Count.{sum_of, up_from}
 use Rattle.base.proofs.{Lists.{by_bool, all_map, largest-le}, Adding.sum_of-places}
 use Rattle.laws.specs.Lawful.{LawfulPlan, LawfulString}

@@ -145,7 +145,8 @@ module _ (p : Plan) (rs : List Release) (lawful : LawfulPlan p) (listed : first_
         where
           go : Arrival p rs t j (at ss j) (at js j) → at js j ≡ at ss j
           go (arrived m h there day empty is) =
-              let first : (get_or rs m no_release).day.0 ≡ z = ap (λ i. (get_or rs i no_release).day.0) (own_first m h there) ∙ led.day-is in
+              let first : (get_or rs m no_release).day.0 ≡ z = ap (λ i. (get_or rs i no_release).day.0) (own_first m h there)
+              ∙ led.day-is in
               absurd (omega arith)
           go (stayed none is) = is
 

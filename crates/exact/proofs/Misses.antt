@@ -1,7 +1,7 @@
 -- The list misses: its jobs need more days by the interval's end than there are. No word of the policy is used beyond this, that nobody
 -- takes the bank from the job that blocks.
 use Rattle.base.proofs.Prelude.{ℕ, zero, suc, ◌+◌, ◌-◌, ◌≤◌, ◌<◌, ◌≡◌, refl, sym, ap, ◌∙◌, ◌≢◌, List, ◌∷◌, arith, dec_le, ℕ_discrete, le_of_suc-le-suc, add-one, length, get_or}
-use Rattle.days.specs.Days.{day, days}
+use Rattle.days.specs.Days.{days}
 use Rattle.rules.specs.{declared.Plan.Plan, declared.Release.Release, Plan.string_at, Release.{no_release, first_unlawful}, Run.{history, late_on, miss_day}}
 use Rattle.base.specs.Count.{count_of}
 use Rattle.base.proofs.Lists.{all-at}
@@ -14,7 +14,8 @@ use Rattle.exact.proofs.{Freely.delay_of-taker, Asking.list-needs, Listed.{Block
 
 module _ (p : Plan) (l b q : ℕ) where
   other_at : (i : ℕ) → i < length (others p l b q) → ComesBehind p l b q (get_or (others p l b q) i no_release)
-  other_at i h = all-at (ComesBehind p l b q) (others p l b q) no_release (others-all p (blocker_release p b q) (interval_start p b) b l) i h
+  other_at i h = all-at (ComesBehind p l b q) (others p l b q) no_release (others-all p (blocker_release p b q) (interval_start p b) b l)
+      i h
 
   list-free : b ≡ 0 → missing p l b q ≡ others p l b q
   unfolding missing
@@ -130,7 +131,8 @@ module _ (p : Plan) (l b q : ℕ) (ok : LawfulPlan p) (blocks : 1 ≤ b → Bloc
     none_before : (m : ℕ) → m < length list → count_of (works_for (suc m)) (history p list (most_late p)) ≡ 0
     none_before m h =
         let number : suc m - 1 ≡ m = omega arith in
-        (untouched p list ok listed (suc m) (most_late p) (omega arith) h (λ i k. so_far i (omega arith)) (rw number (late-enough m h))).work
+        (untouched p list ok listed (suc m) (most_late p) (omega arith) h (λ i k. so_far i (omega arith))
+        (rw number (late-enough m h))).work
 
     enough-days : demand_but (freely p) l b q ≤ l
     enough-days =

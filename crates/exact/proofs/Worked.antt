@@ -63,9 +63,11 @@ lists = refl
 
 runs : map (λ r. outcome_says (run_of r.plan r.list)) table ≡ map (λ r. r.said) table
 unfolding
-    tight_plan full mixed opening_late late_and_full row table string paying opening plan_of plan release release_due two least_from permit with_set
+    tight_plan full mixed opening_late late_and_full row table string paying opening plan_of plan release release_due two least_from
+    permit with_set
     moving_cost
-    chosen late_at new_slot join_from joined holder payer taken next_up given use_of spent morning state_at use_on late_on history days_of miss_day
+    chosen late_at new_slot join_from joined holder payer taken next_up given use_of spent morning state_at use_on late_on history days_of
+    miss_day
     run_of
 runs = refl
 
@@ -90,7 +92,8 @@ spared-lawful = plan_check-lawful spared refl
 
 spared-light : overloaded spared ≡ false
 unfolding
-    spared string paying opening plan_of plan up_from least_from every sum_of common_multiple multiple_of moving_cost hold_of load overloaded
+    spared string paying opening plan_of plan up_from least_from every sum_of common_multiple multiple_of moving_cost hold_of load
+    overloaded
 spared-light = refl
 
 -- the intervals up to Dmax + H − 1, with no blocking, and those shorter than the second string's D, with that string blocking for a day

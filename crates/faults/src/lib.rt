@@ -1,4 +1,6 @@
 // Why something is refused, and where. Below the plan: whatever is checked is refused in these words.
+#![tactic(auto)]
+
 ghost use Rattle.std.specs.Prelude.{◌≡◌};
 ghost use Rattle.faults.specs.Checks.{fault_number};
 

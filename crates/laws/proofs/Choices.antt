@@ -1,5 +1,5 @@
 -- Who is late, who holds the bank, who pays and who is next, by place.
-use Rattle.base.proofs.Prelude.{ℕ, ◌-◌, ◌≤◌, ◌<◌, ◌≡◌, refl, sym, ◌∙◌, ◌⊎◌, inl, inr, ◌≢◌, true, false, ◌&&◌, List, arith, lt-ltb, le-ltb, ltb-true, ltb-false, eqb-true, eq-eqb, ltb, eqb, length}
+use Rattle.base.proofs.Prelude.{ℕ, ◌≤◌, ◌<◌, ◌≡◌, refl, sym, ◌∙◌, ◌⊎◌, inl, inr, ◌≢◌, true, false, ◌&&◌, List, arith, lt-ltb, le-ltb, ltb-true, ltb-false, eqb-true, eq-eqb, ltb, eqb, length}
 use Rattle.rules.specs.{declared.Slot.Slot, Run.{slot_at, none_ahead, on_bank, waits, left, late_slot, late_at, holder, may_take, due_before, payer, goes_first, next_up}}
 use Rattle.base.proofs.Lists.{by_bool, true-not-false, and_left, and_right, and_both}
 use Rattle.laws.proofs.{Slots.at, Choice.{Choice, Order, chosen-choice}}

@@ -115,6 +115,7 @@ module _ (v : Version) where
   text-read text h = rw (reading-checked v (text_check v text) (lines_of text) h) (lines-read (lines_of text) (lines-checked v text h))
 
 -- a text that is read: its plan and its releases are lawful by numbers too
-pub read-lawful : (text : List ℕ) → (reading_of text).checked ≡ Lawful → run_check (reading_of text).plan (reading_of text).releases ≡ Lawful
+pub read-lawful : (text : List ℕ) → (reading_of text).checked ≡ Lawful → run_check (reading_of text).plan (reading_of text).releases
+    ≡ Lawful
 unfolding reading_of
 read-lawful text h = text-read (version_of (lines_of text)) text h

@@ -7,7 +7,7 @@ use Rattle.base.proofs.Prelude.{ℕ, zero, suc, ◌+◌, ◌≤◌, ◌<◌, ◌
 use Rattle.base.proofs.Lists.{true-not-false}
 use Rattle.faults.specs.{declared.Fault.Fault, declared.Fault.TheVariants.{TextTooLong, LineMalformed, FrameWrong, StringCount, OutOfBounds, MultipleOver, ReleaseTooMany, ReleaseUnlawful}, declared.Checked.Checked, declared.Checked.TheVariants.{Lawful, Refused}, Checks.{fault_number, then, refuse_if, in_bounds}}
 use Rattle.faults.proofs.{Checks.refused-not-lawful, Refusing.{Refusals, refusals-then, refusals-if, refusals-map}}
-use Rattle.rules.specs.{declared.BatteryString.BatteryString, declared.Plan.Plan, declared.Release.Release, declared.Releases.Releases, Plan.{strings_of, cost_lawful, string_lawful, multiple_of}, Release.{releases_of, release_lawful, first_unlawful}, Refusal.{count_check, run_length_check, head_check, cost_check, string_check, multiple_check, many_check, strings_check, plan_check, releases_check, run_check}, Layout.{Layout, Version, frame_size, kind_in, header_frame, string_frame, release_frame, Number}, Text.{Line, lines_of, well_formed, frame_of, field_of, n_in, run_in, a_in, string_of, release_of, plan_in, frame_check, layout_check, version_check, header_check, string_line_check, string_lines_check, release_line_check, release_lines_check, body_check, lines_check, text_check, lawful_reading, reading_in, version_of, reading_of}, Said.{Said, lawful, refused, checked_says}}
+use Rattle.rules.specs.{declared.BatteryString.BatteryString, declared.Plan.Plan, declared.Release.Release, declared.Releases.Releases, Plan.{strings_of, cost_lawful, string_lawful, multiple_of}, Release.{releases_of, release_lawful, first_unlawful}, Refusal.{count_check, run_length_check, head_check, cost_check, string_check, multiple_check, many_check, strings_check, plan_check, releases_check, run_check}, Layout.{Layout, Version, frame_size, kind_in, header_frame, string_frame, release_frame, Number}, Text.{Line, lines_of, well_formed, frame_of, field_of, n_in, run_in, a_in, string_of, release_of, plan_in, frame_check, layout_check, version_check, header_check, string_line_check, string_lines_check, release_line_check, release_lines_check, body_check, lines_check, text_check, lawful_reading, reading_in, version_of, reading_of}, Said.{lawful, refused, checked_says}}
 
 -- ---- What a chain says
 
@@ -65,7 +65,8 @@ module _ (P : Fault → ℕ → Type 0) where
   unfolding strings_check
   strings-refuse k [] h = tt
   strings-refuse k (s ∷ ss) h =
-      refusals-then P (string_check k s) (strings_check (suc k) ss) (refusals-if P (not (string_lawful s)) OutOfBounds k (h k (omega arith)))
+      refusals-then P (string_check k s) (strings_check (suc k) ss) (refusals-if P (not (string_lawful s)) OutOfBounds k
+      (h k (omega arith)))
       (strings-refuse (suc k) ss (λ i low. h i (omega arith)))
 
   head-refuses : (at n run : ℕ) → P StringCount at → P OutOfBounds at → Refusals P (head_check at n run)

@@ -16,7 +16,8 @@ pub releases_check-bad : (p : Plan) (rs : Releases) (k : ℕ) → rs.count ≤ 1
 unfolding releases_check
 releases_check-bad p rs k h e low = rw (le-ltb 1000 rs.count h, e, lt-ltb 0 k low)
 
-pub releases_check-good : (p : Plan) (rs : Releases) → rs.count ≤ 1000 → first_unlawful p (releases_of rs) ≡ 0 → releases_check p rs ≡ Lawful
+pub releases_check-good : (p : Plan) (rs : Releases) → rs.count ≤ 1000 → first_unlawful p (releases_of rs) ≡ 0 → releases_check p rs
+    ≡ Lawful
 unfolding releases_check
 releases_check-good p rs h e = rw (le-ltb 1000 rs.count h, e)
 

@@ -116,7 +116,8 @@ lines-checked v text h =
     then-second (refuse_if (ltb 65536 (length text)) TextTooLong 0) (lines_check v (lines_of text))
     (reading-checked v (text_check v text) (lines_of text) h)
 
-pub reading-plan : (v : Version) (text : List ℕ) → (reading_in v text).checked ≡ Lawful → (reading_in v text).plan ≡ plan_in v (lines_of text)
+pub reading-plan : (v : Version) (text : List ℕ) → (reading_in v text).checked ≡ Lawful → (reading_in v text).plan
+    ≡ plan_in v (lines_of text)
 unfolding reading_in lawful_reading
 reading-plan v text h = rw (reading-checked v (text_check v text) (lines_of text) h)
 

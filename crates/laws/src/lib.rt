@@ -1,1 +1,2 @@
 // No code: the laws of the definitions, which code and theorems cite. See proofs/.
+#![tactic(auto)]

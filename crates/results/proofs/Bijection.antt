@@ -28,7 +28,11 @@ permuted-partnered xs ys r =
   where
     enough : (i : ℕ) → i < length xs → rank (like_at xs i) xs i < count_of (like_at xs i) ys
     enough i inside =
-        omega (arith, rank_below (like_at xs i) xs no_string i inside (alike_self (get_or xs i no_string)), count_of-permuted (like_at xs i) r)
+        omega (
+          arith,
+          rank_below (like_at xs i) xs no_string i inside (alike_self (get_or xs i no_string)),
+          count_of-permuted (like_at xs i) r,
+        )
 
     some : (i : ℕ) → (j : ℕ) × (partner xs ys (suc i) ≡ suc j) × Partnered xs ys i j → partner xs ys (suc i) ≡ 0 → ⊥
     some i partner-found none = omega (arith, partner-found.1, none)

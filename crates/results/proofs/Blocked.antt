@@ -1,6 +1,6 @@
 -- The blocking that an eased plan allows. With it the strings ask for no more than before. If the old plan did not allow it, then a string
 -- whose D grew past the interval allows it now; with no blocking the old plan asked for that string's E, and for all that the others ask.
-use Rattle.base.proofs.Prelude.{ℕ, ◌+◌, ◌≤◌, ◌<◌, List, ◌≡◌, arith, dec_le, le_refl, length}
+use Rattle.base.proofs.Prelude.{ℕ, ◌+◌, ◌≤◌, ◌<◌, List, arith, dec_le, le_refl, length}
 use Rattle.rules.specs.{declared.BatteryString.BatteryString, declared.Plan.Plan, Plan.{strings_of, no_string, leeway, leeway_min, d_max}, Demand.{blocker_hold, block_limit, need}}
 use Rattle.base.specs.Count.{sum_of, largest, smallest}
 use Rattle.base.proofs.Lists.{All, all_map, sum_of-le, largest-ge, largest-le, largest-some, smallest-le, smallest-above}

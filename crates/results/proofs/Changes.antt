@@ -38,7 +38,8 @@ dropped-at (s ∷ ss) (suc i) = eased (same_string s) (dropped-at ss i)
 
 module _ (p q : Plan) (i : ℕ) where
   -- q is p with the string at place i + 1 eased
-  pub one-eased : (new : BatteryString) → Eased (get_or (strings_of p) i no_string) new → strings_of q ≡ set (strings_of p) i new → EasedPlan p q
+  pub one-eased : (new : BatteryString) → Eased (get_or (strings_of p) i no_string) new → strings_of q ≡ set (strings_of p) i new
+      → EasedPlan p q
   one-eased new easier changed = rw changed (eased-at (strings_of p) i no_string new easier)
 
   -- q is p without it

@@ -2,7 +2,7 @@
 -- a common multiple of the periods that are left. And a permission set goes along: the strings behind the dropped one move up a place, and
 -- so do their binary digits.
 --     carried easier m      the set under which each string that is left has the permission that the set m gave it
-use Rattle.base.proofs.Prelude.{ℕ, zero, suc, ◌+◌, ◌-◌, ◌*◌, ◌/◌, ◌%◌, ◌^◌, ◌≤◌, ◌<◌, ◌≡◌, refl, sym, ap, ◌∙◌, Bool, true, false, List, [], ◌∷◌, ◌++◌, arith, dec_le, add-one, length, take, drop, length-take, eqb}
+use Rattle.base.proofs.Prelude.{ℕ, zero, suc, ◌+◌, ◌-◌, ◌*◌, ◌/◌, ◌%◌, ◌^◌, ◌≤◌, ◌<◌, ◌≡◌, refl, sym, ap, ◌∙◌, Bool, true, List, [], ◌∷◌, ◌++◌, arith, dec_le, length, take, drop, length-take, eqb}
 use lib.Pow.{pow_mono}
 use Rattle.base.specs.Count.{All}
 use Rattle.base.proofs.Lists.{true-not-false, all-of-every, every-of-all}
@@ -11,7 +11,7 @@ use Rattle.faults.specs.declared.Checked.TheVariants.{Lawful}
 use Rattle.laws.proofs.{Lawful.{LawfulString, LawfulPlan, plan_check-lawful, multiple_of-pos, multiple_of-common, multiple_of-least, common_multiple-whole}, LawfulChecked.lawful-checked}
 use Rattle.demand.proofs.Sets.{permitted, with_set-strings}
 use Rattle.results.specs.{Easing.{Eased, EasedStrings, end, eased, dropped, EasedPlan}, Change.Dropped}
-use Rattle.results.proofs.{Changes.one-dropped, Moving.{lowest, higher, joined-below, joined-permit, permit-first, digit-le}}
+use Rattle.results.proofs.{Changes.one-dropped, Moving.{joined-below, joined-permit, digit-le}}
 
 -- ---- What is left is lawful
 

@@ -1,14 +1,13 @@
 -- Partners: a string and its partner are alike, and as many of their likes stand ahead of the one as of the other. That is said of both in
 -- the same way, so the partner's partner is the string itself, and no two strings have one partner.
 --     Partnered xs ys i j   the string at i of xs and the one at j of ys are partners; both counted from 0
-use Rattle.base.proofs.Prelude.{ℕ, zero, suc, ◌+◌, ◌-◌, ◌≤◌, ◌<◌, ◌≡◌, refl, sym, ap, ◌∙◌, ◌↔◌, Bool, true, false, ◌&&◌, List, arith, dec_le, eqb-true, eq-eqb, eqb, length, get_or, take}
-use mathlib.Core.Path.{ap₂}
+use Rattle.base.proofs.Prelude.{ℕ, suc, ◌+◌, ◌-◌, ◌≤◌, ◌<◌, ◌≡◌, refl, sym, ap, ◌∙◌, Bool, true, false, ◌&&◌, List, arith, dec_le, eqb-true, eq-eqb, eqb, length, get_or}
 use Rattle.days.specs.Days.{days}
 use Rattle.base.specs.Count.{count_of}
 use Rattle.base.proofs.Lists.{by_bool, and_left, and_right}
 use Rattle.rules.specs.{declared.BatteryString.BatteryString, Plan.no_string}
 use Rattle.results.specs.{Places.string_in, Partners.{alike, places_like, likes_ahead, partner}}
-use Rattle.results.proofs.Ranks.{rank, places_like_from, Ranked, ranked, rank-one, rank_step, rank_below, places_from-past, kept-places}
+use Rattle.results.proofs.Ranks.{rank, places_like_from, ranked, rank-one, rank_below, places_from-past, kept-places}
 
 -- ---- Alike is equal
 

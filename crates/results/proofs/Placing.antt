@@ -2,7 +2,7 @@
 -- them is taken out of the other list, and the places behind it move up by one.
 --     without i ys          ys without its i-th element, from 0
 --     moved_up i j           the place j of ys, in `without i ys`
-use Rattle.base.proofs.Prelude.{ℕ, zero, suc, ◌-◌, ◌≤◌, ◌<◌, ◌≡◌, refl, sym, ap, ◌∙◌, cond, List, [], ◌∷◌, arith, dec_le, not-suc-le-zero, le_of_suc-le-suc, lt-ltb, le-ltb, ltb, length, get_or}
+use Rattle.base.proofs.Prelude.{ℕ, zero, suc, ◌-◌, ◌≤◌, ◌<◌, ◌≡◌, refl, ap, ◌∙◌, cond, List, [], ◌∷◌, arith, dec_le, not-suc-le-zero, le_of_suc-le-suc, lt-ltb, le-ltb, ltb, length, get_or}
 use Rattle.results.specs.Order.{Permuted, same, skip, swap, chain}
 
 abbrev moved_up : ℕ → ℕ → ℕ

@@ -2,8 +2,7 @@
 -- below the count of all is the rank of one.
 --     rank xs i             how many of the first i of xs pass
 --     places_like_from k ys       the places of those of ys that pass, where the first of ys stands at place k
-use Rattle.base.proofs.Prelude.{ℕ, zero, suc, ◌+◌, ◌-◌, ◌≤◌, ◌<◌, zero-le, ◌≡◌, refl, sym, ap, ◌∙◌, Bool, true, false, cond, List, [], ◌∷◌, arith, dec_le, not-suc-le-zero, le_of_suc-le-suc, length, get_or, take}
-use mathlib.Core.Path.{ap₂}
+use Rattle.base.proofs.Prelude.{ℕ, zero, suc, ◌+◌, ◌≤◌, ◌<◌, zero-le, ◌≡◌, refl, ap, ◌∙◌, Bool, true, false, cond, List, [], ◌∷◌, arith, dec_le, not-suc-le-zero, le_of_suc-le-suc, length, get_or, take}
 use Rattle.base.specs.Count.{count_of, keep, up_from}
 use Rattle.base.proofs.Lists.{by_bool}
 

@@ -1,6 +1,6 @@
 -- What a rule says of a lawful plan that is not overloaded: it is looked at up to Dmax + H − 1, and that decides every interval, since from
 -- the largest D on nothing blocks, whatever the blocker.
-use Rattle.base.proofs.Prelude.{ℕ, suc, ◌+◌, ◌-◌, ◌≤◌, ◌≡◌, refl, sym, ◌∙◌, Bool, true, false, cond, arith, le-ltb, le-leb, leb-true, leb}
+use Rattle.base.proofs.Prelude.{ℕ, suc, ◌+◌, ◌-◌, ◌≤◌, ◌≡◌, sym, ◌∙◌, Bool, true, false, cond, arith, le-ltb, le-leb, leb-true, leb}
 use Rattle.rules.specs.{declared.Plan.Plan, Plan.{multiple_of, leeway_min, d_max}, Demand.{demand, overloaded}}
 use Rattle.base.specs.Count.{every, up_from}
 use Rattle.base.proofs.{Lists.{by_bool, true-not-false, all-of-every, every-of-all}, Order.{all-up_from, each-of-up_from}}

@@ -1,6 +1,6 @@
 -- The refusal of a plan in another order: both plans are within their bounds, or both are refused by one number. The place named may
 -- differ: the string outside its bounds stands elsewhere.
-use Rattle.base.proofs.Prelude.{ℕ, suc, ◌≡◌, refl, sym, ap, ◌∙◌, Bool, true, false, List, [], ◌∷◌, ltb}
+use Rattle.base.proofs.Prelude.{ℕ, suc, ◌≡◌, refl, sym, ap, ◌∙◌, true, false, List, [], ◌∷◌, ltb}
 use mathlib.Core.Path.{ap₂}
 use Rattle.faults.specs.{declared.Fault.TheVariants.{OutOfBounds, MultipleOver}, declared.Checked.Checked, declared.Checked.TheVariants.{Lawful, Refused}, Checks.{then, refuse_if}}
 use Rattle.days.specs.declared.Length.{Length}

@@ -153,7 +153,8 @@ module _ (p q : Plan) (r : Reordered p q) where
 
     pub same-break-answer : break_answer q ≡ break_answer p
     same-break-answer =
-        let found : first_broken q (all_pairs q) ≡ first_broken p (all_pairs p) = ap (first_broken q) same-pairs ∙ same_first (all_pairs p) in
+        let found : first_broken q (all_pairs q) ≡ first_broken p (all_pairs p) = ap (first_broken q) same-pairs
+        ∙ same_first (all_pairs p) in
         break-lawful q also ∙ ap (λ b. asked-broken.Given (broken_at b)) found ∙ sym (break-lawful p ok)
 
     pub same-quick-answer : quick_answer q ≡ quick_answer p

@@ -80,7 +80,8 @@ unfolding
     string_lawful common_multiple multiple_of leeway_min d_max moving_cost hold_of jobs need demand load overloaded permit with_set
     work hold_less days_by limit_by keeps_at keeps ruling
     too_close out_of_order release_lawful unlawful_from first_unlawful
-    chosen late_at new_slot join_from joined holder payer taken next_up given use_of spent morning state_at use_on late_on history days_of miss_day
+    chosen late_at new_slot join_from joined holder payer taken next_up given use_of spent morning state_at use_on late_on history days_of
+    miss_day
     run_of count_check run_length_check strings_check multiple_check plan_check releases_check run_check run_answer
 computed = refl
 

@@ -3,7 +3,7 @@ use Rattle.base.proofs.Prelude.{ℕ, zero, suc, ◌+◌, ◌-◌, ◌≤◌, ◌
 use Rattle.base.specs.Count.{up_from}
 use Rattle.rules.specs.{declared.BatteryString.BatteryString, Plan.no_string}
 use Rattle.results.specs.{Order.Permuted, Places.{string_in, Place, place_given, TakesTo, SmallestTo}, Partners.{alike, partner, partners}}
-use Rattle.results.proofs.{Ranks.{rank, rank_mono, rank-whole, rank_rises, Ranked, ranked}, Placing.{Placed, placed-permuted}, Partners.{like_at, Partnered, partner-of, alike_same, alike_self}, Bijection.{string_in-suc, EachPartnered, permuted-partnered, partner-found, partnered-permuted, partner-back, partner-place, partner-same}}
+use Rattle.results.proofs.{Ranks.{rank, rank_mono, rank-whole, rank_rises, ranked}, Placing.{Placed, placed-permuted}, Partners.{like_at, Partnered, partner-of, alike_same, alike_self}, Bijection.{string_in-suc, EachPartnered, permuted-partnered, partner-found, partnered-permuted, partner-back, partner-place, partner-same}}
 
 -- what is made of the numbers from k on, by place
 mapped_at : (f : ℕ → ℕ) (k n i : ℕ) → i < n → get_or (map f (up_from k n)) i 0 ≡ f (k + i)
@@ -125,7 +125,8 @@ module _ (xs ys : List BatteryString) (all : EachPartnered xs ys) where
       }
 
   smaller : (qs : List ℕ) → TakesTo xs ys qs → (i : ℕ) → Place xs i
-      → ((j : ℕ) → Place xs j → j < i → place_given qs j ≡ place_given (partners xs ys) j) → place_given (partners xs ys) i ≤ place_given qs i
+      → ((j : ℕ) → Place xs j → j < i → place_given qs j ≡ place_given (partners xs ys) j) → place_given (partners xs ys) i
+      ≤ place_given qs i
   unfolding placed-list
   smaller qs t zero at agrees = absurd (omega (arith, at.0))
   smaller qs t (suc i) at agrees =

@@ -185,7 +185,8 @@ module _ (f : BatteryString → ℕ) (blind : (s : BatteryString) (x : ℕ) → 
   permit-smallest m [] = refl
   permit-smallest m (s ∷ ss) = rw (blind s (m % 2), permit-smallest_with (f s) (m / 2) ss)
 
-taker_need-blind : (p : Plan) (m w : ℕ) (s : BatteryString) (x : ℕ) → taker_need (with_set p m) w (permitted s x) ≡ taker_need (with_set p m) w s
+taker_need-blind : (p : Plan) (m w : ℕ) (s : BatteryString) (x : ℕ) → taker_need (with_set p m) w (permitted s x)
+    ≡ taker_need (with_set p m) w s
 unfolding taker_need moving_cost jobs
 taker_need-blind p m w s x = refl
 

@@ -55,7 +55,8 @@ unfolding
     pairs_at all_pairs broken first_of compared judged verdict_over is_pass
     permit with_set set_passes sets_of ordered search_of
     too_close out_of_order release_lawful unlawful_from first_unlawful
-    chosen late_at new_slot join_from joined holder payer taken next_up given use_of spent morning state_at use_on late_on history days_of miss_day
+    chosen late_at new_slot join_from joined holder payer taken next_up given use_of spent morning state_at use_on late_on history days_of
+    miss_day
     run_of
     count_check run_length_check cost_check strings_check multiple_check plan_check set_check releases_check run_check
     verdict_answer set_answer search_answer run_answer

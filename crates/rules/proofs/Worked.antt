@@ -1,7 +1,7 @@
 -- Document 01's worked plans, P1 to P10, its sample file, and two runs on which planners go wrong, with the blocking limit of document 02's
 -- W-205; its string on the roof, and its plan file with a moving cost for each string (W-207); strings that open late (W-213): one table,
 -- one statement. Each row is a question and the answer that the page gives. `worked` has antt compute every answer from the definitions.
-use Rattle.base.proofs.Prelude.{ℕ, zero, suc, ◌+◌, ◌/◌, ◌%◌, ◌-◌, min, ◌≡◌, refl, cond, List, [], ◌∷◌, ◌++◌, map, ltb, length}
+use Rattle.base.proofs.Prelude.{ℕ, zero, suc, ◌+◌, ◌/◌, ◌%◌, ◌≡◌, refl, cond, List, [], ◌∷◌, ◌++◌, map, ltb, length}
 use mathlib.Core.List.{flat_map}
 use lib.Count.{ones, ones_in}
 use Rattle.days.specs.Days.{day, days}
@@ -257,14 +257,16 @@ unfolding
     pairs_at all_pairs broken first_of compared judged verdict_over is_pass
     permit with_set set_passes sets_of ordered search_of
     too_close out_of_order release_lawful unlawful_from first_unlawful
-    chosen late_at new_slot join_from joined holder payer taken next_up given use_of spent morning state_at use_on late_on history days_of miss_day
+    chosen late_at new_slot join_from joined holder payer taken next_up given use_of spent morning state_at use_on late_on history days_of
+    miss_day
     run_of
     count_check run_length_check cost_check strings_check multiple_check plan_check set_check releases_check run_check
     set_answer search_answer run_answer
     same_use day_ahead stints_from days_run run_stints stints_numbers
     before lines_of digit_of well_formed hex_bytes frame_of number_on has_field field_among field_in held_to field_of
     n_in run_in a_in cost_of string_of due_in release_of plan_in list_in frame_check version_check header_check
-    string_line_check string_lines_check release_line_check release_lines_check body_check lines_check text_check lawful_reading reading_in version_of
+    string_line_check string_lines_check release_line_check release_lines_check body_check lines_check text_check lawful_reading
+    reading_in version_of
     reading_of
     answers.answered answer_of bytes_of digits_in digits_of decimal worded_in refused_line verdict_line assign_line outcome_line lines_for
 worked = refl

@@ -9,7 +9,7 @@
 --     asked_line v           the one line where a verdict is asked for: the refusal, or the verdict
 --     lines_for a            all that is written for an answer
 --     row_line s             T,C,D,X,moving cost,J of a string, ended by CR LF (document 02, W-210 and W-213)
-use Rattle.std.specs.Prelude.{ℕ, ◌+◌, cond, List, [], ◌∷◌, ◌++◌, map, eqb}
+use Rattle.std.specs.Prelude.{ℕ, cond, List, [], ◌∷◌, ◌++◌, map, eqb}
 use Prim.Native.Char.{code}
 use Prim.Native.String.{String}
 use Prim.Native.String as text

@@ -1,6 +1,8 @@
 // The words of the desk: the plan, its releases, the answers, and the slots of a run.
 // Letters are document 01's: T, C, D, X and A of a string, n and N of a plan. A is each string's own (document 02, W-207), and so is J,
 // its late days (W-213).
+#![tactic(auto)]
+
 ghost use Rattle.std.specs.Prelude.{◌≡◌};
 ghost use Rattle.days.specs.Days.{days};
 ghost use Rattle.rules.specs.Demand.{moving_cost};

@@ -49,7 +49,8 @@ module _ (p : Plan) (rs : List Release) (lawful : LawfulPlan p) (listed : first_
         go (inr c) = stayed c.0 c.1
 
     -- a new job is live
-    new-live : (j m : ℕ) → j < length (strings_of p) → m < length rs → (get_or rs m no_release).place ≡ suc j → (get_or rs m no_release).day.0 ≡ t
+    new-live : (j m : ℕ) → j < length (strings_of p) → m < length rs → (get_or rs m no_release).place ≡ suc j
+        → (get_or rs m no_release).day.0 ≡ t
         → Live p rs (suc t) j (new_slot p (get_or rs m no_release) (suc m))
     new-live j m a h place day =
         let r = get_or rs m no_release in

@@ -4,14 +4,15 @@ use borrow.Author.Tests.{leb-false}
 use Rattle.days.specs.declared.Length.{Length}
 use Rattle.base.proofs.Lists.{by_bool}
 use Rattle.faults.specs.{declared.Fault.Fault, declared.Checked.Checked, declared.Checked.TheVariants.{Lawful, Refused}}
-use Rattle.rules.specs.{declared.Release.Release, declared.Plan.Plan, declared.Releases.Releases, declared.Outcome.Outcome, declared.Outcome.TheVariants.{Miss, Clean}, declared.AskedOutcome.TheVariants.Given, Release.releases_of, Demand.Passes, Refusal.{on_outcome, run_check, run_answer}, Run.{days_of, is_work, is_move, is_idle, miss_day, run_of}}
+use Rattle.rules.specs.{declared.Release.Release, declared.Plan.Plan, declared.Releases.Releases, declared.Outcome.Outcome, declared.Outcome.TheVariants.{Clean}, declared.AskedOutcome.TheVariants.Given, Release.releases_of, Demand.Passes, Refusal.{on_outcome, run_check, run_answer}, Run.{days_of, is_work, is_move, is_idle, miss_day, run_of}}
 use Rattle.rules.specs.declared.AskedOutcome.TheVariants as asked-outcome
 use Rattle.faults.proofs.Checks.{or_refused-lawful}
 use Rattle.laws.proofs.{Releases.run_check-lawful, Answers.run-lawful, History.miss_day-before}
 use Rattle.sound.proofs.Clean.{Punctual, run-clean}
 
 pub never-misses : (p : Plan) (rs : Releases) → run_check p rs ≡ Lawful → Passes p
-    → run_answer p rs ≡ Given (Clean (days_of p (releases_of rs) is_work) (days_of p (releases_of rs) is_move) (days_of p (releases_of rs) is_idle))
+    → run_answer p rs ≡ Given (Clean (days_of p (releases_of rs) is_work) (days_of p (releases_of rs) is_move)
+    (days_of p (releases_of rs) is_idle))
 never-misses p rs h passes =
     let good = run_check-lawful p rs h in
     run-lawful p rs h ∙ ap Given (run-clean p (releases_of rs) good.plan good.none_bad passes)
@@ -64,7 +65,8 @@ module _ (p : Plan) (w m i : Length) where
   answer-clean-days rs h = go (run_check p rs) h
     where
       go : (c : Checked) → on_outcome c (run_of p (releases_of rs)) ≡ Given (Clean w m i)
-          → Clean (days_of p (releases_of rs) is_work) (days_of p (releases_of rs) is_move) (days_of p (releases_of rs) is_idle) ≡ Clean w m i
+          → Clean (days_of p (releases_of rs) is_work) (days_of p (releases_of rs) is_move) (days_of p (releases_of rs) is_idle)
+          ≡ Clean w m i
       go Lawful e = run_of-clean-days (releases_of rs) (cc)
       go (Refused f at) e =
           let z : ◌≡◌ {A = ℕ} 0 1 = cc in

@@ -1,10 +1,10 @@
 -- Each day of work or of moving names the place of its release, which has joined and is not yet due.
-use Rattle.base.proofs.Prelude.{ℕ, suc, ◌+◌, ◌-◌, ◌<◌, ◌≡◌, sym, ap, subst, List, arith, ltb, length, get_or}
+use Rattle.base.proofs.Prelude.{ℕ, suc, ◌-◌, ◌≡◌, sym, ap, subst, List, arith, ltb, get_or}
 use Rattle.rules.specs.{declared.Plan.Plan, declared.Release.Release, declared.Slot.Slot, declared.Job.Job, declared.Job.TheVariants.{Empty, Waiting, OnBank}, declared.Use.Use, Release.{no_release, due_day, first_unlawful}, Run.{seated, given, spent, use_of, used_for, joined, taken, morning, state_at, use_on, late_on}}
 use Rattle.base.proofs.Lists.{by_bool}
-use Rattle.laws.proofs.{Lawful.LawfulPlan, ReleaseList.str, Slots.at}
-use Rattle.sound.specs.Served.{released, due_of, ForRelease, Named}
-use Rattle.sound.proofs.{Using.{Using, idle_day, kept_day, given_day, Used, spent-using}, Orderly.{Live, Orderly, live-if-on, live-if-waits}, Arriving.morning-orderly, Clean.{Punctual, orderly-at}}
+use Rattle.laws.proofs.{Lawful.LawfulPlan, Slots.at}
+use Rattle.sound.specs.Served.{released, ForRelease, Named}
+use Rattle.sound.proofs.{Using.{Using, idle_day, kept_day, given_day, spent-using}, Orderly.{Live, Orderly, live-if-on, live-if-waits}, Arriving.morning-orderly, Clean.{Punctual, orderly-at}}
 
 -- whatever the bank does for a job, it names the job's release
 used-named : (p : Plan) (rs : List Release) (t i k : ℕ) (job : Job) → ForRelease p rs t i k → Named p rs t (used_for i k job)

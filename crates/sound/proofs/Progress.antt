@@ -121,12 +121,14 @@ module _ (p : Plan) (rs : List Release) (m j : ℕ) (place : (get_or rs m no_rel
     this_place : (at ks h).serves ≡ suc m → h ≡ j
     this_place e =
         let there : (get_or rs its no_release).place ≡ suc h = l.released.2 in
-        let same_place : (get_or rs its no_release).place ≡ (get_or rs m no_release).place = ap (λ i. (get_or rs i no_release).place) (its-this e) in
+        let same_place : (get_or rs its no_release).place ≡ (get_or rs m no_release).place =
+        ap (λ i. (get_or rs i no_release).place) (its-this e) in
         omega arith
 
     this-day : (at ks h).serves ≡ suc m → (get_or rs m no_release).day.0 < t
     this-day e =
-        let same-day : (get_or rs its no_release).day.0 ≡ (get_or rs m no_release).day.0 = ap (λ i. (get_or rs i no_release).day.0) (its-this e) in
+        let same-day : (get_or rs its no_release).day.0 ≡ (get_or rs m no_release).day.0 =
+        ap (λ i. (get_or rs i no_release).day.0) (its-this e) in
         omega (arith, l.released.3, l.before)
 
     served-parts : (at ks h).serves ≡ suc m

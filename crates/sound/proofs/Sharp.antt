@@ -1,7 +1,7 @@
 -- A plan that passes passes sharply: what the strings but one ask is at most what all ask, and a blocking that some string can cause is
 -- within the limit, or the interval is too short for any job.
 use Rattle.base.proofs.Prelude.{ℕ, suc, ◌+◌, ◌-◌, ◌*◌, ◌≤◌, ◌<◌, zero-le, ◌≡◌, ap, ◌∙◌, arith, ℕ_discrete, dec_le, zero-mul, eq-eqb, ne_eqb, le_refl, length}
-use Rattle.rules.specs.{declared.Plan.Plan, Plan.{strings_of, string_at, no_string, leeway, leeway_min, d_max}, Demand.{hold_of, jobs, blocker_hold, block_limit, need, demand, Passes}}
+use Rattle.rules.specs.{declared.Plan.Plan, Plan.{strings_of, no_string, leeway, leeway_min, d_max}, Demand.{hold_of, jobs, blocker_hold, block_limit, need, demand, Passes}}
 use Rattle.base.proofs.{Lists.{all-at, largest-ge, smallest-le}, Sums.{sum_to, sum_to-none, sum_to-sum_of}, Adding.sum_of-range}
 use Rattle.laws.proofs.{Jobs.jobs-short, ReleaseList.str, Demand.{need-taker, need-keeper, block_limit-between, blocker_hold-hold}}
 use Rattle.sound.specs.Sharp.{need_but, demand_but, CanBlock, SharplyPasses}

@@ -6,7 +6,7 @@ use Rattle.faults.specs.Checks.{in_bounds}
 use Rattle.rules.specs.{declared.BatteryString.BatteryString, declared.Plan.Plan, declared.Release.Release, declared.Outcome.TheVariants.Clean, Plan.string_at, Release.{too_close, out_of_order, release_lawful, unlawful_from, first_unlawful, due_day}, Demand.Passes, Run.{is_work, is_move, is_idle, days_of, run_of}}
 use Rattle.laws.proofs.Lawful.{LawfulPlan}
 use Rattle.sound.proofs.Clean.{run-clean}
-use Rattle.spacing.specs.Closer.{untimed_string, untimed, Closer}
+use Rattle.spacing.specs.Closer.{untimed_string, Closer}
 use Rattle.spacing.proofs.Untimed.{untimed-at, run-untimed}
 
 -- far enough apart for more days is far enough for fewer

@@ -5,14 +5,14 @@
 --     budget p rs t         the stints that may yet end from day t on
 --     Credit p rs n t       with n releases: what has been and what may be is within 3 n + 1; and within 3 n, unless day t goes on as
 --                           the day before, if no release comes
-use Rattle.base.proofs.Prelude.{ℕ, zero, suc, ◌+◌, ◌-◌, ◌*◌, ◌≤◌, ◌<◌, ◌≡◌, refl, sym, ap, ◌∙◌, ◌⊎◌, inl, inr, Bool, true, false, cond, List, [], ◌∷◌, ◌++◌, map, arith, ℕ_discrete, dec_le, lt-ltb, le-ltb, ltb-true, ltb-false, leb-true, eqb-true, eqb-false, eq-eqb, ne_eqb, le-leb, lt-leb, not-suc-le-zero, le_of_suc-le-suc, ltb, leb, eqb, length, get_or, set, length-set}
+use Rattle.base.proofs.Prelude.{ℕ, zero, suc, ◌+◌, ◌-◌, ◌*◌, ◌≤◌, ◌<◌, ◌≡◌, refl, sym, ap, ◌∙◌, ◌⊎◌, inl, inr, true, false, cond, List, [], ◌∷◌, ◌++◌, map, arith, ℕ_discrete, dec_le, le-ltb, ltb-false, eq-eqb, ne_eqb, le-leb, lt-leb, not-suc-le-zero, le_of_suc-le-suc, ltb, leb, eqb, length, get_or, set, length-set}
 use Rattle.days.specs.{declared.Length.Length, Days.days}
-use Rattle.rules.specs.{declared.BatteryString.BatteryString, declared.Plan.Plan, declared.Release.Release, declared.Job.Job, declared.Job.TheVariants.{Empty, Waiting, OnBank}, declared.Slot.Slot, declared.Use.Use, Plan.strings_of, Demand.moving_cost, Release.no_release, Run.{on_bank, none_ahead, no_slot, slot_at, put_job, with_job, empty_slot, on_or_gone, new_slot, join_from, joined, holder, payer, stopped, charged, stop, taken, next_up, seated, given, use_of, spent_job, spent, morning, state_at, use_on, history}, Stints.stints_from}
+use Rattle.rules.specs.{declared.BatteryString.BatteryString, declared.Plan.Plan, declared.Release.Release, declared.Job.Job, declared.Job.TheVariants.{Empty, Waiting, OnBank}, declared.Slot.Slot, Plan.strings_of, Demand.moving_cost, Run.{on_bank, none_ahead, no_slot, slot_at, put_job, with_job, empty_slot, on_or_gone, new_slot, join_from, joined, holder, payer, stopped, charged, stop, taken, next_up, seated, given, use_of, spent_job, spent, morning, state_at, use_on, history}, Stints.stints_from}
 use Rattle.base.specs.Count.{sum_of, count_of}
 use Rattle.base.proofs.Lists.{by_bool, true-not-false}
 use Rattle.base.proofs.Counts.{count_of-le}
 use Rattle.laws.proofs.{Slots.{slot_at-suc, new_slot-job}, Choice.Choice, Choices.holder-choice, Steps.{taken_free, taken-kept, taken-over, given-held, given-nobody, given-next, spent-free, spent-held, holder-le, payer-le, next_up-le}}
-use Rattle.stretch.specs.Stretch.{day_at, part_days, days_off, morning_on}
+use Rattle.stretch.specs.Stretch.{day_at, part_days, morning_on}
 use Rattle.stretch.proofs.{QuietDay.morning-quiet, Spending.{given-twice, days_off-one, goes_on}, StintJoin.{stints-day, stints-same-day}}
 
 -- ---- A job and a slot

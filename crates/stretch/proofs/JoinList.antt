@@ -35,7 +35,8 @@ module _ (p : Plan) (t : ℕ) where
   -- the release at i is of today and joins
   pub join_from-here : (i : ℕ) (rs : List Release) (ss : List Slot) → i < length rs → day_at rs i ≡ t
       → join_from p t (i + 1) (drop i rs) ss
-      ≡ join_from p t (i + 1 + 1) (drop (i + 1) rs) (set ss ((get_or rs i no_release).place - 1) (new_slot p (get_or rs i no_release) (i + 1)))
+      ≡ join_from p t (i + 1 + 1) (drop (i + 1) rs) (set ss ((get_or rs i no_release).place - 1)
+      (new_slot p (get_or rs i no_release) (i + 1)))
   join_from-here i rs ss room today =
       ap (λ l. join_from p t (i + 1) l ss) (drop-cons rs i no_release room)
       ∙ join_from-first (i + 1) (get_or rs i no_release) (drop (suc i) rs) ss today

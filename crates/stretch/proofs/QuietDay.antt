@@ -1,6 +1,6 @@
 -- A day without a release: every job was released on an earlier day, so nobody may take the bank, and steps 2 and 3 change nothing.
 --     Old t s               s has no job, or was released before day t
-use Rattle.base.proofs.Prelude.{ℕ, zero, suc, ◌≤◌, ◌<◌, ◌≡◌, refl, ap, ◌∙◌, ◌⊎◌, inl, inr, false, List, arith, ℕ_discrete, ne_eqb, length, get_or}
+use Rattle.base.proofs.Prelude.{ℕ, zero, suc, ◌<◌, ◌≡◌, refl, ap, ◌∙◌, ◌⊎◌, inl, inr, false, List, arith, ℕ_discrete, ne_eqb, length, get_or}
 use Rattle.days.specs.declared.Day.{Day}
 use Rattle.rules.specs.{declared.Plan.Plan, declared.Release.Release, declared.Job.Job, declared.Job.TheVariants.Empty, declared.Slot.Slot, Plan.strings_of, Demand.moving_cost, Run.{empty_slot, no_slot, slot_at, put_job, waits, new_slot, joined, holder, may_take, due_before, payer, stopped, charged, taken, seated, given, spent_job, morning, state_at}}
 use Rattle.base.proofs.{Lists.{All, all_map, all_get_d, by_bool}, Order.{all_of, all-mapped}}

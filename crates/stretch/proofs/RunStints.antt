@@ -1,6 +1,6 @@
 -- The stints of a run: each day of it lies in exactly one, with what the bank did on that day; their lengths are its days; neighbours
 -- differ, so that no shorter list says the same; and they are few.
-use Rattle.base.proofs.Prelude.{ℕ, zero, suc, ◌+◌, ◌*◌, ◌≤◌, ◌<◌, ◌≡◌, refl, sym, ap, ◌∙◌, subst, List, [], ◌∷◌, arith, ℕ_discrete, length, get_or}
+use Rattle.base.proofs.Prelude.{ℕ, zero, suc, ◌+◌, ◌*◌, ◌≤◌, ◌<◌, ◌≡◌, ap, ◌∙◌, subst, List, [], ◌∷◌, arith, ℕ_discrete, length, get_or}
 use lib.ListN.{get_or-append}
 use lib.Seq.{get_or_at}
 use Rattle.rules.specs.{declared.Plan.Plan, declared.Release.Release, declared.Use.TheVariants.Idle, declared.Stint.Stint, Run.{use_on, history}, Stints.{stints_from, days_run, run_stints}}

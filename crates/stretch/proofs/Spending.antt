@@ -1,11 +1,11 @@
 -- Days that the job on the bank uses, one after the other: while what it is at is not finished it keeps the bank, each day is used alike,
 -- and a day more is one day more off it.
-use Rattle.base.proofs.Prelude.{ℕ, zero, suc, ◌+◌, ◌-◌, ◌≤◌, ◌<◌, ◌≡◌, refl, sym, ap, ◌∙◌, subst, inl, inr, true, false, Bool, List, arith, ℕ_discrete, eq-eqb, ne_eqb, lt-ltb, ltb-true, ltb-false, le_refl, eqb, ltb, length, set}
+use Rattle.base.proofs.Prelude.{ℕ, zero, suc, ◌+◌, ◌-◌, ◌≤◌, ◌<◌, ◌≡◌, refl, sym, ap, ◌∙◌, inl, inr, true, Bool, List, arith, ℕ_discrete, eq-eqb, ne_eqb, lt-ltb, le_refl, ltb, length, set}
 use lib.Seq.{set-set}
 use Rattle.days.specs.{declared.Length.Length, Days.days}
 use Rattle.rules.specs.{declared.Job.Job, declared.Job.TheVariants.{Empty, Waiting, OnBank}, declared.Slot.Slot, Run.{left, on_bank, waits, goes_first, slot_at, with_job, put_job, none_ahead, chosen, holder, next_up, seated, given, used_for, use_of, on_or_gone, spent_job, spent}}
 use Rattle.base.proofs.Lists.{by_bool, true-not-false}
-use Rattle.laws.proofs.{JobParts.{work_of, moving_of, parts-left, on_or_gone-parts}, Slots.{at, slot_at-suc, change-length, change-same, change-other}, Choice.{One, Choice}, Choices.{holder-choice, next_up-choice}, Steps.{given-held, given-nobody, given-next, use_of-held, use_of-free, spent-free, spent-held}}
+use Rattle.laws.proofs.{JobParts.{parts-left, on_or_gone-parts}, Slots.{at, slot_at-suc, change-length, change-same, change-other}, Choice.{One, Choice}, Choices.{holder-choice, next_up-choice}, Steps.{given-held, given-nobody, given-next, use_of-held, spent-free, spent-held}}
 use Rattle.stretch.specs.Stretch.{part_days, spent_by, days_off}
 
 -- ---- A job alone
@@ -123,7 +123,8 @@ days_off-one ss =
     elim (ℕ_discrete (holder ss) 0) [
       | yes free ↦ spent-free ss free ∙ sym (days_off-free 1 ss free)
       | no held ↦
-          spent-held ss held ∙ ap (with_job ss (holder ss)) (sym (spent_by-one (slot_at ss (holder ss)).job)) ∙ sym (days_off-held 1 ss held)
+          spent-held ss held ∙ ap (with_job ss (holder ss)) (sym (spent_by-one (slot_at ss (holder ss)).job))
+          ∙ sym (days_off-held 1 ss held)
     ]
 
 -- the deadlines stay, and nobody has more left

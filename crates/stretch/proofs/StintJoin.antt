@@ -1,7 +1,7 @@
 -- The stints of two lists of uses one after the other: those of both, with the last of the first and the first of the second joined where
 -- the bank did the same. So a stretch of one use makes the last stint longer, or is one more.
 --     glued xs ys           the stints xs with ys after them, joined where they meet
-use Rattle.base.proofs.Prelude.{ℕ, zero, suc, ◌+◌, ◌≤◌, ◌≡◌, refl, sym, ap, ◌∙◌, Bool, true, false, cond, ◌&&◌, List, [], ◌∷◌, ◌++◌, append_assoc, arith, eqb-true, eq-eqb, eqb, length, replicate, length-replicate}
+use Rattle.base.proofs.Prelude.{ℕ, zero, suc, ◌+◌, ◌≤◌, ◌≡◌, refl, sym, ap, ◌∙◌, true, false, cond, List, [], ◌∷◌, ◌++◌, append_assoc, arith, eqb-true, eq-eqb, eqb, length, replicate, length-replicate}
 use Rattle.rules.specs.{declared.Use.Use, declared.Use.TheVariants.{Idle, Work, Move}, declared.Stint.Stint, Stints.{same_use, stint, day_ahead, stints_from}}
 use Rattle.base.proofs.Lists.{by_bool, true-not-false, and_left, and_right}
 

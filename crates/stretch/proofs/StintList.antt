@@ -4,7 +4,7 @@ use Rattle.base.proofs.Prelude.{ℕ, zero, suc, ◌+◌, ◌-◌, ◌≤◌, ◌
 use mathlib.Core.List.{flat_map}
 use lib.ListN.{get_or-append, get_or-replicate}
 use lib.Seq.{get_or-append-add}
-use Rattle.rules.specs.{declared.Use.Use, declared.Use.TheVariants.Idle, declared.Stint.Stint, Stints.{same_use, stint, day_ahead, stints_from}}
+use Rattle.rules.specs.{declared.Use.Use, declared.Use.TheVariants.Idle, declared.Stint.Stint, Stints.{same_use, day_ahead, stints_from}}
 use Rattle.base.specs.Count.{sum_of}
 use Rattle.base.proofs.Lists.{by_bool, true-not-false}
 use Rattle.stretch.specs.Stints.{spelled, Following, Differing, LiesIn, no_stint, InOne}
@@ -89,7 +89,8 @@ following-since t [] f i h = absurd (not-suc-le-zero h)
 following-since t (s ∷ ss) f zero h = omega (arith, f.0)
 following-since t (s ∷ ss) f (suc i) h = omega (arith, following-since (t + s.length.0) ss f.2 i (le_of_suc-le-suc h))
 
-pub each-day : (t : ℕ) (ss : List Stint) → Following t ss → (d : ℕ) → d < length (spelled ss) → InOne ss (t + d) (get_or (spelled ss) d Idle)
+pub each-day : (t : ℕ) (ss : List Stint) → Following t ss → (d : ℕ) → d < length (spelled ss)
+    → InOne ss (t + d) (get_or (spelled ss) d Idle)
 unfolding spelled flat_map
 each-day t [] f d h = absurd (not-suc-le-zero h)
 each-day t (s ∷ ss) f d h =

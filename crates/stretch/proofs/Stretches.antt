@@ -1,10 +1,10 @@
 -- Between two events of a run: from day to day the slots of the morning lose a day of what the job on the bank is at, the bank does the
 -- same, and nobody is late.
-use Rattle.base.proofs.Prelude.{ℕ, zero, suc, ◌+◌, ◌-◌, ◌≤◌, ◌<◌, max, ◌≡◌, refl, sym, ap, ◌∙◌, List, [], ◌∷◌, ◌++◌, append_assoc, append-nil, arith, dec_le, le_refl, length, replicate}
+use Rattle.base.proofs.Prelude.{ℕ, zero, suc, ◌+◌, ◌≤◌, ◌<◌, ◌≡◌, sym, ap, ◌∙◌, List, [], ◌∷◌, ◌++◌, append_assoc, append-nil, arith, dec_le, le_refl, length, replicate}
 use lib.ListN.{replicate-append-replicate}
-use Rattle.rules.specs.{declared.Plan.Plan, declared.Release.Release, declared.Slot.Slot, declared.Use.Use, Run.{left, late_slot, holder, slot_at, given, taken, joined, use_of, spent, morning, state_at, use_on, late_at, late_on, history}}
+use Rattle.rules.specs.{declared.Plan.Plan, declared.Release.Release, Run.{left, given, taken, joined, use_of, spent, morning, state_at, use_on, late_on, history}}
 use Rattle.laws.proofs.{Slots.at, Choices.late-nobody}
-use Rattle.stretch.specs.Stretch.{day_at, part_days, days_off, morning_on, Stretch}
+use Rattle.stretch.specs.Stretch.{day_at, days_off, morning_on, Stretch}
 use Rattle.stretch.proofs.{QuietDay.morning-quiet, Spending.{given-twice, days_off-one, days_off-at, Goes, goes_on}}
 
 module _ (p : Plan) (rs : List Release) (t k : ℕ) (s : Stretch p rs t k) where

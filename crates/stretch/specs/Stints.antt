@@ -4,7 +4,7 @@
 --     Differing ss          of two stints that follow each other, the bank did another thing in the second
 --     LiesIn t s            day t is one of the days of the stint s
 --     InOne ss t u          day t lies in exactly one stint of ss, and the bank did u in it
-use Rattle.std.specs.Prelude.{ℕ, suc, ◌+◌, ◌≤◌, ◌<◌, ◌≡◌, length, get_or, replicate}
+use Rattle.std.specs.Prelude.{ℕ, ◌+◌, ◌≤◌, ◌<◌, ◌≡◌, length, get_or, replicate}
 use mathlib.Core.List.{List, [], ◌∷◌, flat_map}
 use Rattle.rules.specs.declared.Use.{Use}
 use Rattle.rules.specs.declared.Use.TheVariants.{Idle}

@@ -4,13 +4,13 @@ use Rattle.calendar.specs.Years.{months_with, month_lengths, month_length}
 use Rattle.calendar.proofs.{Existing.{not-existing, exists-by-day}, date_exists.Statement.statement}
 use Rattle.calendar.proofs.date_exists.Tie as tie
 
-returns-6 : tie.Need-returns-6
+returns-6 : tie.Need-returns
 unfolding month_length month_lengths
 returns-6 c =
     let size = c.before in
     let february = size.before in
-    let d = february.before.before.before.before.before.before.before.before.before.before.before.before.args.d in
-    let month = size.month-length.ensures ∙ ap (λ f. get_or (months_with f) (d.month - 1) 0) february.february.ensures in
+    let d = february.args.d in
+    let month = size.month_length.ensures ∙ ap (λ f. get_or (months_with f) (d.month - 1) 0) february.february.ensures in
     ap (leb d.day) month ∙ sym (exists-by-day d (omega arith) (omega arith) (omega arith) (omega arith) (omega arith))
 
 pub date_exists_spec : {M : Type 1} → statement M

@@ -8,15 +8,15 @@ use Rattle.calendar.proofs.number_of.Tie as tie
 there : (c : tie.Start) → Existing c.args.d
 there c = existing c.args.d c.requires
 
-month-start-requires : tie.Need-month-start-requires
+month-start-requires : tie.Need-month_start-requires
 month-start-requires c κs =
     let start = c.before.before.before.before in
     let x = there start in
     ((x.january, x.december), omega (arith, c.february.ensures, february_of-most start.args.d.year))
 
 -- the three parts
-counted : (c : tie.After-month-start) → let d = c.before.before.before.before.before.args.d in
-    c.before.before.year-start.result + c.month-start.result + (d.day - 1) ≡ day_number d
+counted : (c : tie.After-month_start) → let d = c.args.d in
+    c.year_start.result + c.month_start.result + (d.day - 1) ≡ day_number d
 unfolding day_number days_before_month month_lengths
 counted c =
     let february = c.before in
@@ -25,16 +25,16 @@ counted c =
     let x = there start in
     let from = x.from-2000 in
     let same : 2000 + (d.year - 2000) ≡ d.year = omega arith in
-    let year = february.before.year-start.ensures ∙ ap days_before_year same in
-    let month = c.month-start.ensures ∙ ap (λ f. sum_of (λ n. n) (take (d.month - 1) (months_with f))) february.february.ensures in
+    let year = february.year_start.ensures ∙ ap days_before_year same in
+    let month = c.month_start.ensures ∙ ap (λ f. sum_of (λ n. n) (take (d.month - 1) (months_with f))) february.february.ensures in
     omega (arith, year, month)
 
-add-result : tie.Need-overflow-add-result
+add-result : tie.Need-overflow_add-result
 add-result c =
     let start = c.before.before.before.before.before in
     omega (arith, counted c, day_number-last start.args.d (there start))
 
-add-result-2 : tie.Need-overflow-add-result-2
+add-result-2 : tie.Need-overflow_add-result-2
 add-result-2 c =
     let start = c.before.before.before.before.before.before in
     omega (arith, counted c.before, day_number-last start.args.d (there start))

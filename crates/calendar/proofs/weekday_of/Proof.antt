@@ -6,10 +6,10 @@ use Rattle.calendar.proofs.weekday_of.Tie as tie
 pub weekday_of_spec : {M : Type 1} → statement M
 weekday_of_spec =
     tie.close (tie.spec
-    (λ c. weekday_of-place c.before.args.day 0 c.match.keys1)
-    (λ c. weekday_of-place c.before.args.day 1 c.match.keys2)
-    (λ c. weekday_of-place c.before.args.day 2 c.match.keys3)
-    (λ c. weekday_of-place c.before.args.day 3 c.match.keys4)
-    (λ c. weekday_of-place c.before.args.day 4 c.match.keys5)
-    (λ c. weekday_of-place c.before.args.day 5 c.match.keys6)
-    (λ c. weekday_of-place c.before.args.day 6 (omega arith)))
+    (λ c. weekday_of-place c.args.day 0 c.in-0.is)
+    (λ c. weekday_of-place c.args.day 1 c.in-1.is)
+    (λ c. weekday_of-place c.args.day 2 c.in-2.is)
+    (λ c. weekday_of-place c.args.day 3 c.in-3.is)
+    (λ c. weekday_of-place c.args.day 4 c.in-4.is)
+    (λ c. weekday_of-place c.args.day 5 c.in-5.is)
+    (λ c. weekday_of-place c.args.day 6 (omega arith)))

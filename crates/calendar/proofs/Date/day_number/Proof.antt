@@ -5,13 +5,13 @@ use Rattle.calendar.specs.declared.WhichDay.TheVariants.{Is}
 use Rattle.calendar.proofs.{Answers.{day_answer-is, day_answer-refused}, Date.day_number.Statement.statement}
 use Rattle.calendar.proofs.Date.day_number.Tie as tie
 
-returns : tie.Need-returns
+returns : tie.Need-returns-then-date_exists
 returns c =
     let asked = c.before.before in
-    ap (λ k. Is (day k)) c.number_of_lem.ensures ∙ sym (day_answer-is _ (sym asked.date-exists.ensures ∙ c.before.if1.true))
+    ap (λ k. Is (day k)) c.number_of.ensures ∙ sym (day_answer-is _ (sym asked.date_exists.ensures ∙ c.if-date_exists.true))
 
 pub day_number_spec : {M : Type 1} → statement M
 day_number_spec =
     tie.close (tie.spec
-    (λ c κs. search rules) (λ c κs. sym c.before.date-exists.ensures ∙ c.if1.true) returns
-    (λ c. sym (day_answer-refused _ (sym c.before.date-exists.ensures ∙ c.if1.false))))
+    (λ c κs. search rules) (λ c κs. sym c.date_exists.ensures ∙ c.if-date_exists.true) returns
+    (λ c. sym (day_answer-refused _ (sym c.date_exists.ensures ∙ c.if-date_exists.false))))

@@ -8,4 +8,4 @@ pub from_day_spec : {M : Type 1} → statement M
 from_day_spec =
     tie.close (tie.spec
     (λ c. sym (date_answer-refused _ (omega arith))) (λ c κs. search rules)
-    (λ c. ap Is c.date-of.ensures ∙ sym (date_answer-is _ (omega arith))))
+    (λ c. ap Is c.date_of.ensures ∙ sym (date_answer-is _ (omega arith))))

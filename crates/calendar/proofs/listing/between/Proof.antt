@@ -5,25 +5,25 @@ use Rattle.faults.proofs.Checks.{in_bounds-yes, in_bounds-not}
 use Rattle.calendar.proofs.listing.between.Statement.{statement}
 use Rattle.calendar.proofs.listing.between.Tie as tie
 
-returns : tie.Need-returns
+returns : tie.Need-returns-then-day-first
 unfolding keep
 returns c =
-    let g = c.before.args in
-    let over = c.if1.true in
+    let g = c.args in
+    let over = c.if-day-first.true in
     rw (in_bounds-not g.first g.day g.last (λ low high. omega arith))
 
-returns-2 : tie.Need-returns-2
+returns-2 : tie.Need-returns-then-last-day
 unfolding keep
 returns-2 c =
-    let g = c.before.before.args in
-    let over = c.if2.true in
+    let g = c.args in
+    let over = c.if-last-day.true in
     rw (in_bounds-not g.first g.day g.last (λ low high. omega arith))
 
-returns-3 : tie.Need-returns-3
+returns-3 : tie.Need-returns
 unfolding keep
 returns-3 c =
-    let g = c.before.before.args in
-    rw (in_bounds-yes g.first g.day g.last c.before.if1.false c.if2.false)
+    let g = c.args in
+    rw (in_bounds-yes g.first g.day g.last c.if-day-first.false c.if-last-day.false)
 
 pub between_spec : {M : Type 1} → statement M
 between_spec = tie.close (tie.spec returns returns-2 returns-3)

@@ -6,5 +6,5 @@ use Rattle.calendar.proofs.listing.date_in.Tie as tie
 pub date_in_spec : {M : Type 1} → statement M
 date_in_spec =
     tie.close (tie.spec
-    (λ c κs. search rules) (λ c. sym (in_year-moved _ _ _ (sym c.before.moved_in.ensures ∙ c.if1.true)))
-    (λ c. sym (in_year-set _ _ _ (sym c.before.moved_in.ensures ∙ c.if1.false))))
+    (λ c κs. search rules) (λ c. sym (in_year-moved _ _ _ (sym c.moved_in.ensures ∙ c.if-moved_in.true)))
+    (λ c. sym (in_year-set _ _ _ (sym c.moved_in.ensures ∙ c.if-moved_in.false))))

@@ -4,10 +4,10 @@ use Rattle.base.proofs.Lists.{by_bool}
 use Rattle.calendar.proofs.listing.edition_exists.Statement.{statement}
 use Rattle.calendar.proofs.listing.edition_exists.Tie as tie
 
-returns-2 : tie.Need-returns-2
+returns-2 : tie.Need-returns
 returns-2 c =
-    let edition = c.before.args.edition in
-    rw (ne_eqb edition 1 c.if1.false) (by_bool (eqb edition 2) (λ t. rw t) (λ e. rw e))
+    let edition = c.args.edition in
+    rw (ne_eqb edition 1 c.if-edition-eq1.false) (by_bool (eqb edition 2) (λ t. rw t) (λ e. rw e))
 
 pub edition_exists_spec : {M : Type 1} → statement M
-edition_exists_spec = tie.close (tie.spec (λ c. rw (eq-eqb c.before.args.edition 1 c.if1.true)) returns-2)
+edition_exists_spec = tie.close (tie.spec (λ c. rw (eq-eqb c.args.edition 1 c.if-edition-eq1.true)) returns-2)

@@ -7,29 +7,29 @@ use Rattle.calendar.proofs.{YearByYear.{days_in-there, days_in-absent}, listing.
 use Rattle.calendar.proofs.listing.fall_in.Tie as tie
 
 -- what the test says of the date in the year
-tested : (c : tie.After-date-exists) → let g = c.before.before.before.args in
-    c.date-exists.result ≡ date_exists (in_year g.edition g.on (2000 + g.k))
-tested c = c.date-exists.ensures ∙ ap date_exists c.before.date-in.ensures
+tested : (c : tie.After-date_exists) → let g = c.args in
+    c.date_exists.result ≡ date_exists (in_year g.edition g.on (2000 + g.k))
+tested c = c.date_exists.ensures ∙ ap date_exists c.date_in-date.ensures
 
-returns : tie.Need-returns
+returns : tie.Need-returns-then-date_exists
 returns c =
     let counted = c.before in
     let then = counted.before in
     let asked = then.before in
-    let g = asked.before.before.before.args in
+    let g = asked.args in
     c.between.ensures
     ∙ ap (λ day. keep (λ k. in_bounds g.first k g.last) (day ∷ []))
-    (counted.number_of_lem.ensures ∙ ap day_number asked.before.date-in.ensures)
-    ∙ sym (days_in-there g.edition g.on g.first g.last (2000 + g.k) (sym (tested asked) ∙ then.if1.true))
+    (counted.number_of.ensures ∙ ap day_number asked.date_in-date.ensures)
+    ∙ sym (days_in-there g.edition g.on g.first g.last (2000 + g.k) (sym (tested asked) ∙ then.if-date_exists.true))
 
-returns-2 : tie.Need-returns-2
+returns-2 : tie.Need-returns-else-date_exists
 returns-2 c =
     let asked = c.before in
-    let g = asked.before.before.before.args in
-    sym (days_in-absent g.edition g.on g.first g.last (2000 + g.k) (sym (tested asked) ∙ c.if1.false))
+    let g = asked.args in
+    sym (days_in-absent g.edition g.on g.first g.last (2000 + g.k) (sym (tested asked) ∙ c.if-date_exists.false))
 
 pub fall_in_spec : {M : Type 1} → statement M
 fall_in_spec =
     tie.close (tie.spec
     (λ c. search rules) (λ c κs. search rules) (λ c κs. search rules)
-    (λ c κs. sym c.before.date-exists.ensures ∙ c.if1.true) (λ c κs. search rules) returns returns-2)
+    (λ c κs. sym c.date_exists.ensures ∙ c.if-date_exists.true) (λ c κs. search rules) returns returns-2)

@@ -6,7 +6,7 @@ use Rattle.calendar.proofs.listing.falls_on.Tie as tie
 
 returns : tie.Need-returns
 unfolding falls_on
-returns c = c.same-date.ensures ∙ ap (same_date c.before.before.args.d) c.before.date-in.ensures
+returns c = c.same_date.ensures ∙ ap (same_date c.args.d) c.date_in.ensures
 
 pub falls_on_spec : {M : Type 1} → statement M
 falls_on_spec = tie.close (tie.spec (λ c κs. search rules) (λ c κs. search rules) returns)

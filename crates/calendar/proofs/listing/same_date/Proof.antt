@@ -4,17 +4,17 @@ use Rattle.calendar.specs.Yearly.{same_date}
 use Rattle.calendar.proofs.listing.same_date.Statement.{statement}
 use Rattle.calendar.proofs.listing.same_date.Tie as tie
 
-returns : tie.Need-returns
+returns : tie.Need-returns-then-d-e
 unfolding same_date
-returns c = rw (ne_eqb _ _ c.if1.true)
+returns c = rw (ne_eqb _ _ c.if-d-e.true)
 
-returns-2 : tie.Need-returns-2
+returns-2 : tie.Need-returns-then-d-e-2
 unfolding same_date
-returns-2 c = rw (eq-eqb _ _ c.before.before.before.if1.false, ne_eqb _ _ c.if2.true)
+returns-2 c = rw (eq-eqb _ _ c.if-d-e.false, ne_eqb _ _ c.if-d-e-2.true)
 
-returns-3 : tie.Need-returns-3
+returns-3 : tie.Need-returns
 unfolding same_date
-returns-3 c = rw (eq-eqb _ _ c.before.before.before.before.before.if1.false, eq-eqb _ _ c.before.before.if2.false)
+returns-3 c = rw (eq-eqb _ _ c.if-d-e.false, eq-eqb _ _ c.if-d-e-2.false)
 
 pub same_date_spec : {M : Type 1} → statement M
 same_date_spec = tie.close (tie.spec returns returns-2 returns-3)

@@ -5,24 +5,24 @@ use Rattle.calendar.specs.inner.Places.{fall_days}
 use Rattle.calendar.proofs.listing.store.Statement.{statement}
 use Rattle.calendar.proofs.listing.store.Tie as tie
 
-slice-write-list : tie.Need-slice-write-list
+slice-write-list : tie.Need-bounds-list-at
 slice-write-list c =
-    let count = ap (λ f. length (fall_days f)) c.before.fall.given.1 in
+    let count = ap (λ f. length (fall_days f)) c.in-On.is in
     omega (arith, count)
 
-returns : tie.Need-returns
+returns : tie.Need-returns-in-On
 returns c =
-    let start = c.before.before.before in
+    let start = c.before in
     let g = start.args in
-    let count = ap (λ f. length (fall_days f)) c.before.fall.given.1 in
+    let count = ap (λ f. length (fall_days f)) c.in-On.is in
     let room = start.requires in
-    rw c.before.fall.given.1 (refl, rw (add-one g.at) (set_split g.list.now g.at _ (omega arith)))
+    rw c.in-On.is (refl, rw (add-one g.at) (set_split g.list.now g.at _ (omega arith)))
 
-returns-2 : tie.Need-returns-2
+returns-2 : tie.Need-returns-in-Never
 returns-2 c =
-    let g = c.before.before.args in
+    let g = c.args in
     let none : g.at ≡ g.at + 0 = omega arith in
-    rw c.enum_told.given.1 (none, rw (← none) (sym (take-append-drop g.at g.list.now)))
+    rw c.in-Never.is (none, rw (← none) (sym (take-append-drop g.at g.list.now)))
 
 pub store_spec : {M : Type 1} → statement M
 store_spec =

@@ -6,4 +6,4 @@ use Rattle.calendar.proofs.listing.yearly_exists.Tie as tie
 pub yearly_exists_spec : {M : Type 1} → statement M
 yearly_exists_spec =
     tie.close (tie.spec
-    (λ c κs. search rules) (λ c. c.date-exists.ensures ∙ sym (in_no_year-2000 c.before.args.on)))
+    (λ c κs. search rules) (λ c. c.date_exists.ensures ∙ sym (in_no_year-2000 c.args.on)))

@@ -3,15 +3,15 @@ use Rattle.base.proofs.Prelude.{rules}
 use Rattle.calendar.proofs.{Formula.{month-early, month-late}, month.in_month.Statement.statement}
 use Rattle.calendar.proofs.month.in_month.Tie as tie
 
-returns : tie.Need-returns
+returns : tie.Need-returns-then-day-february
 returns c =
-    let g = c.before.before.args in
-    month-early g.february g.day _ _ c.before.before.requires.0 c.before.if1.true c.in-full-month.ensures
+    let g = c.args in
+    month-early g.february g.day _ _ c.requires.0 c.if-day-february.true c.in_full_month.ensures
 
-returns-2 : tie.Need-returns-2
+returns-2 : tie.Need-returns
 returns-2 c =
-    let g = c.before.before.args in
-    month-late g.february g.day _ _ c.before.before.requires.0 c.before.if1.false c.in-full-month2.ensures
+    let g = c.args in
+    month-late g.february g.day _ _ c.requires.0 c.if-day-february.false c.in_full_month-2.ensures
 
 pub in_month_spec : {M : Type 1} → statement M
 in_month_spec =

@@ -8,8 +8,8 @@ returns c =
     let first = c.before in
     let start = first.before.before.before.before in
     let whole = number-two start.args.text.now start.args.at start.requires in (
-      omega (arith, first.worth.ensures.0, c.worth2.ensures.0),
-      omega (arith, first.worth.ensures.1, c.worth2.ensures.1),
+      omega (arith, first.worth.ensures.0, c.worth-2.ensures.0),
+      omega (arith, first.worth.ensures.1, c.worth-2.ensures.1),
     )
 
 pub pair_at_spec : {M : Type 1} → statement M
@@ -17,4 +17,4 @@ pair_at_spec =
     tie.close (tie.spec
     (λ c. search rules) (λ c. search rules) (λ c. search rules) (λ c κs. search rules)
     (λ c. omega (arith, c.worth.ensures.1)) (λ c κs. search rules)
-    (λ c. omega (arith, c.before.worth.ensures.1, c.worth2.ensures.1)) returns)
+    (λ c. omega (arith, c.worth.ensures.1, c.worth-2.ensures.1)) returns)

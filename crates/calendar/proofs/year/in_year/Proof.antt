@@ -3,26 +3,26 @@ use Rattle.base.proofs.Prelude.{suc, ◌-◌, ◌≤◌, ◌≡◌, ap, arith, r
 use Rattle.calendar.proofs.{Years.{year_start, year_start-next, days_before_year-at, year_guess, guess-not-before, guess-least, guess-one-after}, year.in_year.Statement.statement}
 use Rattle.calendar.proofs.year.in_year.Tie as tie
 
-returns : tie.Need-returns
+returns : tie.Need-returns-then-first-day
 returns c =
-    let day = c.before.before.args.day in
+    let day = c.args.day in
     let g = year_guess day in
     let here = days_before_year-at g in
     record { adds = omega arith; within = omega (arith, guess-not-before day, year_start-next g); last = omega arith }
 
-some : (c : tie.Else1) → 1 ≤ year_guess c.before.before.args.day
+some : (c : tie.Else-first-day) → 1 ≤ year_guess c.args.day
 some c =
-    let day = c.before.before.args.day in
+    let day = c.args.day in
     guess-least day (omega (arith, days_before_year-at (year_guess day)))
 
-sub-t9 : tie.Need-overflow-sub-t9
+sub-t9 : tie.Need-overflow_sub-result-3
 sub-t9 c =
-    let day = c.before.before.before.args.day in
+    let day = c.args.day in
     omega (arith, guess-one-after day (some c.before), days_before_year-at (year_guess day - 1))
 
-returns-2 : tie.Need-returns-2
+returns-2 : tie.Need-returns
 returns-2 c =
-    let day = c.before.before.before.args.day in
+    let day = c.args.day in
     let g = year_guess day in
     let least = some c.before in
     let same : suc (g - 1) ≡ g = omega arith in

@@ -4,17 +4,18 @@ use Rattle.rules.specs.Verdict.{is_pass}
 use Rattle.rules.proofs.Verdict.passes.Statement.{statement}
 use Rattle.rules.proofs.Verdict.passes.Tie as tie
 
-returns : tie.Need-returns
+returns-in-Overload : tie.Need-returns-in-Overload
 unfolding is_pass
-returns c = sym (ap is_pass c.enum_told.given.1)
+returns-in-Overload c = sym (ap is_pass c.in-Overload.is)
 
-returns-2 : tie.Need-returns-2
+returns-in-Fail : tie.Need-returns-in-Fail
 unfolding is_pass
-returns-2 c = sym (ap is_pass c.enum-told2.given.1)
+returns-in-Fail c = sym (ap is_pass c.in-Fail.is)
 
-returns-3 : tie.Need-returns-3
+returns-in-Pass : tie.Need-returns-in-Pass
 unfolding is_pass
-returns-3 c = sym (ap is_pass c.enum-told3.given.1)
+returns-in-Pass c = sym (ap is_pass c.in-Pass.is)
 
 pub passes_spec : {M : Type 1} → statement M
-passes_spec = tie.close (tie.spec (λ c. search rules) (λ c. search rules) (λ c. search rules) returns returns-2 returns-3)
+passes_spec = tie.close (tie.spec (λ c. search rules) (λ c. search rules) (λ c. search rules) returns-in-Overload returns-in-Fail
+    returns-in-Pass)
