@@ -1,5 +1,5 @@
 -- How late a release comes: the gap from its due day to its day is within the late days, or it comes before its due day.
-use Rattle.base.proofs.Prelude.{ℕ, ◌+◌, ◌-◌, ◌≤◌, ◌<◌, ◌≡◌, sym, ap, ◌∙◌, false, not, arith, dec_le, lt-ltb, le-ltb, ltb}
+use Rattle.base.proofs.Prelude.{ℕ, ◌+◌, ◌-◌, ◌<◌, ◌≡◌, sym, ap, ◌∙◌, false, not, arith, dec_le, lt-ltb, le-ltb, ltb}
 use Rattle.days.specs.{declared.Day.Day, declared.Length.Length, declared.Gap.TheVariants.{Of, Backwards}, Days.{days, gap_of}}
 use Rattle.days.proofs.Days.{gap_of-ordered, gap_of-backwards}
 use Rattle.faults.specs.Checks.{in_bounds}

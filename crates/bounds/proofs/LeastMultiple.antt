@@ -52,7 +52,8 @@ common_multiple-not ss k out = by_bool (common_multiple ss k) (λ t. absurd (out
 
 module _ (p : Plan) where
   -- within the bound H is the least common multiple
-  pub multiple_of-lcm : 1 ≤ lcm_of period (strings_of p) → lcm_of period (strings_of p) ≤ 100000 → multiple_of p ≡ lcm_of period (strings_of p)
+  pub multiple_of-lcm : 1 ≤ lcm_of period (strings_of p) → lcm_of period (strings_of p) ≤ 100000 → multiple_of p
+      ≡ lcm_of period (strings_of p)
   multiple_of-lcm low high =
       let ss = strings_of p in
       let h = lcm_of period ss in
@@ -106,6 +107,7 @@ module _ (xs : List BatteryString) (n : ℕ) where
 
     pub done-past : (p : Plan) → take n xs ≡ strings_of p → 100000 < r → r ≡ multiple_of p
     done-past p counted over =
-        let first : take (i + 1) (strings_of p) ≡ take (i + 1) xs = ap (take (i + 1)) (sym counted) ∙ take-take (i + 1) n xs (omega arith) in
+        let first : take (i + 1) (strings_of p) ≡ take (i + 1) xs = ap (take (i + 1)) (sym counted)
+        ∙ take-take (i + 1) n xs (omega arith) in
         let out = capped-past 100000 (lcm_of period (take (i + 1) xs)) (omega (arith, joined)) in
         joined ∙ capped-out 100000 _ out ∙ sym (multiple_of-past p (i + 1) (rw first out))

@@ -59,7 +59,8 @@ module _ {p : Plan} {rs : List Release} {end : ℕ} where
     walk-high t = admitted-few p latest _ (get_or rs i no_release) w.ten (admits-facts p latest _ (get_or rs i no_release) t)
 
     pub walk-next : i < end → admits p latest (remembered_of last (get_or rs i no_release).place) (get_or rs i no_release) ≡ true
-        → Walk p rs end (set last ((get_or rs i no_release).place - 1) (On (get_or rs i no_release).due)) (get_or rs i no_release).day (i + 1)
+        → Walk p rs end (set last ((get_or rs i no_release).place - 1) (On (get_or rs i no_release).due)) (get_or rs i no_release).day
+        (i + 1)
     unfolding here
     walk-next inside t =
         record {

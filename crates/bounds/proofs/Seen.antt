@@ -117,7 +117,8 @@ pub latest_of-next : (rs : List Release) (i : ℕ) → latest_of (seen_to rs (i 
 unfolding latest_of
 latest_of-next rs i = rw (seen_to-next rs i)
 
-pub last_of-same : (rs : List Release) (i : ℕ) → last_of (get_or rs i no_release).place (seen_to rs (i + 1)) ≡ On (get_or rs i no_release).due
+pub last_of-same : (rs : List Release) (i : ℕ) → last_of (get_or rs i no_release).place (seen_to rs (i + 1))
+    ≡ On (get_or rs i no_release).due
 unfolding last_of
 last_of-same rs i = rw (seen_to-next rs i, eq-eqb (get_or rs i no_release).place (get_or rs i no_release).place refl)
 

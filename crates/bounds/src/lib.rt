@@ -1,5 +1,7 @@
 // The checks of entries that take numbers, in the order of document 01: is a plan, a permission set, a release list lawful?
 // No caller is trusted to have checked anything: each function answers for all numbers.
+#![tactic(auto)]
+
 mod periods;
 mod releases;
 mod strings;

@@ -3,7 +3,7 @@
 use Rattle.base.proofs.Prelude.{ℕ, ◌+◌, ◌*◌, ◌%◌, ◌≤◌, ◌<◌, ◌≡◌, refl, ap, ◌∙◌, List, [], ◌∷◌, arith, mul-le-mul, lt-ltb, le-ltb, eqb}
 use Rattle.base.specs.Count.{All}
 use Rattle.base.proofs.Lists.{by_bool}
-use Rattle.rules.specs.{Layout.{Version, line_size, has_field, versions, later_versions, version01, version_among, held_to, header_frame, string_frame, release_frame, Number, Count, Common, Run, X, T, C, D, Own, Late, Place, Day, Need, Due}, Text.{Line, a_in, field_of, cost_of, due_in}}
+use Rattle.rules.specs.{Layout.{Version, line_size, has_field, versions, later_versions, version_among, held_to, header_frame, string_frame, release_frame, Number, Count, Common, Run, X, T, C, D, Own, Late, Place, Day, Need, Due}, Text.{Line, a_in, field_of, cost_of, due_in}}
 use Rattle.layouts.specs.{declared.Field.Field, declared.Layout.Layout, inner.Versions.{field_for, layout_for, code_of, meant_by, Known, Sound}}
 use Rattle.layouts.specs.declared.Version as code
 

@@ -1,5 +1,7 @@
 // The layouts of the plan file, in bytes: version 01, document 01's, and versions 02 and 03 (document 02, W-207 and W-213). A frame starts
 // with its kind, and a field starts where the one before it ends. In the text two digits write a byte, and a line ends by its 0a.
+#![tactic(auto)]
+
 ghost use Rattle.std.specs.Prelude.{◌≡◌};
 ghost use Rattle.rules.specs.Layout.{held_to};
 ghost use Rattle.layouts.specs.inner.Versions.{code_of};

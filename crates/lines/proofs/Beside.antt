@@ -6,7 +6,8 @@ use Rattle.lines.specs.{declared.Page.Page, declared.limits.Limit.Limit, declare
 use Rattle.lines.proofs.{Digits.decimal-32, Growing.len_more}
 
 -- a number of 32 bits takes at most ten bytes
-pub number-grown : (page next : Page) (text : List ℕ) (n : ℕ) → page ≡ page_of text → next ≡ page_of (text_of page ++ decimal n) → n < 2 ^ 32
+pub number-grown : (page next : Page) (text : List ℕ) (n : ℕ) → page ≡ page_of text → next ≡ page_of (text_of page ++ decimal n) → n
+    < 2 ^ 32
     → next.len ≤ page.len + 10
 number-grown page next text n e f small = omega (arith, decimal-32 n small, len_more page next text (decimal n) e f)
 

@@ -1,5 +1,5 @@
 -- Columns: spaces that are cut from a longer row of them, and a text that fills its columns.
-use Rattle.base.proofs.Prelude.{ℕ, zero, suc, ◌-◌, ◌≤◌, ◌≡◌, refl, ap, ◌++◌, ◌∷◌, List, append-nil, arith, length, take, replicate}
+use Rattle.base.proofs.Prelude.{ℕ, zero, suc, ◌-◌, ◌≤◌, ◌≡◌, refl, ap, ◌∷◌, List, append-nil, arith, length, take, replicate}
 use Rattle.lines.specs.Why.{padded}
 
 pub replicate-cut : (k n x : ℕ) → k ≤ n → take k (replicate n x) ≡ replicate k x

@@ -113,6 +113,11 @@ module _ (filled page : Page) (bs ns : List ℕ) (at next : ℕ) (kept : Written
       own filled kept ∙ ap page_of (all ∙ whole)
 
 -- a line of u32s on a page
-pub fill-32 : (page next : Page) (bs ns : List ℕ) → Written page → next ≡ page_of (text_of page ++ filled_in bs ns) → All (λ n. n < 2 ^ 32) ns
+pub fill-32 : (page next : Page) (bs ns : List ℕ) → Written page → next ≡ page_of (text_of page ++ filled_in bs ns)
+    → All (λ n. n < 2 ^ 32) ns
     → next.len ≤ page.len + length bs + 10 * length ns
-fill-32 page next bs ns w e small = omega (arith, len_more page next (text_of page) (filled_in bs ns) (own page w) e, filled_in-32 bs ns small)
+fill-32 page next bs ns w e small = omega (
+  arith,
+  len_more page next (text_of page) (filled_in bs ns) (own page w) e,
+  filled_in-32 bs ns small,
+)

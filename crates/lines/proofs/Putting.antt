@@ -4,9 +4,9 @@ use lib.Seq.{take-length, paste, paste-suc, length-paste}
 use Rattle.lines.specs.Pages.{length_told, page_told}
 
 module _ (text page : List ℕ) where
-  pub no_room : length page < length text → (0 ≡ length_told text page) × (page ≡ page_told text page)
+  pub no-room : length page < length text → (0 ≡ length_told text page) × (page ≡ page_told text page)
   unfolding length_told page_told
-  no_room h = rw (lt-ltb _ _ h) (refl, refl)
+  no-room h = rw (lt-ltb _ _ h) (refl, refl)
 
   pub room : length text ≤ length page
       → (length text ≡ length_told text page) × (text ++ drop (length text) page ≡ page_told text page)

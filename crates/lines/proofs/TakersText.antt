@@ -1,11 +1,10 @@
 -- The places in a set, a binary digit at a time, and the words for them.
-use Rattle.base.proofs.Prelude.{ℕ, zero, suc, ◌+◌, ◌-◌, ◌*◌, ◌/◌, ◌%◌, ◌^◌, ◌≤◌, ◌<◌, ◌≡◌, refl, sym, ap, ◌∙◌, true, false, List, [], ◌∷◌, ◌++◌, arith, add-one, pow-suc, mod-lt, eqb, eq-eqb, ne_eqb, eqb-true, eqb-false, length, append_assoc, append-nil}
+use Rattle.base.proofs.Prelude.{ℕ, suc, ◌+◌, ◌-◌, ◌/◌, ◌%◌, ◌^◌, ◌≤◌, ◌<◌, ◌≡◌, refl, sym, ap, ◌∙◌, true, false, List, [], ◌∷◌, ◌++◌, arith, add-one, pow-suc, mod-lt, eqb, eq-eqb, ne_eqb, eqb-true, eqb-false, length}
 use native.Mathlib.Nat.{div-div-eq-div-mul}
 use Rattle.base.specs.Count.{up_from, keep}
 use Rattle.base.proofs.{Lists.by_bool, Order.{keep-yes, keep-no}}
-use Rattle.rules.specs.Lines.{bytes_of, decimal}
-use Rattle.lines.specs.{declared.Page.Page, Pages.{page_of, text_of}, Same.places_text, Sets.{in_set, takers_of, takers_words}, inner.Takers.{taker_text, takers_left}}
-use Rattle.lines.proofs.Growing.{grown}
+use Rattle.rules.specs.Lines.{bytes_of}
+use Rattle.lines.specs.{Same.places_text, Sets.{in_set, takers_of, takers_words}, inner.Takers.{taker_text, takers_left}}
 
 pub halved : (m i : ℕ) → m / 2 ^ i / 2 ≡ m / 2 ^ (i + 1)
 halved m i = rw (add-one i) (div-div-eq-div-mul m (2 ^ i) 2 ∙ ap (λ k. m / k) (sym (pow-suc 2 i)))

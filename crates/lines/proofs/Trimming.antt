@@ -1,5 +1,5 @@
 -- Spaces at the end of a row, one at a time from its end.
-use Rattle.base.proofs.Prelude.{ℕ, zero, suc, ◌+◌, ◌-◌, ◌≤◌, ◌<◌, ◌≡◌, refl, sym, ap, ◌∙◌, List, [], ◌∷◌, ◌++◌, arith, eqb, eq-eqb, ne_eqb, length, take, get_or, take-suc, take_all, dec_le, min}
+use Rattle.base.proofs.Prelude.{ℕ, suc, ◌-◌, ◌≤◌, ◌<◌, ◌≡◌, refl, sym, ap, ◌∙◌, List, [], ◌∷◌, ◌++◌, arith, eq-eqb, ne_eqb, length, take, get_or, take-suc, take_all, dec_le, min}
 use Rattle.lines.specs.Bars.{ahead_of_kept, trimmed}
 
 -- a byte that is no space keeps all before it

@@ -2,7 +2,8 @@
 --     plan_line n run        plan strings n run N
 --     permission x          whether a string's jobs may take the bank
 --     late_words j           late j, for a string's late days; nothing where it has none
---     string_line i s e      string i may take T t C c D d late j moving a E e; `may not take` where X of s is not 1. i is its place, from 1
+--     string_line i s e      string i may take T t C c D d late j moving a E e; `may not take` where X of s is not 1. i is its place,
+--                           from 1
 --     load_line h load       H h load l of h
 --     due_words t d          due d, for a release's due day; nothing where it is the release day t
 --     release_line k r       release k day t due d string i need w; k is its place in the list, from 1

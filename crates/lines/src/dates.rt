@@ -37,7 +37,7 @@ fn numbered_line(d: Date) -> Page
 pub fn date_line(text: &[u8]) -> Page
     ensures exact { result ≡ page_of (date_line text.now) }
     ensures within { result.len ≤ length result.bytes }
-    ensures kept { text.now ≡ text.now }
+    ensures kept { text.exit.now ≡ text.entry.now }
 {
     let date = date_read(text);
     match date {

@@ -1,4 +1,6 @@
 // The lines that are written for an answer (document 01, "Frames of the plan file"), on a page of text.
+#![tactic(auto)]
+
 mod bars;
 mod board;
 mod dates;

@@ -57,7 +57,7 @@ pub(crate) fn append_number(page: Page, n: u64) -> Page
 pub fn put_text(text: &[u8], page: &mut [u8]) -> usize
     ensures exact { result ≡ length_told text.now page.old }
     ensures page { page.new ≡ page_told text.now page.old }
-    ensures kept { text.now ≡ text.now }
+    ensures kept { text.exit.now ≡ text.entry.now }
 {
     if page.len() < text.len() {
         return 0;

@@ -1,5 +1,5 @@
 -- Which case of a definition holds, from what the code's tests say of the numbers.
-use Rattle.base.proofs.Prelude.{ℕ, suc, ◌+◌, ◌-◌, ◌/◌, ◌%◌, ◌≤◌, ◌<◌, ◌≡◌, refl, List, arith, lt-ltb, le-ltb, le-leb, lt-leb, eq-eqb, ne_eqb, length, get_or}
+use Rattle.base.proofs.Prelude.{ℕ, suc, ◌+◌, ◌-◌, ◌/◌, ◌%◌, ◌≤◌, ◌<◌, ◌≡◌, List, arith, lt-ltb, le-ltb, le-leb, lt-leb, eq-eqb, ne_eqb, length, get_or}
 use Rattle.rules.specs.{declared.BatteryString.BatteryString, Layout.{Version, frame_size, kind_in, version_in, header_frame, string_frame, release_frame}, Text.hex_bytes}
 use Rattle.lines.specs.declared.reasons.Reason.TheVariants.{Empty, CarriageReturn, Space, Capital, NoDigit, OddNumber, Unended, NoHeader, StringMissing, OtherKind, OtherVersion, OtherLength, CommonCostOut, RunOut, PeriodOut, DueOut, LateOut, NoWork, WorkOut, LateWorkOut, PermissionOut, CostOut, OutOfOrder, BeforeDue, TooLate, TooClose}
 use Rattle.naming.specs.{Malformed.{other_at, character_reason, malformed_reason}, Frames.{missing_reason, kind_due, length_due, header_reason, frame_reason}, Outside.{head_reason, work_reason, rest_reason, string_reason}, Released.day_reason}
@@ -202,9 +202,9 @@ module _ (i : ℕ) (s : BatteryString) where
 -- ---- 8
 
 module _ (s : BatteryString) (t due ahead before : ℕ) where
-  pub out_of_order : t < ahead → OutOfOrder t ahead ≡ day_reason s t due ahead before
+  pub out-of-order : t < ahead → OutOfOrder t ahead ≡ day_reason s t due ahead before
   unfolding day_reason
-  out_of_order h = rw (lt-ltb t ahead h)
+  out-of-order h = rw (lt-ltb t ahead h)
 
   pub before-due : ahead ≤ t → t < due → BeforeDue t due ≡ day_reason s t due ahead before
   unfolding day_reason

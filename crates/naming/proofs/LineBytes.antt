@@ -1,5 +1,5 @@
 -- A text by its lines: where a line starts, and how long it is.
-use Rattle.base.proofs.Prelude.{ℕ, zero, suc, ◌+◌, ◌-◌, ◌≤◌, ◌<◌, ◌≡◌, refl, sym, ap, ◌∙◌, true, false, cond, List, [], ◌∷◌, arith, eqb, eq-eqb, ne_eqb, length, get_or, take, drop, drop-cons, drop_of_length-le}
+use Rattle.base.proofs.Prelude.{ℕ, suc, ◌+◌, ◌-◌, ◌≤◌, ◌<◌, ◌≡◌, refl, ap, ◌∙◌, true, false, cond, List, [], ◌∷◌, arith, eqb, eq-eqb, ne_eqb, length, get_or, take, drop, drop-cons, drop_of_length-le}
 use Rattle.base.proofs.Lists.{by_bool}
 use Rattle.rules.specs.Text.{Line, before, lines_of}
 use Rattle.naming.specs.{Lines.{no_line, line_no}, inner.Bytes.head_bytes}

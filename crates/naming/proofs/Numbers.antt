@@ -1,12 +1,12 @@
 -- The numbers that a line says, by its bytes.
-use Rattle.base.proofs.Prelude.{ℕ, zero, suc, ◌+◌, ◌-◌, ◌*◌, ◌^◌, ◌≤◌, ◌<◌, ◌≡◌, refl, sym, ap, ◌∙◌, List, [], ◌∷◌, arith, add-one, pow-suc, eqb, length, get_or, take, drop, drop-drop, not-suc-le-zero}
+use Rattle.base.proofs.Prelude.{ℕ, zero, suc, ◌+◌, ◌*◌, ◌^◌, ◌≤◌, ◌<◌, ◌≡◌, refl, sym, ap, ◌∙◌, List, [], ◌∷◌, arith, add-one, pow-suc, eqb, length, get_or, take, drop, drop-drop, not-suc-le-zero}
 use native.Mathlib.Nat.{pow-le-pow_right}
 use Rattle.base.specs.Digits.{number_on}
 use Rattle.base.proofs.Lists.{by_bool}
-use Rattle.rules.specs.{Layout.{Layout, size_of, frame_size, number_of, field_among, field_in, held_to, header_frame, string_frame, release_frame, Common, Run, Own, Late, Due}, Text.{Line, digit_of, hex_bytes, frame_of, field_of, version_of}}
-use Rattle.layouts.specs.{declared.Field.Field, inner.Versions.{offset_among, size_among, offset_in, size_in, field_for, code_of, meant_by, Known}}
+use Rattle.rules.specs.{Layout.{Layout, frame_size, number_of, field_among, field_in, held_to, header_frame, string_frame, release_frame, Common, Run, Own, Late, Due}, Text.{Line, digit_of, hex_bytes, frame_of, field_of, version_of}}
+use Rattle.layouts.specs.{declared.Field.Field, inner.Versions.{offset_among, size_among, field_for, code_of, meant_by, Known}}
 use Rattle.layouts.specs.declared.Version as code
-use Rattle.layouts.proofs.Versions.{common-known, common-size, common-small, run-known, run_small, own-known, own-small, late-known, late-small, due-known, due-small, header-short, string-short, release-short, cost-sizes, late-sizes, held-known}
+use Rattle.layouts.proofs.Versions.{common-known, common-small, run-known, run_small, own-known, own-small, late-known, late-small, due-known, due-small, header-short, string-short, release-short, cost-sizes, late-sizes, held-known}
 use Rattle.reading.proofs.Fields.{field_fits}
 use Rattle.naming.specs.{Lines.line_no, inner.Bytes.number_at}
 

@@ -1,11 +1,11 @@
 -- Laws of the definitions for refusal 6.
-use Rattle.base.proofs.Prelude.{ℕ, zero, suc, ◌+◌, ◌-◌, ◌≤◌, ◌<◌, ◌≡◌, min, refl, sym, ap, ◌∙◌, Bool, true, false, ◌&&◌, List, [], ◌∷◌, ◌++◌, map, map-append, arith, leb, le-leb, lt-leb, eq-eqb, ne_eqb, length, get_or, set, length-map, length-append, length-replicate, replicate, get_or-eq_default}
+use Rattle.base.proofs.Prelude.{ℕ, zero, suc, ◌+◌, ◌-◌, ◌≤◌, ◌<◌, ◌≡◌, min, refl, sym, ap, ◌∙◌, Bool, true, false, ◌&&◌, List, [], ◌∷◌, ◌++◌, map, map-append, arith, leb, le-leb, lt-leb, eq-eqb, ne_eqb, length, set, length-map, length-append, length-replicate, replicate, get_or-eq_default}
 use Rattle.days.specs.Days.{days}
-use Rattle.base.specs.{Count.{filled, up_from, least_from}, Divisors.greatest_to}
+use Rattle.base.specs.{Count.{filled, up_from}, Divisors.greatest_to}
 use Rattle.base.proofs.{Filling.filled-set, Least.least_from-low}
-use Rattle.rules.specs.{declared.BatteryString.BatteryString, declared.Plan.Plan, Plan.{no_string, multiple_of}, Layout.Version, Text.{Line, n_in, string_of}}
+use Rattle.rules.specs.{declared.BatteryString.BatteryString, declared.Plan.Plan, Plan.{no_string}, Layout.Version, Text.{Line, n_in, string_of}}
 use Rattle.lines.specs.declared.reasons.Reason.TheVariants.{Fits, NoneFits}
-use Rattle.naming.specs.{Lines.line_no, Periods.{strings_named, plan_named, first_to, stands_at, multiple_fits, over_place, smaller_fit, multiple_reason}}
+use Rattle.naming.specs.{Lines.line_no, Periods.{strings_named, plan_named, stands_at, multiple_fits, over_place, smaller_fit, multiple_reason}}
 use Rattle.naming.proofs.Searches.{greatest-here, greatest-lower, greatest-none}
 
 -- ---- A T that fits

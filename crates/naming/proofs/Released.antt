@@ -1,5 +1,5 @@
 -- Laws of the definitions for refusal 8.
-use Rattle.base.proofs.Prelude.{ℕ, ◌+◌, ◌-◌, ◌≤◌, ◌<◌, ◌≡◌, refl, sym, ap, ◌∙◌, Bool, true, false, ◌&&◌, fun_ext, List, arith, suc, eqb, leb, le-leb, lt-leb, le-ltb, lt-ltb, eq-eqb, ne_eqb}
+use Rattle.base.proofs.Prelude.{ℕ, ◌+◌, ◌-◌, ◌≤◌, ◌<◌, ◌≡◌, ap, ◌∙◌, false, ◌&&◌, fun_ext, List, arith, suc, eqb, leb, le-leb, lt-leb, eq-eqb, ne_eqb}
 use Rattle.base.specs.Divisors.{greatest_to}
 use Rattle.rules.specs.{declared.BatteryString.BatteryString, Layout.{Version, Place, Day, Need, release_frame, held_to}, Text.{Line, field_of, n_in, run_in, string_of, due_in}}
 use Rattle.lines.specs.declared.reasons.Reason.TheVariants.{PlaceOut, NeedOut, AfterRun}
@@ -42,7 +42,8 @@ pub last-line-said : (number : ℕ) (lines : List Line) (n k i : ℕ) → last_i
 unfolding last_in last_line same_at
 last-line-said number lines n k i =
     ap (λ f. greatest_to f (k - 1))
-    (fun_ext (λ j. ap (λ m. leb (n + 2) j && eqb m i) (said (release_frame (held_to number)) Place _ (place-place number) (line_no lines j))))
+    (fun_ext (λ j. ap (λ m. leb (n + 2) j && eqb m i) (said (release_frame (held_to number)) Place _ (place-place number)
+    (line_no lines j))))
 
 -- ---- The reasons
 

@@ -1,5 +1,5 @@
 -- Searches from above and from below.
-use Rattle.base.proofs.Prelude.{ℕ, zero, suc, ◌+◌, ◌-◌, ◌≤◌, ◌<◌, ◌≡◌, refl, sym, ap, ◌∙◌, Bool, true, false, List, arith, leb, le-leb, lt-leb, length, get_or}
+use Rattle.base.proofs.Prelude.{ℕ, zero, suc, ◌+◌, ◌-◌, ◌≤◌, ◌<◌, ◌≡◌, refl, ap, ◌∙◌, Bool, true, false, List, arith, leb, le-leb, lt-leb, length, get_or}
 use Rattle.base.specs.{Count.least_from, Divisors.greatest_to}
 use Rattle.rules.specs.Text.{digit_of}
 use Rattle.naming.specs.Malformed.{other_at}

@@ -5,7 +5,7 @@
 --     header_reason v bytes       of a header of the right kind, by its bytes
 --     frame_reason v n k bytes    of line k
 -- v is the version that the text is held to: a number that no version has is held to 01.
-use Rattle.std.specs.Prelude.{ℕ, ◌+◌, ◌-◌, ◌/◌, cond, not, List, ltb, leb, eqb, length}
+use Rattle.std.specs.Prelude.{ℕ, ◌-◌, ◌/◌, cond, not, List, ltb, leb, eqb, length}
 use Rattle.rules.specs.Layout.{Version, frame_size, kind_in, version_in, header_frame, string_frame, release_frame}
 use Rattle.rules.specs.Text.{hex_bytes}
 use Rattle.lines.specs.declared.reasons.Reason.{Reason}

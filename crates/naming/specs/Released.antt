@@ -3,7 +3,7 @@
 --     day_of_ahead v lines n k       the day of the release on the line ahead of line k, in a plan of n strings; 0 where none is ahead
 --     last_line v lines n k i     the last release line ahead of line k whose place is i; 0 where there is none
 --     release_reason v lines k    of line k
-use Rattle.std.specs.Prelude.{ℕ, suc, ◌+◌, ◌-◌, Bool, cond, not, ◌&&◌, List, ltb, leb, eqb}
+use Rattle.std.specs.Prelude.{ℕ, suc, ◌+◌, ◌-◌, cond, not, ◌&&◌, List, ltb, leb, eqb}
 use Rattle.faults.specs.Checks.{in_bounds}
 use Rattle.base.specs.Divisors.{greatest_to}
 use Rattle.rules.specs.declared.BatteryString.{BatteryString}

@@ -1,5 +1,7 @@
 // A refused plan file, by name: which rule of the refusal's number its line breaks, with the numbers that the rule speaks of. What is
 // refused, and at which line, is the reader's answer; here it is only looked up in the text.
+#![tactic(auto)]
+
 mod frames;
 mod malformed;
 mod multiples;
@@ -80,7 +82,7 @@ fn reason_for(text: &[u8], fault: Fault, k: usize) -> Reason
 pub fn refusal_line(text: &[u8]) -> Page
     ensures exact { result ≡ page_of (refusal_text text.now) }
     ensures within { result.len ≤ length result.bytes }
-    ensures kept { text.now ≡ text.now }
+    ensures kept { text.exit.now ≡ text.entry.now }
 {
     let reading = reading::read(text);
     let checked = reading.checked;

@@ -1,5 +1,5 @@
 -- The fields of a frame, by positions of the text.
-use Rattle.base.proofs.Prelude.{ℕ, zero, suc, ◌+◌, ◌*◌, ◌^◌, ◌≤◌, ◌<◌, ◌≡◌, refl, ap, ◌∙◌, List, [], ◌∷◌, ◌++◌, arith, add-one, not-suc-le-zero, pow-suc, eqb, length, take, drop, get_or, length-drop, drop-drop, get_or-drop, take-suc}
+use Rattle.base.proofs.Prelude.{ℕ, zero, suc, ◌+◌, ◌*◌, ◌^◌, ◌≤◌, ◌<◌, ◌≡◌, refl, ap, ◌∙◌, List, [], ◌∷◌, arith, add-one, not-suc-le-zero, pow-suc, eqb, length, take, drop, get_or, length-drop, drop-drop, get_or-drop, take-suc}
 use native.Mathlib.Nat.{pow-le-pow_right}
 use Rattle.base.specs.Digits.{number_on}
 use Rattle.base.proofs.{Digits.number_on-last, Lists.by_bool}

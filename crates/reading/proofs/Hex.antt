@@ -62,7 +62,8 @@ module _ (text : List ℕ) (at : ℕ) where
       let digit = all-at (λ b. is_digit b ≡ true) (take (digits_ahead xs) xs) 0 (all-of-every is_digit _ (digits_ahead-every xs)) m long in
       ltb-true _ 16 (rw (get_or-take (digits_ahead xs) xs m 0 h, get_or-drop at text m 0) at digit)
 
-  pub ahead-next : at < length text → digit_of (get_or text at 0) < 16 → digits_ahead (drop at text) ≡ suc (digits_ahead (drop (at + 1) text))
+  pub ahead-next : at < length text → digit_of (get_or text at 0) < 16 → digits_ahead (drop at text)
+      ≡ suc (digits_ahead (drop (at + 1) text))
   unfolding digits_ahead
   ahead-next inside digit = rw (drop-cons text at 0 inside, lt-ltb (digit_of (get_or text at 0)) 16 digit, add-one at)
 

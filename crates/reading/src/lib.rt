@@ -1,6 +1,8 @@
 // Any bytes in, one exact answer out: a plan file read, or refused with its number and line.
 // Everything is checked first and stored afterwards. A frame that is not refused has its version's length, so where a line starts is
 // known whenever it is looked at. One reader serves all versions: where they differ, the version says.
+#![tactic(auto)]
+
 mod digits;
 mod frames;
 mod header;
@@ -103,7 +105,7 @@ fn read_in(text: &[u8], version: Version) -> Reading
 // What a version 01 text says; another version is 3 at line 1. The text is lent and keeps its bytes.
 pub fn read_01(text: &[u8]) -> Reading
     ensures exact { result ≡ reading_in version01 text.now }
-    ensures kept { text.now ≡ text.now }
+    ensures kept { text.exit.now ≡ text.entry.now }
 {
     read_in(text, VERSION_01)
 }
@@ -111,7 +113,7 @@ pub fn read_01(text: &[u8]) -> Reading
 // What a version 02 text says; another version is 3 at line 1. The text is lent and keeps its bytes.
 pub fn read_02(text: &[u8]) -> Reading
     ensures exact { result ≡ reading_in version02 text.now }
-    ensures kept { text.now ≡ text.now }
+    ensures kept { text.exit.now ≡ text.entry.now }
 {
     read_in(text, VERSION_02)
 }
@@ -120,7 +122,7 @@ pub fn read_02(text: &[u8]) -> Reading
 // keeps its bytes.
 pub fn read(text: &[u8]) -> Reading
     ensures exact { result ≡ reading_of text.now }
-    ensures kept { text.now ≡ text.now }
+    ensures kept { text.exit.now ≡ text.entry.now }
 {
     // The version is the second byte, digits 3 and 4.
     if digits_ahead(text, 0) < 4 {

@@ -1,15 +1,15 @@
 -- Written and read back, the strings are the same; read and written back, the bytes are.
 --     table_read run p       what reading the table of p with an N given beside it gives
-use Rattle.base.proofs.Prelude.{ℕ, suc, ◌+◌, ◌*◌, ◌^◌, ◌≤◌, ◌<◌, ◌≡◌, refl, sym, ap, ◌∙◌, true, false, List, [], ◌∷◌, ◌++◌, map, arith, le-ltb, ltb-false, ne_eqb, eqb-false, not, not-false, ltb, eqb, length, take, length-append, length-map, length-take-le, take_at}
+use Rattle.base.proofs.Prelude.{ℕ, suc, ◌+◌, ◌*◌, ◌≤◌, ◌≡◌, refl, sym, ap, ◌∙◌, true, List, [], ◌∷◌, map, arith, le-ltb, ltb-false, ne_eqb, eqb-false, not, not-false, ltb, eqb, length, length-append, length-map, length-take-le, take_at}
 use mathlib.Core.List.{flat_map}
 use Rattle.days.specs.Days.{days}
 use Rattle.base.specs.Count.{All, filled, least_from}
 use Rattle.base.proofs.Lists.{all_map}
 use Rattle.faults.specs.{declared.Checked.Checked, declared.Checked.TheVariants.{Lawful, Refused}, declared.Fault.TheVariants.{TextTooLong, StringCount, MultipleOver, RowMalformed}, Checks.{then, refuse_if}}
 use Rattle.faults.proofs.Checks.{then-first, then-second, then-lawful, refuse_if-not, in_bounds-yes}
-use Rattle.rules.specs.{declared.BatteryString.BatteryString, declared.Plan.Plan, declared.Releases.Releases, declared.Reading.Reading, Plan.{strings_of, no_string, string_lawful, common_multiple, multiple_of}, Refusal.{count_check, run_length_check, string_check, strings_check, multiple_check, plan_check, releases_check, run_check}, Release.{first_unlawful, unlawful_from}, Lines.row_line, Text.{Line, lines_of, no_releases, refused_reading}}
+use Rattle.rules.specs.{declared.BatteryString.BatteryString, declared.Plan.Plan, Plan.{strings_of, no_string, common_multiple, multiple_of}, Refusal.{count_check, run_length_check, string_check, strings_check, multiple_check, plan_check, releases_check, run_check}, Release.{first_unlawful, unlawful_from}, Lines.row_line, Text.{Line, lines_of, no_releases}}
 use Rattle.laws.specs.Lawful.{LawfulString, LawfulPlan}
-use Rattle.laws.proofs.{Lawful.{string_lawful-yes, multiple_check-good}, Releases.releases_check-good, LineTexts.{line_bytes, text_of_lines, EndedLine, NoEnd, lines-said, lines-written}}
+use Rattle.laws.proofs.{Lawful.{string_lawful-yes, multiple_check-good}, Releases.releases_check-good, LineTexts.{text_of_lines, EndedLine, NoEnd, lines-said, lines-written}}
 use Rattle.register.specs.{Table.{row_formed, row_string, row_check, rows_check, table_plan, row_lines_check, table_check, table_reading}, Export.table_text}
 use Rattle.register.proofs.RowBack.{Short, register_row, row-line, row-formed, row-says, row-no-end, row_line-short, formed-ended, row_written}
 
@@ -172,7 +172,8 @@ rows-lawful k (line ∷ lines) h =
     (in_bounds k line (then-first (row_check k line) (rows_check (suc k) lines) h))
     ∙ rows-lawful (suc k) lines (then-second (row_check k line) (rows_check (suc k) lines) h)
 
-rows_written : (lines : List Line) → All (λ line. row_formed line ≡ true) lines → flat_map row_line (map row_string lines) ≡ text_of_lines lines
+rows_written : (lines : List Line) → All (λ line. row_formed line ≡ true) lines → flat_map row_line (map row_string lines)
+    ≡ text_of_lines lines
 unfolding flat_map
 rows_written [] h = refl
 rows_written (line ∷ lines) h = rw (row_written line h.0, rows_written lines h.1)

@@ -1,5 +1,5 @@
 -- What is read of the line that starts at a place of a text.
-use Rattle.base.proofs.Prelude.{ℕ, zero, suc, ◌+◌, ◌-◌, ◌≤◌, ◌<◌, ◌≡◌, refl, sym, ap, ◌∙◌, true, false, ◌&&◌, cond, List, [], ◌∷◌, map, arith, eq-eqb, ne_eqb, eqb, length, take, drop, get_or, length-drop, length-take-le, drop_of_length-le, drop-drop, get_or-drop, get_or-take}
+use Rattle.base.proofs.Prelude.{ℕ, ◌+◌, ◌-◌, ◌≤◌, ◌<◌, ◌≡◌, refl, sym, ap, ◌∙◌, true, false, List, [], ◌∷◌, map, arith, eq-eqb, ne_eqb, length, take, drop, get_or, length-drop, length-take-le, drop_of_length-le, get_or-drop, get_or-take}
 use lib.Seq.{take-take}
 use Rattle.base.specs.{Count.filled, Digits.decimal_in}
 use Rattle.base.proofs.Lists.{by_bool}

@@ -1,6 +1,6 @@
 -- Fields with commas between them, and the fields of such a text: each says the other.
 --     commaed fields tail    the fields, a comma between each two, and what stands behind them
-use Rattle.base.proofs.Prelude.{ℕ, suc, ◌+◌, ◌*◌, ◌≤◌, ◌≡◌, refl, sym, ap, ◌∙◌, true, false, not, List, [], ◌∷◌, ◌++◌, append_assoc, append-nil, arith, eqb-true, eqb, length, take, get_or, length-append, take-append_seam}
+use Rattle.base.proofs.Prelude.{ℕ, suc, ◌+◌, ◌*◌, ◌≤◌, ◌≡◌, refl, sym, ap, ◌∙◌, false, List, [], ◌∷◌, ◌++◌, append_assoc, arith, eqb-true, eqb, length, length-append}
 use Rattle.base.specs.Count.{All}
 use Rattle.base.proofs.{Lists.by_bool, Order.all_append}
 use Rattle.register.specs.Table.{comma, in_front, fields_of}

@@ -1,5 +1,5 @@
 -- The fields of a line, taken one after the other: what is decided at each.
-use Rattle.base.proofs.Prelude.{ℕ, suc, ◌+◌, ◌-◌, ◌≤◌, ◌<◌, ◌≡◌, refl, sym, ap, ◌∙◌, true, false, List, [], ◌∷◌, ◌++◌, map, map-append, arith, add-one, eq-eqb, ne_eqb, eqb, length, take, drop, get_or, set, length-drop, length-map, length-take-le, drop-drop, take-suc, take-append-drop, take_all, get_or-drop}
+use Rattle.base.proofs.Prelude.{ℕ, suc, ◌+◌, ◌≤◌, ◌<◌, ◌≡◌, sym, ap, ◌∙◌, true, false, List, [], ◌∷◌, ◌++◌, map, map-append, arith, add-one, eq-eqb, ne_eqb, eqb, length, take, drop, get_or, set, length-drop, length-map, length-take-le, drop-drop, take-suc, take_all, get_or-drop}
 use Rattle.base.specs.{Count.{All, every, filled}, Digits.decimal_in}
 use Rattle.base.proofs.{Filling.filled-set, Lists.{by_bool, true-not-false, every-of-all, all-of-every, all-at}, Order.all_append}
 use Rattle.register.specs.{Table.{comma, in_front, fields_of, plain_number, numbers_formed}, inner.Fields.{no_numbers, numbers_read}}
@@ -34,8 +34,8 @@ module _ (count most : ℕ) (fields : List (List ℕ)) where
       (ap (λ vs. record { formed = true; values = vs }) said)
 
   -- after so many there is another
-  pub one_more : (xs : List ℕ) → drop count fields ≡ fields_of xs → no_numbers ≡ numbers_read count most fields
-  one_more xs rest =
+  pub one-more : (xs : List ℕ) → drop count fields ≡ fields_of xs → no_numbers ≡ numbers_read count most fields
+  one-more xs rest =
       let more = fields-some xs in
       many-or-few (λ e. omega (arith, length-drop count fields, ap length rest))
 

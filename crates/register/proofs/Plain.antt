@@ -1,5 +1,5 @@
 -- Numbers of a few decimal digits without leading zeros: what decides that a field is one, and which.
-use Rattle.base.proofs.Prelude.{ℕ, zero, suc, ◌+◌, ◌-◌, ◌*◌, ◌^◌, ◌≤◌, ◌<◌, ◌≡◌, refl, sym, ap, ◌∙◌, Bool, true, false, not, ◌&&◌, ◌||◌, List, [], ◌∷◌, arith, dec_le, add-one, pow-suc, le-leb, lt-leb, eq-eqb, ne_eqb, eqb, leb, length, get_or, drop, drop-cons, drop_of_length-le}
+use Rattle.base.proofs.Prelude.{ℕ, suc, ◌+◌, ◌-◌, ◌*◌, ◌^◌, ◌≤◌, ◌<◌, ◌≡◌, refl, Bool, true, false, not, ◌&&◌, List, [], ◌∷◌, arith, add-one, pow-suc, le-leb, lt-leb, ne_eqb, eqb, leb, length, get_or, drop, drop-cons, drop_of_length-le}
 use native.Mathlib.Nat.{pow-zero, pow-le-pow_right}
 use Rattle.base.specs.{Count.{All, every}, Digits.{number_on, decimal_on, decimal_in}}
 use Rattle.base.proofs.Lists.{by_bool, and_left, and_right, all-of-every}
@@ -150,9 +150,9 @@ module _ (most : ℕ) (field : List ℕ) where
       let power : 10 ^ length field ≤ 10 ^ 9 = pow-le-pow_right some upto in
       omega (arith, rw none at below, power)
 
-  pub no_number : most ≤ 9 → 1000000000 ≤ number_or most field → plain_number most field ≡ false
+  pub no-number : most ≤ 9 → 1000000000 ≤ number_or most field → plain_number most field ≡ false
   unfolding number_or
-  no_number few h =
+  no-number few h =
       by_bool (plain_number most field) (λ t. absurd (omega (arith, plain-below few t, le_is (rw t at h)))) (λ e. e)
     where
       le_is : 1000000000 ≤ decimal_in field → 1000000000 ≤ decimal_in field

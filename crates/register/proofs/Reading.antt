@@ -1,9 +1,8 @@
 -- The whole table: its parts, read one after the other, decide as the definition does.
-use Rattle.base.proofs.Prelude.{ℕ, ◌≤◌, ◌<◌, ◌≡◌, refl, sym, ap, ◌∙◌, List, [], ◌∷◌, map, arith, lt-ltb, le-ltb, ne_eqb, length}
-use Rattle.base.specs.Count.{filled}
+use Rattle.base.proofs.Prelude.{ℕ, ◌≤◌, ◌<◌, ◌≡◌, refl, List, [], arith, lt-ltb, le-ltb, ne_eqb, length}
 use Rattle.faults.specs.{declared.Fault.Fault, declared.Fault.TheVariants.{TextTooLong, StringCount}, declared.Checked.Checked, declared.Checked.TheVariants.{Lawful, Refused}}
-use Rattle.rules.specs.{declared.Reading.Reading, Plan.no_string, Refusal.{count_check, run_length_check, head_check, multiple_check}, Text.{Line, lines_of, no_releases, refused_reading}}
-use Rattle.register.specs.{declared.strings.Strings.Strings, Table.{row_string, rows_check, table_plan, row_lines_check, table_check, table_reading}, inner.Strings.{strings_in, rows_plan, rows_plan_read, lines_read}}
+use Rattle.rules.specs.{Refusal.{count_check, head_check, multiple_check}, Text.{Line, lines_of, no_releases, refused_reading}}
+use Rattle.register.specs.{declared.strings.Strings.Strings, Table.{rows_check, table_plan, row_lines_check, table_check, table_reading}, inner.Strings.{strings_in, rows_plan, rows_plan_read, lines_read}}
 
 -- ---- The plan
 

@@ -1,5 +1,5 @@
 -- The rows of a plan as text: one row more, and what fits.
-use Rattle.base.proofs.Prelude.{ℕ, ◌+◌, ◌-◌, ◌≤◌, ◌<◌, ◌≡◌, refl, sym, ap, ◌∙◌, List, [], ◌∷◌, ◌++◌, append-nil, arith, add-one, le-ltb, length, take, drop, get_or, length-append, take-suc, take-append-drop}
+use Rattle.base.proofs.Prelude.{ℕ, ◌+◌, ◌≤◌, ◌<◌, ◌≡◌, refl, sym, ap, ◌∙◌, List, [], ◌∷◌, ◌++◌, append-nil, arith, add-one, le-ltb, length, take, drop, get_or, length-append, take-suc, take-append-drop}
 use mathlib.Core.List.{flat_map}
 use lib.Seq.{take-take}
 use Rattle.rules.specs.{declared.BatteryString.BatteryString, Lines.row_line}

@@ -1,7 +1,7 @@
 -- A text up to the first byte of a kind: lines end at a 0a, fields at a comma.
-use Rattle.base.proofs.Prelude.{ℕ, suc, ◌+◌, ◌≤◌, ◌<◌, ◌≡◌, refl, ap, ◌∙◌, true, false, List, [], ◌∷◌, arith, add-one, not-suc-le-zero, eq-eqb, eqb, length, take, drop, get_or, drop-cons, drop_of_length-le}
+use Rattle.base.proofs.Prelude.{ℕ, suc, ◌+◌, ◌≤◌, ◌<◌, ◌≡◌, refl, true, false, List, [], ◌∷◌, arith, add-one, not-suc-le-zero, eqb, length, take, drop, get_or, drop-cons, drop_of_length-le}
 use Rattle.base.proofs.Lists.{by_bool}
-use Rattle.rules.specs.Text.{Line, before, lines_of}
+use Rattle.rules.specs.Text.{before, lines_of}
 use Rattle.register.specs.{Table.{comma, in_front, fields_of}, inner.Fields.bytes_ahead}
 
 module _ (stop : ℕ) where

@@ -1,5 +1,5 @@
 -- The rows of a table, taken one after the other: what is decided at each.
-use Rattle.base.proofs.Prelude.{ℕ, suc, ◌+◌, ◌-◌, ◌≤◌, ◌<◌, ◌≡◌, refl, sym, ap, ◌∙◌, true, false, List, [], ◌∷◌, ◌++◌, map, map-append, arith, add-one, lt-ltb, le-ltb, length, take, drop, get_or, set, length-drop, length-map, length-take-le, drop-drop, drop-cons, take-suc, take_all, get_or-drop}
+use Rattle.base.proofs.Prelude.{ℕ, ◌+◌, ◌≤◌, ◌<◌, ◌≡◌, sym, ap, ◌∙◌, true, false, List, [], ◌∷◌, ◌++◌, map, map-append, arith, add-one, lt-ltb, le-ltb, length, take, drop, get_or, set, length-drop, length-map, length-take-le, drop-drop, take-suc, take_all, get_or-drop}
 use Rattle.base.specs.Count.{filled}
 use Rattle.base.proofs.Filling.{filled-set}
 use Rattle.faults.specs.{declared.Fault.Fault, declared.Fault.TheVariants.{StringCount, RowMalformed, OutOfBounds}, declared.Checked.TheVariants.{Lawful, Refused}}

@@ -1,6 +1,6 @@
 -- Line after line: where the next line starts, and what is read and given of each.
 --     first_line xs          the first line of a text that has one
-use Rattle.base.proofs.Prelude.{ℕ, zero, suc, ◌+◌, ◌-◌, ◌≤◌, ◌<◌, ◌≡◌, refl, sym, ap, ◌∙◌, true, false, cond, List, [], ◌∷◌, ◌++◌, map, arith, add-one, dec_le, lt-ltb, le-ltb, ltb, length, take, drop, length-drop, length-take-le, drop_of_length-le, drop-drop, take_all, le_refl, take-suc, take-append-drop}
+use Rattle.base.proofs.Prelude.{ℕ, zero, suc, ◌+◌, ◌≤◌, ◌<◌, ◌≡◌, refl, sym, ap, ◌∙◌, true, false, cond, List, [], ◌∷◌, ◌++◌, map, arith, dec_le, lt-ltb, le-ltb, ltb, length, take, drop, length-drop, length-take-le, drop_of_length-le, drop-drop, take_all, le_refl}
 use denote.Enum.Declared.{tag_of}
 use types.Run.{OneOf, miss}
 use Rattle.base.specs.{Count.filled, Digits.decimal_in}
@@ -90,7 +90,12 @@ module _ (text : List ℕ) (at : ℕ) (inside : at < length text) where
   module _ (count most : ℕ) (r : LineRead) (is : r ≡ line_read_at count most text at) where
     pub read-formed : r.formed ≡ true → (line_formed count most (first_line xs) ≡ true)
         × (r
-        ≡ record { formed = true; values = filled 6 0 (map decimal_in (row_fields (first_line xs))); next = at + line_long (first_line xs) })
+        ≡ record {
+          formed = true;
+          values = filled 6 0 (map decimal_in (row_fields (first_line xs)));
+          next =
+              at + line_long (first_line xs);
+        })
     read-formed said =
         by_bool (line_formed count most (first_line xs))
         (λ t. (t, is ∙ read_is count most ∙ rw t))

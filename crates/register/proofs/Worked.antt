@@ -1,9 +1,8 @@
 -- Tables of the asset register and what reading them says, computed from the definitions: one table under one statement. A refusal is
 -- told by its number and its line.
 use Rattle.base.proofs.Prelude.{ℕ, ◌≡◌, refl, List, [], ◌∷◌, ◌++◌, map}
-use Prim.Native.String.{String}
 use Rattle.base.specs.{Count.{every, least_from}, Digits.{number_on, digits_in, digits_of}}
-use Rattle.rules.specs.{declared.BatteryString.BatteryString, Plan.{strings_of, string_lawful, common_multiple, multiple_of}, Refusal.{run_length_check, multiple_check}, Said.{Said, lawful, refused, checked_says}, Lines.{bytes_of, decimal, worded_in, row_line}, Text.{before, lines_of}}
+use Rattle.rules.specs.{Plan.{string_lawful, common_multiple, multiple_of}, Refusal.{run_length_check, multiple_check}, Said.{Said, lawful, refused, checked_says}, Lines.{bytes_of, decimal, worded_in, row_line}, Text.{before, lines_of}}
 use Rattle.register.specs.Table.{in_front, fields_of, plain_number, row_fields, numbers_formed, line_formed, string_said, row_string, row_check, rows_check, table_plan, row_lines_check, table_check, table_reading}
 
 pub record Row : Type 0 where
@@ -71,9 +70,11 @@ table =
 
 pub worked : map answered table ≡ map (λ r. r.said) table
 unfolding
-    row answered three-rows nine-rows table every least_from number_on string_lawful common_multiple multiple_of run_length_check multiple_check
+    row answered three-rows nine-rows table every least_from number_on string_lawful common_multiple multiple_of run_length_check
+    multiple_check
     bytes_of before lines_of
-    in_front fields_of plain_number row_fields numbers_formed line_formed string_said row_string row_check rows_check table_plan row_lines_check
+    in_front fields_of plain_number row_fields numbers_formed line_formed string_said row_string row_check rows_check table_plan
+    row_lines_check
     table_check
     table_reading
 worked = refl

@@ -1,4 +1,6 @@
 // The asset register's table (document 02, W-210): comma-separated lines, read into a plan and written from one.
+#![tactic(auto)]
+
 mod fields;
 mod reader;
 mod rows;
@@ -82,7 +84,7 @@ fn lines_read(text: &[u8], run: Length) -> Reading
 // The plan of a table and an N given beside it, with no releases; or the first fault with its line. The text is lent and keeps its bytes.
 pub fn register(text: &[u8], run: Length) -> Reading
     ensures exact { result ≡ table_reading run.0 text.now }
-    ensures kept { text.now ≡ text.now }
+    ensures kept { text.exit.now ≡ text.entry.now }
 {
     if 65536 < text.len() {
         return refused_reading(Fault::TextTooLong, 0);

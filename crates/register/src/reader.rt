@@ -68,7 +68,7 @@ fn line_at(text: &[u8], at: usize, count: usize, most: usize) -> LineRead
 // A line of three numbers of at most seven digits. The text is lent and keeps its bytes.
 pub fn three_at(text: &[u8], at: usize) -> LineRead
     ensures exact { result ≡ line_read_at 3 7 text.now at }
-    ensures kept { text.now ≡ text.now }
+    ensures kept { text.exit.now ≡ text.entry.now }
 {
     line_at(text, at, 3, 7)
 }

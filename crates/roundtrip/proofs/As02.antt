@@ -32,7 +32,11 @@ module _ (v : Version) where
     unfolding reading_in lawful_reading
     read-trimmed =
         let lines = lines-checked v text h in
-        rw (reading-checked v (text_check v text) (lines_of text) h, plan-trimmed (lines_of text) lines, releases-trimmed (lines_of text) lines)
+        rw (
+          reading-checked v (text_check v text) (lines_of text) h,
+          plan-trimmed (lines_of text) lines,
+          releases-trimmed (lines_of text) lines,
+        )
 
     abbrev plan : Plan
     plan = (reading_in v text).plan

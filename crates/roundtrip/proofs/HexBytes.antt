@@ -1,7 +1,7 @@
 -- Digits and the bytes that they write: each says the other.
 --     Small b               b is a byte
 --     Digit b               b is a hexadecimal digit
-use Rattle.base.proofs.Prelude.{ℕ, suc, ◌+◌, ◌-◌, ◌*◌, ◌/◌, ◌%◌, ◌≤◌, ◌<◌, ◌≡◌, refl, ◌∙◌, false, List, [], ◌∷◌, ◌++◌, arith, dec_le, lt-ltb, le-ltb, ne_eqb, eqb, length}
+use Rattle.base.proofs.Prelude.{ℕ, suc, ◌+◌, ◌-◌, ◌*◌, ◌/◌, ◌%◌, ◌≤◌, ◌<◌, ◌≡◌, refl, ◌∙◌, false, List, [], ◌∷◌, arith, dec_le, lt-ltb, le-ltb, ne_eqb, eqb, length}
 use mathlib.Core.List.{flat_map}
 use Rattle.base.proofs.Order.{all_append}
 use Rattle.base.specs.Count.{All}

@@ -2,7 +2,7 @@
 --     Says l says fs bytes  the fields fs of the bytes, as the layout l has them, say what says gives them
 --     Fits l says           what says gives each field can be written in its bytes
 -- A field of no byte is one that the frame does not have; it says nothing.
-use Rattle.base.proofs.Prelude.{ℕ, zero, suc, ◌+◌, ◌*◌, ◌/◌, ◌%◌, ◌^◌, ◌≤◌, ◌<◌, ◌≡◌, refl, sym, ap, ◌∙◌, List, [], ◌∷◌, ◌++◌, append_assoc, append-nil, arith, dec_le, pow-suc, length, take, drop, length-drop, take-append-drop, take_at, drop_at, length-take-le}
+use Rattle.base.proofs.Prelude.{ℕ, zero, suc, ◌^◌, ◌≤◌, ◌<◌, ◌≡◌, refl, sym, ap, ◌∙◌, List, [], ◌∷◌, arith, dec_le, length, take, drop, length-drop, take-append-drop, take_at, drop_at, length-take-le}
 use mathlib.Core.List.{flat_map}
 use lib.Seq.{take-nil, drop-nil}
 use Rattle.base.specs.{Count.All, Digits.places_of}

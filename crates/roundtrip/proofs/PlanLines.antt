@@ -42,7 +42,8 @@ module _ (p : Plan) (ok : LawfulPlan p) where
         rw two (omega (arith, first_small))
     header-fits layout.Run some = rw (run-size k) (omega (arith, ok.run_max))
 
-    header-says : Says (header_frame (held_to k)) (header_says (held_to k).number p) (header_frame (held_to k)).fields (drop 1 (frame_of header))
+    header-says : Says (header_frame (held_to k)) (header_says (held_to k).number p) (header_frame (held_to k)).fields
+        (drop 1 (frame_of header))
     header-says = written-says (header_frame (held_to k)) (header_says (held_to k).number p) (omega arith) header-fits
 
     pub version-said : field_of (header_frame (held_to k)) layout.Number header ≡ (held_to k).number

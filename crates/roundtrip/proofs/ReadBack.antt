@@ -1,6 +1,6 @@
 -- Reading what was written, in every version: the text of a lawful plan reads back to the plan and its releases, where the version can say
 -- them: 01 has one moving cost for all strings, 01 and 02 have no late days and no due days.
-use Rattle.base.proofs.Prelude.{ℕ, ◌+◌, ◌-◌, ◌*◌, ◌≤◌, ◌<◌, ◌≡◌, refl, sym, ap, ◌∙◌, List, [], ◌∷◌, ◌++◌, map, append_assoc, arith, dec_le, le-ltb, length, take, drop, get_or, length-map, take_at, drop_at, length-take-le, false, eqb}
+use Rattle.base.proofs.Prelude.{ℕ, ◌+◌, ◌-◌, ◌≤◌, ◌<◌, ◌≡◌, refl, sym, ap, ◌∙◌, List, [], ◌∷◌, ◌++◌, map, append_assoc, arith, dec_le, le-ltb, length, take, drop, get_or, length-map, take_at, drop_at, length-take-le, false, eqb}
 use mathlib.Core.List.{flat_map}
 use Rattle.base.specs.Count.{All}
 use Rattle.base.proofs.{Lists.{all-by, all_map, all_get_d, true-not-false}, Order.{all_append, all_both, all_of}}
@@ -18,7 +18,8 @@ use Rattle.roundtrip.proofs.{HexBytes.{Digit, digit-no-end, frame-digits}, Frame
 -- ---- Lines made of what they say
 
 module _ {ℓ} {A : Type ℓ} (line : A → Line) where
-  texts-are : (text : A → List ℕ) → ((x : A) → text x ≡ line_bytes (line x)) → (xs : List A) → flat_map text xs ≡ text_of_lines (map line xs)
+  texts-are : (text : A → List ℕ) → ((x : A) → text x ≡ line_bytes (line x)) → (xs : List A) → flat_map text xs
+      ≡ text_of_lines (map line xs)
   unfolding flat_map
   texts-are text each [] = refl
   texts-are text each (x ∷ xs) = rw (each x, texts-are text each xs)

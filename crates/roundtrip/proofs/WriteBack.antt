@@ -6,7 +6,7 @@ use Rattle.base.specs.Count.{All}
 use Rattle.base.proofs.{Lists.{all-at, all_map}, Order.all_append}
 use Rattle.faults.specs.{declared.Fault.TheVariants.FrameWrong, declared.Checked.Checked, declared.Checked.TheVariants.Lawful, Checks.then}
 use Rattle.faults.proofs.Checks.{refused-not-lawful, then-first, then-second, refuse_if-not}
-use Rattle.rules.specs.{declared.Plan.Plan, declared.Release.Release, Plan.{strings_of, string_at, no_string}, Release.releases_of, Refusal.{head_check, cost_check, string_check, multiple_check}, Layout.{Layout, Version, field_in, field_among, held_to, header_frame, string_frame, release_frame}, Text.{Line, lines_of, field_of, n_in, a_in, run_in, cost_of, string_of, release_of, plan_in, list_in, layout_check, version_check, header_check, string_line_check, string_lines_check, release_line_check, release_lines_check, body_check, lines_check, text_check, lawful_reading, reading_in}}
+use Rattle.rules.specs.{declared.Plan.Plan, declared.Release.Release, Plan.{strings_of, string_at, no_string}, Release.releases_of, Refusal.{head_check, cost_check, string_check, multiple_check}, Layout.{Layout, Version, field_in, field_among, held_to, header_frame, string_frame, release_frame}, Text.{Line, lines_of, field_of, n_in, a_in, run_in, string_of, release_of, plan_in, list_in, layout_check, version_check, header_check, string_line_check, string_lines_check, release_line_check, release_lines_check, body_check, lines_check, text_check, lawful_reading, reading_in}}
 use Rattle.laws.proofs.{Lawful.head_check-lawful, Versions.{strings-many, strings-lawful, strings-are, one-cost, reading-checked, lines-checked}}
 use Rattle.layouts.proofs.Versions.{cost-sizes, cost-own, due-said}
 use Rattle.writing.specs.{Written.{header_says, string_says, release_says, header_text, string_text, release_text, plan_text}, Saved.saved_text}

@@ -1,4 +1,6 @@
 // Plan files of version 01 turned into version 02 and back, each as a text in the caller's page.
+#![tactic(auto)]
+
 ghost use Rattle.std.specs.Prelude.{◌≡◌, ◌≤◌};
 ghost use Rattle.rules.specs.Layout.{version01, version02};
 ghost use Rattle.turning.specs.Turned.{line_of, on_line, place_in, turned_answer, turned_page};
@@ -36,7 +38,7 @@ fn on_line(saved: Saved) -> Saved
 pub fn to_02(text: &[u8], page: &mut [u8], at: usize) -> Saved
     ensures exact { result ≡ turned_answer version01 version02 text.now page.old at }
     ensures page { page.new ≡ turned_page version01 version02 text.now page.old at }
-    ensures kept { text.now ≡ text.now }
+    ensures kept { text.exit.now ≡ text.entry.now }
 {
     let reading = reading::read_01(text);
     let checked = reading.checked;
@@ -53,7 +55,7 @@ pub fn to_02(text: &[u8], page: &mut [u8], at: usize) -> Saved
 pub fn to_01(text: &[u8], page: &mut [u8], at: usize) -> Saved
     ensures exact { result ≡ turned_answer version02 version01 text.now page.old at }
     ensures page { page.new ≡ turned_page version02 version01 text.now page.old at }
-    ensures kept { text.now ≡ text.now }
+    ensures kept { text.exit.now ≡ text.entry.now }
 {
     let reading = reading::read_02(text);
     let checked = reading.checked;

@@ -1,5 +1,5 @@
 -- What is answered and what the page holds: a refusal of the plan, no room, or the text in its place.
-use Rattle.base.proofs.Prelude.{ℕ, ◌-◌, ◌≤◌, ◌<◌, ◌≡◌, refl, sym, ap, ◌∙◌, Bool, true, false, ◌||◌, List, ◌++◌, arith, lt-ltb, le-ltb, le-leb, lt-leb, ltb, leb, length, take, drop, length-drop, length-take-le, drop-drop, put_mid}
+use Rattle.base.proofs.Prelude.{ℕ, ◌-◌, ◌≤◌, ◌<◌, ◌≡◌, refl, sym, ap, ◌∙◌, Bool, true, false, ◌||◌, List, ◌++◌, arith, lt-ltb, le-ltb, le-leb, lt-leb, ltb, length, take, drop, length-drop, length-take-le, drop-drop, put_mid}
 use Rattle.base.specs.Count.{All}
 use Rattle.base.proofs.Lists.{by_bool, all-by}
 use Rattle.faults.specs.{declared.Fault.Fault, declared.Fault.TheVariants.{NoRoom, CostsDiffer}, declared.Checked.Checked}

@@ -103,7 +103,8 @@ number_text-last : (k n : ℕ) → number_text (suc k) n ≡ number_text k (n / 
 unfolding number_text places_of
 number_text-last k n =
     flat_map-append byte_text (number_bytes k (n / 256)) (n % 256 ∷ [])
-    ∙ ap (λ rest. flat_map byte_text (number_bytes k (n / 256)) ++ rest) (flat_map-one byte_text (n % 256) ∙ append-nil (byte_text (n % 256)))
+    ∙ ap (λ rest. flat_map byte_text (number_bytes k (n / 256)) ++ rest) (flat_map-one byte_text (n % 256)
+    ∙ append-nil (byte_text (n % 256)))
 
 -- no byte is still to come
 pub number-done : (i n : ℕ) (part whole : List ℕ) → i ≡ 0 → number_text i n ++ drop (i * 2) part ≡ whole → part ≡ whole
@@ -144,14 +145,16 @@ module _ (cs : List Cell) (z : Cell) (i : ℕ) (h : i < length cs) where
   unfolding cells_text
   cells_text-step =
       ap (flat_map cell_text) step ∙ flat_map-append cell_text (take i cs) (get_or cs i z ∷ [])
-      ∙ ap (λ rest. flat_map cell_text (take i cs) ++ rest) (flat_map-one cell_text (get_or cs i z) ∙ append-nil (cell_text (get_or cs i z)))
+      ∙ ap (λ rest. flat_map cell_text (take i cs) ++ rest) (flat_map-one cell_text (get_or cs i z)
+      ∙ append-nil (cell_text (get_or cs i z)))
 
 -- the size of the first cells grows with their number
 pub cells_size-within : (cs : List Cell) (z : Cell) (i k : ℕ) → i < k → k ≤ length cs
     → cells_size (take i cs) + (get_or cs i z).size ≤ cells_size (take k cs)
 cells_size-within cs z i zero h within = absurd (not-suc-le-zero h)
 cells_size-within cs z i (suc k) h within =
-    let next : cells_size (take (suc k) cs) ≡ cells_size (take k cs) + (get_or cs k z).size = ap (λ m. cells_size (take m cs)) (sym (add-one k))
+    let next : cells_size (take (suc k) cs) ≡ cells_size (take k cs) + (get_or cs k z).size =
+    ap (λ m. cells_size (take m cs)) (sym (add-one k))
     ∙ cells_size-step cs z k (omega arith) in
     elim (dec_le (suc i) k) [
       | yes earlier ↦ omega (arith, cells_size-within cs z i k earlier (omega arith))

@@ -1,4 +1,6 @@
 // A plan and its releases, written as frames into the caller's page from a place that the caller names.
+#![tactic(auto)]
+
 mod cells;
 mod costs;
 mod digits;

@@ -4,15 +4,15 @@ use Rattle.faults.proofs.Checks.{then-lawful, then-refused}
 use Rattle.bounds.proofs.body_check.Statement.{statement}
 use Rattle.bounds.proofs.body_check.Tie as tie
 
-returns : tie.Need-returns
+returns : tie.Need-returns-in-Lawful
 returns c =
     let told = c.before in
-    c.multiple-check.ensures ∙ sym (then-lawful _ _ (sym told.before.before.strings-check.ensures ∙ told.enum_told.given.1))
+    c.multiple_check.ensures ∙ sym (then-lawful _ _ (sym told.strings_check-strings.ensures ∙ told.in-Lawful.is))
 
-returns-2 : tie.Need-returns-2
+returns-2 : tie.Need-returns-in-Refused
 returns-2 c =
-    let known = c.before.before in
-    c.refused.ensures ∙ sym (then-refused _ _ _ _ (sym known.before.before.strings-check.ensures ∙ known.strings.given.1))
+    let known = c.before in
+    c.refused.ensures ∙ sym (then-refused _ _ _ _ (sym known.strings_check-strings.ensures ∙ known.in-Refused.is))
 
 pub body_check_spec : {M : Type 1} → statement M
 body_check_spec =

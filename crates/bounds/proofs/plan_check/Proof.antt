@@ -5,17 +5,17 @@ use Rattle.faults.proofs.Checks.{then-lawful, then-refused}
 use Rattle.bounds.proofs.plan_check.Statement.{statement}
 use Rattle.bounds.proofs.plan_check.Tie as tie
 
-returns : tie.Need-returns
+returns : tie.Need-returns-in-Lawful
 unfolding plan_check
 returns c =
     let told = c.before in
-    c.body-check.ensures ∙ sym (then-lawful _ _ (sym told.before.before.head-check.ensures ∙ told.enum_told.given.1))
+    c.body_check.ensures ∙ sym (then-lawful _ _ (sym told.head_check-head.ensures ∙ told.in-Lawful.is))
 
-returns-2 : tie.Need-returns-2
+returns-2 : tie.Need-returns-in-Refused
 unfolding plan_check
 returns-2 c =
-    let known = c.before.before in
-    c.refused.ensures ∙ sym (then-refused _ _ _ _ (sym known.before.before.head-check.ensures ∙ known.head.given.1))
+    let known = c.before in
+    c.refused.ensures ∙ sym (then-refused _ _ _ _ (sym known.head_check-head.ensures ∙ known.in-Refused.is))
 
 pub plan_check_spec : {M : Type 1} → statement M
 plan_check_spec =

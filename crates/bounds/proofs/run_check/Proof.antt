@@ -16,40 +16,40 @@ unfolding run_check
 plan-decides p rs f at h = then-refused (plan_check p) (releases_check p rs) f at h
 
 -- what the plan's check said
-lawful : (c : tie.After-enum-told) → plan_check c.before.before.before.args.p ≡ Lawful
-lawful c = sym c.before.before.plan-check.ensures ∙ c.enum_told.given.1
+lawful : (c : tie.In-Lawful) → plan_check c.args.p ≡ Lawful
+lawful c = sym c.plan_check-plan.ensures ∙ c.in-Lawful.is
 
-returns : tie.Need-returns
+returns : tie.Need-returns-then-count-gt1000
 returns c =
     let told = c.before.before in
-    let g = told.before.before.before.args in
-    c.refused.ensures ∙ sym (list-decides g.p g.rs (lawful told) ∙ releases_check-many g.p g.rs c.before.if1.true)
+    let g = told.args in
+    c.refused.ensures ∙ sym (list-decides g.p g.rs (lawful told) ∙ releases_check-many g.p g.rs c.if-count-gt1000.true)
 
-returns-2 : tie.Need-returns-2
+returns-2 : tie.Need-returns-then-bad-gt0
 returns-2 c =
     let found = c.before.before in
     let told = found.before.before in
-    let g = told.before.before.before.args in
-    c.refused2.ensures
+    let g = told.args in
+    c.refused-then-bad-gt0.ensures
     ∙ sym
     (list-decides g.p g.rs (lawful told)
-    ∙ releases_check-bad g.p g.rs _ found.before.if1.false (sym found.first-unlawful.ensures) c.before.if2.true)
+    ∙ releases_check-bad g.p g.rs _ found.if-count-gt1000.false (sym found.first_unlawful-bad.ensures) c.if-bad-gt0.true)
 
-returns-3 : tie.Need-returns-3
+returns-3 : tie.Need-returns-else-bad-gt0
 returns-3 c =
     let found = c.before in
     let told = found.before.before in
-    let g = told.before.before.before.args in
+    let g = told.args in
     sym
     (list-decides g.p g.rs (lawful told)
-    ∙ releases_check-good g.p g.rs found.before.if1.false (omega (arith, found.first-unlawful.ensures, c.if2.false)))
+    ∙ releases_check-good g.p g.rs found.if-count-gt1000.false (omega (arith, found.first_unlawful-bad.ensures, c.if-bad-gt0.false)))
 
-returns-4 : tie.Need-returns-4
+returns-4 : tie.Need-returns-in-Refused
 returns-4 c =
-    let known = c.before.before in
-    let plan = known.before.before in
-    let g = plan.before.args in
-    c.refused3.ensures ∙ sym (plan-decides g.p g.rs _ _ (sym plan.plan-check.ensures ∙ known.plan.given.1))
+    let known = c.before in
+    let plan = known.before in
+    let g = plan.args in
+    c.refused-in-Refused.ensures ∙ sym (plan-decides g.p g.rs _ _ (sym plan.plan_check-plan.ensures ∙ known.in-Refused.is))
 
 pub run_check_spec : {M : Type 1} → statement M
 run_check_spec =

@@ -16,33 +16,33 @@ module _ (p : Plan) (m : ℕ) (h : head_check 0 p.n p.run.0 ≡ Lawful) where
   unfolding set_check
   set-fits k = then-lawful _ _ h ∙ rw (lt-leb (2 ^ p.n) m k)
 
-abbrev plan_of : tie.After-enum-told → Plan
-plan_of c = c.before.before.before.args.p
+abbrev plan_of : tie.In-Lawful → Plan
+plan_of c = c.args.p
 
 -- what the head said
-lawful : (c : tie.After-enum-told) → head_check 0 (plan_of c).n (plan_of c).run.0 ≡ Lawful
-lawful c = sym c.before.before.head-check.ensures ∙ c.enum_told.given.1
+lawful : (c : tie.In-Lawful) → head_check 0 (plan_of c).n (plan_of c).run.0 ≡ Lawful
+lawful c = sym c.head_check-head.ensures ∙ c.in-Lawful.is
 
-few : (c : tie.After-enum-told) → (plan_of c).n ≤ 10
+few : (c : tie.In-Lawful) → (plan_of c).n ≤ 10
 few c = (head_check-lawful _ _ _ (lawful c)).n_max
 
-returns : tie.Need-returns
+returns : tie.Need-returns-then-n-set
 returns c =
     let told = c.before.before in
     let p = plan_of told in
     c.refused.ensures ∙ sym (set-refuses p _ (lawful told) (omega (arith, shift-is-sets p.n (few told))))
 
-returns-2 : tie.Need-returns-2
+returns-2 : tie.Need-returns-else-n-set
 returns-2 c =
     let told = c.before.before in
     let p = plan_of told in
-    c.body-check.ensures ∙ sym (set-fits p _ (lawful told) (omega (arith, shift-is-sets p.n (few told))))
+    c.body_check.ensures ∙ sym (set-fits p _ (lawful told) (omega (arith, shift-is-sets p.n (few told))))
 
-returns-3 : tie.Need-returns-3
+returns-3 : tie.Need-returns-in-Refused
 unfolding set_check
 returns-3 c =
-    let known = c.before.before in
-    c.refused2.ensures ∙ sym (then-refused _ _ _ _ (sym known.before.before.head-check.ensures ∙ known.head.given.1))
+    let known = c.before in
+    c.refused-in-Refused.ensures ∙ sym (then-refused _ _ _ _ (sym known.head_check-head.ensures ∙ known.in-Refused.is))
 
 pub set_check_spec : {M : Type 1} → statement M
 set_check_spec =

@@ -4,16 +4,16 @@ use Rattle.lines.specs.Stints.{end_line}
 use Rattle.lines.proofs.{Growing.{written, len_is, grown, within}, run_written.Statement.statement}
 use Rattle.lines.proofs.run_written.Tie as tie
 
-returns : tie.Need-returns
+returns : tie.Need-returns-in-Refused
 unfolding end_line
-returns c = (rw c.before.before.o.given.1 c.refused.ensures.0, c.refused.ensures.1)
+returns c = (rw c.in-Refused.is c.refused.ensures.0, c.refused.ensures.1)
 
-returns-2 : tie.Need-returns-2
+returns-2 : tie.Need-returns-in-Given
 unfolding end_line
 returns-2 c =
     let empty = c.before in
-    let is = grown _ _ [] _ empty.blank.ensures c.outcome-line.ensures in
-    (rw empty.before.before.o2.given.1 is, within _ _ is)
+    let is = grown _ _ [] _ empty.blank.ensures c.outcome_line.ensures in
+    (rw empty.in-Given.is is, within _ _ is)
 
 pub run_written_spec : {M : Type 1} → statement M
 run_written_spec =

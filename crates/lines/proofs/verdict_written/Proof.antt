@@ -4,16 +4,16 @@ use Rattle.rules.specs.Lines.{asked_line}
 use Rattle.lines.proofs.{Growing.{written, len_is, grown, within}, verdict_written.Statement.statement}
 use Rattle.lines.proofs.verdict_written.Tie as tie
 
-returns : tie.Need-returns
+returns : tie.Need-returns-in-Refused
 unfolding asked_line
-returns c = (rw c.before.before.v.given.1 c.refused.ensures.0, c.refused.ensures.1)
+returns c = (rw c.in-Refused.is c.refused.ensures.0, c.refused.ensures.1)
 
-returns-2 : tie.Need-returns-2
+returns-2 : tie.Need-returns-in-Given
 unfolding asked_line
 returns-2 c =
     let empty = c.before in
-    let is = grown _ _ [] _ empty.blank.ensures c.verdict-line.ensures.0 in
-    (rw empty.before.before.v2.given.1 is, within _ _ is)
+    let is = grown _ _ [] _ empty.blank.ensures c.verdict_line.ensures.0 in
+    (rw empty.in-Given.is is, within _ _ is)
 
 pub verdict_written_spec : {M : Type 1} → statement M
 verdict_written_spec =

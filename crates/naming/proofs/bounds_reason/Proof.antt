@@ -9,7 +9,7 @@ use Rattle.naming.proofs.Named.{bounds-head, bounds-string}
 use Rattle.naming.proofs.bounds_reason.Statement.{statement}
 use Rattle.naming.proofs.bounds_reason.Tie as tie
 
-returns : tie.Need-returns
+returns : tie.Need-returns-then-k-le1
 unfolding a_in run_in
 returns c =
     let s = c.before.before.before.before.before in
@@ -18,18 +18,18 @@ returns c =
     let held = version-held version (lines_of text) s.requires in
     let v = meant_by version in
     let header = line_no (lines_of text) 1 in
-    c.head-reason.ensures
+    c.head_reason.ensures
     ∙ bounds-head text s.args.k v held.1 _ _ (omega arith)
-    (c.before.before.field_of.ensures.0 ∙ said (header_frame v) Common version.common (common-known version held.0) header)
-    (c.before.field-of2.ensures.0 ∙ said (header_frame v) Run version.run (run-known version held.0) header)
+    (c.field_of.ensures.0 ∙ said (header_frame v) Common version.common (common-known version held.0) header)
+    (c.field_of-then-k-le1.ensures.0 ∙ said (header_frame v) Run version.run (run-known version held.0) header)
 
-returns-2 : tie.Need-returns-2
+returns-2 : tie.Need-returns
 returns-2 c =
     let s = c.before.before.before.before in
     let version = s.args.version in
     let text = s.args.text.now in
     let held = version-held version (lines_of text) s.requires in
-    c.string-reason.ensures ∙ bounds-string text s.args.k (meant_by version) held.1 _ (omega arith) c.before.string-of.ensures
+    c.string_reason.ensures ∙ bounds-string text s.args.k (meant_by version) held.1 _ (omega arith) c.string_of.ensures
 
 pub bounds_reason_spec : {M : Type 1} → statement M
 bounds_reason_spec =

@@ -15,40 +15,40 @@ text_of s = s.args.text.now
 held : (s : tie.Start) → Known s.args.version × (meant_by s.args.version ≡ version_of (lines_of (text_of s)))
 held s = version-held s.args.version (lines_of (text_of s)) s.requires
 
-count : (c : tie.After-field-of) → let s = c.before.before in
-    c.field_of.result ≡ n_in (meant_by s.args.version) (line_no (lines_of (text_of s)) 1)
+count : (c : tie.After-field_of-n) → let s = c.before.before in
+    c.field_of-n.result ≡ n_in (meant_by s.args.version) (line_no (lines_of (text_of s)) 1)
 unfolding n_in
 count c =
     let s = c.before.before in
-    c.field_of.ensures.0 ∙ said (header_frame (meant_by s.args.version)) Count _ (count-place s.args.version.number) (line_no
+    c.field_of-n.ensures.0 ∙ said (header_frame (meant_by s.args.version)) Count _ (count-place s.args.version.number) (line_no
     (lines_of (text_of s)) 1)
 
-returns : tie.Need-returns
+returns : tie.Need-returns-then-number-eq3
 returns c =
     let s = c.before.before.before.before in
-    c.frame-reason.ensures
+    c.frame_reason.ensures
     ∙ framed-3 (text_of s) s.args.k (meant_by s.args.version) (held s).1 s.args.number _ (count c.before.before)
     (omega arith)
 
-returns-2 : tie.Need-returns-2
+returns-2 : tie.Need-returns-then-number-eq4
 returns-2 c =
     let s = c.before.before.before.before in
     framed-4 (text_of s) s.args.k (meant_by s.args.version) (held s).1 s.args.number _ (count c.before.before) (omega arith)
 
-returns-3 : tie.Need-returns-3
+returns-3 : tie.Need-returns-then-number-eq5
 returns-3 c =
     let s = c.before.before.before.before.before.before in
-    c.bounds-reason.ensures ∙ framed-5 (text_of s) s.args.k (meant_by s.args.version) (held s).1 s.args.number (omega arith)
+    c.bounds_reason.ensures ∙ framed-5 (text_of s) s.args.k (meant_by s.args.version) (held s).1 s.args.number (omega arith)
 
-returns-4 : tie.Need-returns-4
+returns-4 : tie.Need-returns-then-number-eq6
 returns-4 c =
     let s = c.before.before.before.before.before.before.before in
-    c.multiple-reason.ensures ∙ framed-6 (text_of s) s.args.k (meant_by s.args.version) (held s).1 s.args.number (omega arith)
+    c.multiple_reason.ensures ∙ framed-6 (text_of s) s.args.k (meant_by s.args.version) (held s).1 s.args.number (omega arith)
 
-returns-5 : tie.Need-returns-5
+returns-5 : tie.Need-returns
 returns-5 c =
     let s = c.before.before.before.before.before.before.before in
-    c.release-reason.ensures
+    c.release_reason.ensures
     ∙ framed-8 (text_of s) s.args.k (meant_by s.args.version) (held s).1 s.args.number
     (λ e. omega arith) (λ e. omega arith) (λ e. omega arith) (λ e. omega arith)
 

@@ -5,27 +5,27 @@ use Rattle.naming.proofs.Named.{for-1, for-2, for-7, for-others}
 use Rattle.naming.proofs.reason_for.Statement.{statement}
 use Rattle.naming.proofs.reason_for.Tie as tie
 
-returns : tie.Need-returns
+returns : tie.Need-returns-then-number-eq1
 returns c =
-    let g = c.before.before.before.args in
-    for-1 g.text.now g.fault g.k (omega (arith, c.before.fault-number.ensures))
+    let g = c.args in
+    for-1 g.text.now g.fault g.k (omega (arith, c.fault_number-number.ensures))
 
-returns-2 : tie.Need-returns-2
+returns-2 : tie.Need-returns-then-number-eq2
 returns-2 c =
-    let g = c.before.before.before.before.before.before.args in
-    c.malformed-reason.ensures ∙ ap malformed_reason c.before.line-in.ensures
-    ∙ for-2 g.text.now g.fault g.k (omega (arith, c.before.before.before.before.fault-number.ensures))
+    let g = c.args in
+    c.malformed_reason.ensures ∙ ap malformed_reason c.line_in-line.ensures
+    ∙ for-2 g.text.now g.fault g.k (omega (arith, c.fault_number-number.ensures))
 
-returns-3 : tie.Need-returns-3
+returns-3 : tie.Need-returns-then-number-eq7
 returns-3 c =
-    let g = c.before.before.before.before.before.args in
-    for-7 g.text.now g.fault g.k (omega (arith, c.before.before.before.fault-number.ensures))
+    let g = c.args in
+    for-7 g.text.now g.fault g.k (omega (arith, c.fault_number-number.ensures))
 
-returns-4 : tie.Need-returns-4
+returns-4 : tie.Need-returns
 returns-4 c =
-    let g = c.before.before.before.before.before.before.before.args in
-    let number = c.before.before.before.before.before.fault-number.ensures in
-    c.framed-reason.ensures ∙ ap (λ m. framed_reason g.text.now m g.k) number
+    let g = c.args in
+    let number = c.fault_number-number.ensures in
+    c.framed_reason.ensures ∙ ap (λ m. framed_reason g.text.now m g.k) number
     ∙ for-others g.text.now g.fault g.k (λ e. omega (arith, number)) (λ e. omega (arith, number)) (λ e. omega (arith, number))
 
 pub reason_for_spec : {M : Type 1} → statement M

@@ -6,24 +6,24 @@ use Rattle.layouts.proofs.Versions.{held-known}
 use Rattle.reading.proofs.{Choosing.{held-short, held-named}, read.Statement.statement}
 use Rattle.reading.proofs.read.Tie as tie
 
-read-in-requires : tie.Need-read-in-requires
+read-in-requires : tie.Need-read_in-requires
 unfolding held_to
 read-in-requires c κs = refl
 
-returns : tie.Need-returns
+returns : tie.Need-returns-then-digits_ahead-lt4
 unfolding held_to
 returns c =
     let counted = c.before.before in
-    (c.read-in.ensures ∙ sym (held-short _ (omega (arith, counted.digits-ahead.ensures, c.before.if1.true))), refl)
+    (c.read_in.ensures ∙ sym (held-short _ (omega (arith, counted.digits_ahead.ensures, c.if-digits_ahead-lt4.true))), refl)
 
-returns-2 : tie.Need-returns-2
+returns-2 : tie.Need-returns
 returns-2 c =
     let held = c.before in
     let long = held.before.before in
-    let text = long.before.before.before.args.text.now in
-    let named = held.held_to.ensures ∙ ap (λ k. code_of (held_to k)) held.before.field_at.ensures in (
-      c.read-in2.ensures ∙ ap (λ v. reading_in v text) (held-known _ _ named).1
-          ∙ sym (held-named text (omega (arith, long.before.digits-ahead.ensures, long.if1.false))),
+    let text = long.args.text.now in
+    let named = held.held_to.ensures ∙ ap (λ k. code_of (held_to k)) held.field_at.ensures in (
+      c.read_in-2.ensures ∙ ap (λ v. reading_in v text) (held-known _ _ named).1
+          ∙ sym (held-named text (omega (arith, long.digits_ahead.ensures, long.if-digits_ahead-lt4.false))),
       refl,
     )
 
@@ -31,5 +31,5 @@ pub read_spec : {M : Type 1} → statement M
 read_spec =
     tie.close (tie.spec
     (λ c κs. search rules) read-in-requires returns
-    (λ c κs. (omega (arith, c.before.digits-ahead.ensures, c.if1.false), omega arith)) (λ c κs. search rules)
+    (λ c κs. (omega (arith, c.digits_ahead.ensures, c.if-digits_ahead-lt4.false), omega arith)) (λ c κs. search rules)
     (λ c κs. (held-known _ _ c.held_to.ensures).0) returns-2)

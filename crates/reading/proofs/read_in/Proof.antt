@@ -7,7 +7,7 @@ use Rattle.reading.specs.inner.Positions.{line_at}
 use Rattle.reading.proofs.{Whole.{header_read, read-long, read-empty, read-refused, read-body}, read_in.Statement.statement}
 use Rattle.reading.proofs.read_in.Tie as tie
 
-abbrev start : tie.After-header-check → tie.Start
+abbrev start : tie.After-header_check-header → tie.Start
 start c = c.before.before.before.before
 
 abbrev text_of : tie.Start → List ℕ
@@ -17,36 +17,38 @@ abbrev version_of : tie.Start → Version
 version_of s = meant_by s.args.version
 
 -- what the header's check said
-lawful : (c : tie.After-enum-told)
-    → header_check (version_of (start c.before.before)) (line_at (text_of (start c.before.before)) 0) ≡ Lawful
-lawful c = sym c.before.before.header-check.ensures ∙ c.enum_told.given.1
+lawful : (c : tie.In-Lawful)
+    → header_check (version_of (start c.before)) (line_at (text_of (start c.before)) 0) ≡ Lawful
+lawful c = sym c.header_check-header.ensures ∙ c.in-Lawful.is
 
-returns : tie.Need-returns
-returns c = c.refused-reading.ensures ∙ sym (read-long (version_of c.before.before.before) _ c.before.if1.true)
+returns : tie.Need-returns-then-text-gt65536
+returns c = c.refused_reading.ensures ∙ sym (read-long (version_of c.before.before.before) _ c.if-text-gt65536.true)
 
-returns-2 : tie.Need-returns-2
+returns-2 : tie.Need-returns-then-text-eq0
 returns-2 c =
     let first = c.before.before in
-    c.refused-reading2.ensures ∙ sym (read-empty (version_of first.before.before) _ first.if1.false c.before.if2.true)
+    c.refused_reading-then-text-eq0.ensures
+    ∙ sym (read-empty (version_of first.before.before) _ first.if-text-gt65536.false c.if-text-eq0.true)
 
-read-body-requires : tie.Need-read-body-requires
+read-body-requires : tie.Need-read_body-requires
 read-body-requires c κs =
-    let s = start c.before.before in
-    (s.pre, header_read (version_of s) _ (lawful c))
+    let s = start c.before in
+    (s.requires, header_read (version_of s) _ (lawful c))
 
-returns-3 : tie.Need-returns-3
+returns-3 : tie.Need-returns-in-Lawful
 returns-3 c =
     let told = c.before in
-    let some = told.before.before.before in
-    c.read-body.ensures ∙ sym (read-body (version_of (start told.before.before)) _ some.before.if1.false (lawful told))
+    let some = told.before.before in
+    c.read_body.ensures ∙ sym (read-body (version_of (start told.before)) _ some.if-text-gt65536.false (lawful told))
 
-returns-4 : tie.Need-returns-4
+returns-4 : tie.Need-returns-in-Refused
 returns-4 c =
-    let known = c.before.before in
-    let checked = known.before.before in
+    let known = c.before in
+    let checked = known.before in
     let some = checked.before in
-    let refused = sym checked.header-check.ensures ∙ known.header.given.1 in
-    c.refused-reading3.ensures ∙ sym (read-refused (version_of (start checked)) _ some.before.if1.false (omega arith) _ _ refused)
+    let refused = sym checked.header_check-header.ensures ∙ known.in-Refused.is in
+    c.refused_reading-in-Refused.ensures
+    ∙ sym (read-refused (version_of (start checked)) _ some.if-text-gt65536.false (omega arith) _ _ refused)
 
 pub read_in_spec : {M : Type 1} → statement M
 read_in_spec =

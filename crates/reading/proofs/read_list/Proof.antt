@@ -13,10 +13,10 @@ text_of b = b.args.text.now
 abbrev version_of : tie.Start → Version
 version_of b = meant_by b.args.version
 
-abbrev begin : tie.After-release-frames → tie.Start
+abbrev begin : tie.After-release_frames-framed → tie.Start
 begin c = c.before.before.before.before
 
-abbrev frames : tie.After-first-unlawful → tie.After-release-frames
+abbrev frames : tie.After-first_unlawful-bad → tie.After-release_frames-framed
 frames c = c.before.before
 
 few : (b : tie.Start) → b.args.p.n ≤ 10
@@ -44,28 +44,28 @@ framed_of b = framed (version_of b) (text_of b) b.args.p b.requires.1
 abbrev list_of : tie.Start → Releases
 list_of b = release_list (version_of b) (text_of b) (releases_at (version_of b) b.args.p.n) (framed_of b).count
 
-frames-are : (c : tie.After-release-frames) → c.release-frames.result ≡ framed_of (begin c)
+frames-are : (c : tie.After-release_frames-framed) → c.release_frames-framed.result ≡ framed_of (begin c)
 frames-are c =
     let b = begin c in
-    c.release-frames.ensures
+    c.release_frames-framed.ensures
     ∙ ap (λ at. frames_in (release_frame (version_of b)) (b.args.p.n + 2) 1000 (lines_from (text_of b) at)) (start_is b)
 
-count-is : (c : tie.After-release-frames) → c.release-frames.result.count ≡ (framed_of (begin c)).count
+count-is : (c : tie.After-release_frames-framed) → c.release_frames-framed.result.count ≡ (framed_of (begin c)).count
 count-is c = ap (λ (r : Framed). r.count) (frames-are c)
 
-list-is : (c : tie.After-releases-in) → c.releases-in.result ≡ list_of (begin c.before)
+list-is : (c : tie.After-releases_in-rs) → c.releases_in-rs.result ≡ list_of (begin c.before)
 list-is c =
     let b = begin c.before in
-    c.releases-in.ensures ∙ ap (release_list (version_of b) (text_of b) (start_of b)) (count-is c.before)
+    c.releases_in-rs.ensures ∙ ap (release_list (version_of b) (text_of b) (start_of b)) (count-is c.before)
     ∙ ap (λ at. release_list (version_of b) (text_of b) at (framed_of b).count) (start_is b)
 
 abbrev unlawful_of : tie.Start → Releases → ℕ
 unlawful_of b rs = first_unlawful b.args.p (releases_of rs)
 
-found-is : (c : tie.After-first-unlawful) → c.first-unlawful.result ≡ unlawful_of (begin (frames c)) (list_of (begin (frames c)))
-found-is c = c.first-unlawful.ensures ∙ ap (unlawful_of (begin (frames c))) (list-is c.before)
+found-is : (c : tie.After-first_unlawful-bad) → c.first_unlawful-bad.result ≡ unlawful_of (begin (frames c)) (list_of (begin (frames c)))
+found-is c = c.first_unlawful-bad.ensures ∙ ap (unlawful_of (begin (frames c))) (list-is c.before)
 
-release-frames-requires : tie.Need-release-frames-requires
+release-frames-requires : tie.Need-release_frames-framed-requires
 release-frames-requires c κs =
     let b = c.before.before.before in
     (b.requires.0, (omega (arith, start_is b, start-inside (version_of b) _ _ b.requires.1), start-low b, omega (arith, few b)))
@@ -74,40 +74,40 @@ release-frames-requires c κs =
 stand : (b : tie.Start) → Stand (text_of b) (start_of b) (frame_size (release_frame (version_of b))) (framed_of b).count
 stand b = rw (start_is b) (framed-stand (version_of b) _ _ b.requires.1)
 
-releases-in-requires : tie.Need-releases-in-requires
+releases-in-requires : tie.Need-releases_in-rs-requires
 releases-in-requires c κs =
     let b = begin c in
-    (b.pre.0, ((start-low b, rw (count-is c) (framed-few (version_of b) _ _ b.pre.1)), rw (count-is c) (stand b)))
+    (b.requires.0, ((start-low b, rw (count-is c) (framed-few (version_of b) _ _ b.requires.1)), rw (count-is c) (stand b)))
 
-add-refused-reading-2 : tie.Need-overflow-add-refused-reading-2
+add-refused-reading-2 : tie.Need-overflow_add-n-then-bad-gt0-2
 add-refused-reading-2 c =
     let b = begin (frames c.before) in
-    omega (arith, few b, found-is c.before, unlawful-few (version_of b) _ _ b.pre.1)
+    omega (arith, few b, found-is c.before, unlawful-few (version_of b) _ _ b.requires.1)
 
-returns : tie.Need-returns
+returns : tie.Need-returns-then-bad-gt0
 returns c =
     let found = c.before.before in
     let b = begin (frames found) in
-    c.refused-reading.ensures ∙ sym (list-unlawful (version_of b) _ _ b.pre.1 _ (found-is found) c.before.if1.true)
+    c.refused_reading.ensures ∙ sym (list-unlawful (version_of b) _ _ b.requires.1 _ (found-is found) c.if-bad-gt0.true)
 
-returns-2 : tie.Need-returns-2
+returns-2 : tie.Need-returns-in-Lawful
 returns-2 c =
-    let found = c.before.before.before in
+    let found = c.before.before in
     let b = begin (frames found) in
     let ended = ap (λ (r : Framed). r.checked) (frames-are (frames found)) in
-    let none : 0 ≡ found.first-unlawful.result = omega arith in
+    let none : 0 ≡ found.first_unlawful-bad.result = omega arith in
     rw (list-is found.before)
-    (sym (releases-lawful (version_of b) _ _ b.pre.1 (none ∙ found-is found) (sym ended ∙ c.enum_told.given.1)))
+    (sym (releases-lawful (version_of b) _ _ b.requires.1 (none ∙ found-is found) (sym ended ∙ c.in-Lawful.is)))
 
-returns-3 : tie.Need-returns-3
+returns-3 : tie.Need-returns-in-Refused
 returns-3 c =
-    let known = c.before.before in
-    let found = known.before.before.before in
+    let known = c.before in
+    let found = known.before.before in
     let b = begin (frames found) in
     let ended = ap (λ (r : Framed). r.checked) (frames-are (frames found)) in
-    let none : 0 ≡ found.first-unlawful.result = omega arith in
-    c.refused-reading2.ensures
-    ∙ sym (list-refused (version_of b) _ _ b.pre.1 (none ∙ found-is found) _ _ (sym ended ∙ known.end.given.1))
+    let none : 0 ≡ found.first_unlawful-bad.result = omega arith in
+    c.refused_reading-in-Refused.ensures
+    ∙ sym (list-refused (version_of b) _ _ b.requires.1 (none ∙ found-is found) _ _ (sym ended ∙ known.in-Refused.is))
 
 pub read_list_spec : {M : Type 1} → statement M
 read_list_spec =

@@ -10,7 +10,8 @@
 --     frames_in l k room lines    of lines from number k on, how many are frames of the layout l, up to room, and the fault that ends them
 --     strings_at v, releases_at v  where the string lines and the release lines of a plan of n strings start
 --     HeaderRead v text, StringsRead v text p    what is known once the header, once the strings of the plan p have been read
---     body_reading v text, rest_reading v text p, list_reading v text p    what reading gives from the strings, from H, from the releases on
+--     body_reading v text, rest_reading v text p, list_reading v text p    what reading gives from the strings, from H, from the
+--                           releases on
 use Rattle.std.specs.Prelude.{ℕ, zero, suc, ◌+◌, ◌*◌, ◌≤◌, ◌<◌, ◌≡◌, false, cond, List, [], ◌∷◌, map, ltb, length, get_or, take, drop}
 use Rattle.faults.specs.declared.Fault.TheVariants.{ReleaseTooMany}
 use Rattle.faults.specs.declared.Checked.{Checked}

@@ -1,7 +1,7 @@
 -- `lines_read` meets its contract: no line, a fault of a row, or the plan.
 use Rattle.base.proofs.Prelude.{ℕ, ◌≤◌, ◌≡◌, refl, sym, ap, ◌∙◌, List, [], ◌∷◌, rules, arith, length}
 use Rattle.rules.specs.Text.{lines_of}
-use Rattle.register.specs.inner.Strings.{strings_in, rows_plan_read, lines_read}
+use Rattle.register.specs.inner.Strings.{rows_plan_read, lines_read}
 use Rattle.register.proofs.{Walk.lines-first, Reading.{table_none, strings-checked, lines-refused, lines-lawful}, lines_read.Statement.statement}
 use Rattle.register.proofs.lines_read.Tie as tie
 
@@ -14,32 +14,32 @@ unfolding lines_of
 no_lines [] h = refl
 no_lines (b ∷ text) h = absurd (omega arith)
 
-returns : tie.Need-returns
+returns : tie.Need-returns-then-text-eq0
 returns c =
-    let g = c.before.before.before.args in
-    c.refused-reading.ensures ∙ table_none g.run.0 ∙ ap (lines_read g.run.0) (sym (no_lines g.text.now c.before.if1.true))
+    let g = c.args in
+    c.refused_reading.ensures ∙ table_none g.run.0 ∙ ap (lines_read g.run.0) (sym (no_lines g.text.now c.if-text-eq0.true))
 
-returns-2 : tie.Need-returns-2
+returns-2 : tie.Need-returns-in-Lawful
 returns-2 c =
     let told = c.before in
-    let said = told.before.before in
-    let g = told.before.before.before.before.before.args in
+    let said = told.before in
+    let g = told.args in
     let lines = lines_of g.text.now in
-    let lawful = sym (strings-checked g.run.0 lines) ∙ sym (ap (λ r. r.checked) said.strings-in.ensures)
-    ∙ told.enum_told.given.1 in
-    c.plan-read.ensures
-    ∙ ap (λ r. rows_plan_read r g.run.0) said.strings-in.ensures
+    let lawful = sym (strings-checked g.run.0 lines) ∙ sym (ap (λ r. r.checked) said.strings_in-said.ensures)
+    ∙ told.in-Lawful.is in
+    c.plan_read.ensures
+    ∙ ap (λ r. rows_plan_read r g.run.0) said.strings_in-said.ensures
     ∙ lines-lawful g.run.0 lines (some-lines g.text.now (omega arith)) lawful
 
-returns-3 : tie.Need-returns-3
+returns-3 : tie.Need-returns-in-Refused
 returns-3 c =
-    let known = c.before.before in
-    let said = known.before.before in
-    let g = known.before.before.before.before.before.args in
+    let known = c.before in
+    let said = known.before in
+    let g = known.args in
     let lines = lines_of g.text.now in
-    let refused = sym (strings-checked g.run.0 lines) ∙ sym (ap (λ r. r.checked) said.strings-in.ensures)
-    ∙ known.checked.given.1 in
-    c.refused-reading2.ensures
+    let refused = sym (strings-checked g.run.0 lines) ∙ sym (ap (λ r. r.checked) said.strings_in-said.ensures)
+    ∙ known.in-Refused.is in
+    c.refused_reading-in-Refused.ensures
     ∙ lines-refused g.run.0 lines (some-lines g.text.now (omega arith)) _ _ refused
 
 pub lines_read_spec : {M : Type 1} → statement M

@@ -3,16 +3,16 @@ use Rattle.base.proofs.Prelude.{sym, ◌∙◌, rules}
 use Rattle.register.proofs.{Reading.{plan-lawful, plan-refused}, plan_read.Statement.statement}
 use Rattle.register.proofs.plan_read.Tie as tie
 
-returns : tie.Need-returns
+returns : tie.Need-returns-in-Lawful
 returns c =
-    let check = c.before.before in
-    plan-lawful _ _ (sym check.multiple-check.ensures ∙ c.enum_told.given.1)
+    let check = c.before in
+    plan-lawful _ _ (sym check.multiple_check-multiple.ensures ∙ c.in-Lawful.is)
 
-returns-2 : tie.Need-returns-2
+returns-2 : tie.Need-returns-in-Refused
 returns-2 c =
-    let known = c.before.before in
-    c.refused-reading.ensures
-    ∙ plan-refused _ _ _ _ (sym known.before.before.multiple-check.ensures ∙ known.multiple.given.1)
+    let known = c.before in
+    c.refused_reading.ensures
+    ∙ plan-refused _ _ _ _ (sym known.multiple_check-multiple.ensures ∙ known.in-Refused.is)
 
 pub plan_read_spec : {M : Type 1} → statement M
 plan_read_spec =

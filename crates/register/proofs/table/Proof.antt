@@ -6,19 +6,19 @@ use Rattle.register.specs.Export.{table_text, export_check, export_answer, expor
 use Rattle.register.proofs.table.Statement.{statement}
 use Rattle.register.proofs.table.Tie as tie
 
-returns-2 : tie.Need-returns-2
+returns-2 : tie.Need-returns-in-Refused
 unfolding export_answer export_page export_check
 returns-2 c =
-    let known = c.before in
-    let check = known.before.before in
-    let g = check.before.before.args in
+    let known = c in
+    let check = known.before in
+    let g = check.args in
     let said = fit_refused (run_check g.p g.rs) (table_text g.p) g.page.now g.at _ _
-    (sym check.run-check.ensures ∙ known.checked.given.1) in
+    (sym check.run_check-checked.ensures ∙ known.in-Refused.is) in
     (sym said.0, sym said.1)
 
 pub table_spec : {M : Type 1} → statement M
 table_spec =
     tie.close (tie.spec
-    (λ c κs. search rules) (λ c. search rules) (λ c κs. sym c.before.before.before.run-check.ensures
-    ∙ c.before.enum_told.given.1)
-    (λ c. search rules) (λ c. search rules) (λ c. c.before.before.table-lawful.ensures) returns-2)
+    (λ c κs. search rules) (λ c. search rules) (λ c κs. sym c.run_check-checked.ensures
+    ∙ c.in-Lawful.is)
+    (λ c. search rules) (λ c. search rules) (λ c. c.table_lawful.ensures) returns-2)

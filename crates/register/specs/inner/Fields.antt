@@ -6,12 +6,6 @@
 use Rattle.std.specs.Prelude.{ℕ, suc, Bool, true, false, not, cond, ◌||◌, List, [], ◌∷◌, map, eqb, length, get_or, replicate}
 use Rattle.base.specs.Count.{filled}
 use Rattle.base.specs.Digits.{decimal_in}
-use Rattle.faults.specs.declared.Fault.{Fault}
-use Rattle.faults.specs.declared.Checked.{Checked}
-use Rattle.faults.specs.declared.Checked.TheVariants as checked
-use Rattle.faults.specs.Checks.{or_refused}
-use Rattle.rules.specs.Plan.{no_string}
-use Rattle.rules.specs.Text.{Line}
 use Rattle.register.specs.declared.fields.Numbers.{Numbers}
 use Rattle.register.specs.Table.{plain_number, numbers_formed}
 

@@ -13,6 +13,6 @@ pub on_line_spec : {M : Type 1} → statement M
 on_line_spec =
     tie.close (tie.spec
     (λ c. search rules) (λ c. search rules)
-    (λ c κs. omega (arith, c.before.before.before.requires, ap place_in c.before.saved2.given.1))
-    (λ c. sym (ap on_line c.before.saved.given.1))
-    (λ c. refused _ _ _ _ c.before.before.saved2.given.1 c.Line-of.ensures))
+    (λ c κs. omega (arith, c.requires, ap place_in c.in-Refused.is))
+    (λ c. sym (ap on_line c.in-Text.is))
+    (λ c. refused _ _ _ _ c.in-Refused.is c.line_of.ensures))

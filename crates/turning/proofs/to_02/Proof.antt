@@ -5,33 +5,33 @@ use Rattle.turning.specs.Turned.{on_line, place_in}
 use Rattle.turning.proofs.{AsWritten.{turn-when-refused, read-written, read_small}, to_02.Statement.statement}
 use Rattle.turning.proofs.to_02.Tie as tie
 
-on-line-requires : tie.Need-on-line-requires
+on-line-requires : tie.Need-on_line-requires
 on-line-requires c κs =
     let wrote = c.before.before in
     let told = wrote.before.before in
-    let found = told.before.before.before.before in
+    let found = told.before.before.before in
     let s = found.before.before.before in
-    let small = read_small version01 version02 s.args.text.now s.args.page.now s.args.at found.read-01.result
-    found.read-01.ensures.0 told.enum_told.given.1 in
-    omega (arith, ap place_in wrote.write-02.ensures.0)
+    let small = read_small version01 version02 s.args.text.now s.args.page.now s.args.at found.read_01-reading.result
+    found.read_01-reading.ensures.0 told.in-Lawful.is in
+    omega (arith, ap place_in wrote.write_02.ensures.0)
 
-returns : tie.Need-returns
+returns : tie.Need-returns-in-Lawful
 returns c =
     let wrote = c.before.before.before in
     let told = wrote.before.before in
-    let found = told.before.before.before.before in
+    let found = told.before.before.before in
     let s = found.before.before.before in
-    let said = read-written version01 version02 s.args.text.now s.args.page.now s.args.at found.read-01.result
-    found.read-01.ensures.0 told.enum_told.given.1 in
-    (c.on_line.ensures ∙ ap on_line wrote.write-02.ensures.0 ∙ said.0, (wrote.write-02.ensures.1 ∙ said.1, refl))
+    let said = read-written version01 version02 s.args.text.now s.args.page.now s.args.at found.read_01-reading.result
+    found.read_01-reading.ensures.0 told.in-Lawful.is in
+    (c.on_line.ensures ∙ ap on_line wrote.write_02.ensures.0 ∙ said.0, (wrote.write_02.ensures.1 ∙ said.1, refl))
 
-returns-2 : tie.Need-returns-2
+returns-2 : tie.Need-returns-in-Refused
 returns-2 c =
-    let told = c.before in
-    let found = told.before.before.before.before in
+    let told = c in
+    let found = told.before.before.before in
     let s = found.before.before.before in
-    let said = turn-when-refused version01 version02 s.args.text.now s.args.page.now s.args.at found.read-01.result
-    found.read-01.ensures.0 _ _ told.checked.given.1 in
+    let said = turn-when-refused version01 version02 s.args.text.now s.args.page.now s.args.at found.read_01-reading.result
+    found.read_01-reading.ensures.0 _ _ told.in-Refused.is in
     (said.0, (said.1, refl))
 
 pub to_02_spec : {M : Type 1} → statement M

@@ -4,13 +4,13 @@ use Rattle.rules.specs.Layout.{held_to}
 use Rattle.writing.proofs.write_02.Statement.{statement}
 use Rattle.writing.proofs.write_02.Tie as tie
 
-write-in-requires : tie.Need-write-in-requires
+write-in-requires : tie.Need-write_in-requires
 unfolding held_to
 write-in-requires c κs = refl
 
 returns : tie.Need-returns
 unfolding held_to
-returns c = c.before.before.write-in.ensures
+returns c = c.write_in.ensures
 
 pub write_02_spec : {M : Type 1} → statement M
 write_02_spec = tie.close (tie.spec write-in-requires (λ c. search rules) returns)

@@ -7,24 +7,24 @@ use Rattle.writing.proofs.{Saving.saved-refused, write_in.Statement.statement}
 use Rattle.writing.proofs.write_in.Tie as tie
 
 -- where the function starts, from the lawful arm of the check
-abbrev start : tie.After-enum-told → tie.Start
-start c = c.before.before.before.before
+abbrev start : tie.In-Lawful → tie.Start
+start c = c.before.before.before
 
 -- what the check said
-lawful : (c : tie.After-enum-told) → writable_check (meant_by (start c).args.version) (start c).args.p (start c).args.rs ≡ Lawful
-lawful c = sym c.before.before.writable-check.ensures ∙ c.enum_told.given.1
+lawful : (c : tie.In-Lawful) → writable_check (meant_by (start c).args.version) (start c).args.p (start c).args.rs ≡ Lawful
+lawful c = sym c.writable_check-checked.ensures ∙ c.in-Lawful.is
 
-returns-2 : tie.Need-returns-2
+returns-2 : tie.Need-returns-in-Refused
 returns-2 c =
-    let known = c.before in
-    let check = known.before.before in
+    let known = c in
+    let check = known.before in
     let s = check.before.before in
     let said = saved-refused (meant_by s.args.version) s.args.p s.args.rs s.args.page.now s.args.at _ _
-    (sym check.writable-check.ensures ∙ known.checked.given.1) in
+    (sym check.writable_check-checked.ensures ∙ known.in-Refused.is) in
     (sym said.0, sym said.1)
 
 pub write_in_spec : {M : Type 1} → statement M
 write_in_spec =
     tie.close (tie.spec
     (λ c κs. search rules) (λ c. search rules) (λ c κs. ((start c.before).requires, lawful c.before))
-    (λ c. search rules) (λ c. search rules) (λ c. c.before.before.write-lawful.ensures) returns-2)
+    (λ c. search rules) (λ c. search rules) (λ c. c.write_lawful.ensures) returns-2)

@@ -1,5 +1,5 @@
 -- `write_lawful` meets its contract: the room decides; where there is room, the part from the place on comes back with the text ahead.
-use Rattle.base.proofs.Prelude.{ℕ, ◌+◌, ◌*◌, ◌≤◌, ◌≡◌, sym, ap, arith, rules, length, length-map}
+use Rattle.base.proofs.Prelude.{ℕ, ◌+◌, ◌*◌, ◌≤◌, ◌≡◌, sym, ap, arith, rules, length}
 use Rattle.rules.specs.Layout.{Version}
 use Rattle.laws.proofs.Releases.{run_check-lawful}
 use Rattle.layouts.specs.inner.Versions.{meant_by}
@@ -8,17 +8,17 @@ use Rattle.writing.proofs.{Rows.long_as, Saving.{writable-run, saved-beyond, sav
 use Rattle.writing.proofs.write_lawful.Tie as tie
 
 -- where the function starts
-abbrev start : tie.After-struct-known3 → tie.Start
+abbrev start : tie.After-struct_known-3-1 → tie.Start
 start c = c.before.before.before.before
 
 abbrev version_of : tie.Start → Version
 version_of s = meant_by s.args.version
 
 ten : (s : tie.Start) → length s.args.p.strings ≡ 10
-ten s = simp length-map at s.well-formed.0.1.1.1.1.0.1.0.1
+ten s = s.well_formed.0.1.1.1.1.0.1.0.1
 
 thousand : (s : tie.Start) → length s.args.rs.list ≡ 1000
-thousand s = simp length-map at s.well-formed.1.0.1.1.1.0.1.0.1
+thousand s = s.well_formed.1.0.1.1.1.0.1.0.1
 
 -- the length that the code counts is the text's, and it is small
 abbrev long_of : tie.Start → ℕ
@@ -40,34 +40,34 @@ small s =
     let releases = thousand-short s.args.rs.count version.release.line good.few (release-line-short version s.requires.0) in
     omega (arith, header-line-short version s.requires.0)
 
-returns : tie.Need-returns
+returns : tie.Need-returns-then-page-at
 returns c =
     let s = start c.before in
-    let said = saved-beyond (version_of s) s.args.p s.args.rs s.args.page.now s.args.at s.pre.1 c.if1.true in
+    let said = saved-beyond (version_of s) s.args.p s.args.rs s.args.page.now s.args.at s.requires.1 c.if-page-at.true in
     (sym said.0, sym said.1)
 
-returns-2 : tie.Need-returns-2
+returns-2 : tie.Need-returns-then-page-at-2
 returns-2 c =
     let s = start c.before.before in
-    let said = saved-short (version_of s) s.args.p s.args.rs s.args.page.now s.args.at s.pre.1 (ten s)
-    (thousand s) (long_of s) (long-is s) c.if2.true in
+    let said = saved-short (version_of s) s.args.p s.args.rs s.args.page.now s.args.at s.requires.1 (ten s)
+    (thousand s) (long_of s) (long-is s) c.if-page-at-2.true in
     (sym said.0, sym said.1)
 
-put-plan-requires : tie.Need-put-plan-requires
+put-plan-requires : tie.Need-put_plan-requires
 put-plan-requires c κs =
     let s = start c.before.before.before in (
-      s.pre.0,
-      plan-fits (version_of s) s.args.p s.args.rs s.args.page.now s.args.at s.pre.1 (ten s) (thousand s)
+      s.requires.0,
+      plan-fits (version_of s) s.args.p s.args.rs s.args.page.now s.args.at s.requires.1 (ten s) (thousand s)
           (long_of s) (long-is s) (omega arith) (omega arith),
     )
 
-returns-3 : tie.Need-returns-3
+returns-3 : tie.Need-returns
 returns-3 c =
     let s = start c.before.before.before.before.before.before in
     let said =
-    saved-written (version_of s) s.args.p s.args.rs s.args.page.now s.args.at s.pre.1 (ten s) (thousand s)
+    saved-written (version_of s) s.args.p s.args.rs s.args.page.now s.args.at s.requires.1 (ten s) (thousand s)
     (long_of s) (long-is s) (omega arith) (omega arith) _
-    c.before.before.put-plan.ensures in
+    c.put_plan.ensures in
     (sym said.0, sym said.1)
 
 pub write_lawful_spec : {M : Type 1} → statement M

@@ -26,28 +26,28 @@ module _ (h t d : ℕ) (divisor : d ≡ gcd h t) (some : zero < t) where
   within : zero < h → h / d * t ≤ 100000 → capped 100000 (lcm h t) ≡ h / d * t
   within low high = capped-in 100000 (lcm h t) (lcm-pos h t low some) (omega (arith, product)) ∙ sym product
 
-abbrev start : tie.Else2 → tie.Start
+abbrev start : tie.Else-t-part → tie.Start
 start c = c.before.before.before
 
 -- what the test leaves
-fits : (c : tie.Else2) → (start c).args.h / c.before.common-divisor.result * (start c).args.t ≤ 100000
+fits : (c : tie.Else-t-part) → (start c).args.h / c.common_divisor.result * (start c).args.t ≤ 100000
 fits c =
     let some : zero < (start c).args.t = omega arith in
-    (le-div_iff_mul-le some).0 c.if2.false
+    (le-div_iff_mul-le some).0 c.if-t-part.false
 
-returns-2 : tie.Need-returns-2
+returns-2 : tie.Need-returns-then-t-part
 returns-2 c =
-    let g = c.before.before.before.args in
-    sym (past g.h g.t _ c.before.common-divisor.ensures (omega arith) c.if2.true)
+    let g = c.args in
+    sym (past g.h g.t _ c.common_divisor.ensures (omega arith) c.if-t-part.true)
 
-returns-3 : tie.Need-returns-3
+returns-3 : tie.Need-returns-else-t-part
 returns-3 c =
     let g = (start c).args in
-    sym (within g.h g.t _ c.before.common-divisor.ensures (omega arith) (omega arith) (fits c))
+    sym (within g.h g.t _ c.common_divisor.ensures (omega arith) (omega arith) (fits c))
 
 pub next_multiple_spec : {M : Type 1} → statement M
 next_multiple_spec =
     tie.close (tie.spec
     (λ c. sym (none _ _ (omega arith))) (λ c κs. search rules)
-    (λ c. positive _ _ _ c.common-divisor.ensures (omega arith)) (λ c. search rules) (λ c. omega (arith, fits c))
+    (λ c. positive _ _ _ c.common_divisor.ensures (omega arith)) (λ c. search rules) (λ c. omega (arith, fits c))
     returns-2 returns-3)

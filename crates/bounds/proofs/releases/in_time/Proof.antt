@@ -3,13 +3,13 @@ use Rattle.base.proofs.Prelude.{sym, ap, ◌∙◌, not, rules}
 use Rattle.bounds.proofs.{InTime.{late_is, early-is}, releases.in_time.Statement.statement}
 use Rattle.bounds.proofs.releases.in_time.Tie as tie
 
-returns : tie.Need-returns
+returns : tie.Need-returns-in-Of
 returns c =
-    let o = c.before.before.before.before in
-    ap not c.shorter.ensures ∙ late_is _ _ _ _ (sym o.since.ensures ∙ c.before.before.length.given.1)
+    let o = c.before.before in
+    ap not c.shorter.ensures ∙ late_is _ _ _ _ (sym o.since.ensures ∙ c.in-Of.is)
 
-returns-2 : tie.Need-returns-2
-returns-2 c = early-is _ _ _ (sym c.before.before.since.ensures ∙ c.enum_told.given.1)
+returns-2 : tie.Need-returns-in-Backwards
+returns-2 c = early-is _ _ _ (sym c.since.ensures ∙ c.in-Backwards.is)
 
 pub in_time_spec : {M : Type 1} → statement M
 in_time_spec =

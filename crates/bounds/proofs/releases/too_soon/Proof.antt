@@ -5,22 +5,22 @@ use Rattle.bounds.specs.inner.Seen.{too_soon}
 use Rattle.bounds.proofs.releases.too_soon.Statement.{statement}
 use Rattle.bounds.proofs.releases.too_soon.Tie as tie
 
-returns : tie.Need-returns
+returns : tie.Need-returns-in-Never
 unfolding too_soon
-returns c = rw c.enum_told.given.1
+returns c = rw c.in-Never.is
 
-returns-2 : tie.Need-returns-2
+returns-2 : tie.Need-returns-in-Of
 unfolding too_soon
 returns-2 c =
-    let o = c.before.before.before.before in
-    rw o.before.before.last.given.1
-    (c.shorter.ensures ∙ gap_of-shorter _ _ _ _ (sym o.since.ensures ∙ c.before.before.length.given.1))
+    let o = c.before.before in
+    rw o.in-On.is
+    (c.shorter.ensures ∙ gap_of-shorter _ _ _ _ (sym o.since.ensures ∙ c.in-Of.is))
 
-returns-3 : tie.Need-returns-3
+returns-3 : tie.Need-returns-in-Backwards
 unfolding too_soon
 returns-3 c =
-    let o = c.before.before in
-    rw o.before.before.last.given.1 (sym (gap_of-sooner _ _ _ (sym o.since.ensures ∙ c.enum-told2.given.1)))
+    let o = c.before in
+    rw o.in-On.is (sym (gap_of-sooner _ _ _ (sym o.since.ensures ∙ c.in-Backwards.is)))
 
 pub too_soon_spec : {M : Type 1} → statement M
 too_soon_spec =

@@ -7,4 +7,4 @@ use Rattle.lines.proofs.bars.idle_line.Tie as tie
 
 pub idle_line_spec : {M : Type 1} → statement M
 unfolding bytes_of worded_in marked takes filled_in idle_line
-idle_line_spec = tie.close (tie.spec (λ c. search rules) (λ c. search rules) (λ c κs. search rules) λ c. c.lone-line.ensures)
+idle_line_spec = tie.close (tie.spec (λ c. search rules) (λ c κs. search rules) λ c. c.lone_line.ensures)

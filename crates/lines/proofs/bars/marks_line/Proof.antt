@@ -7,4 +7,4 @@ use Rattle.lines.proofs.bars.marks_line.Tie as tie
 
 pub marks_line_spec : {M : Type 1} → statement M
 unfolding bytes_of worded_in marked takes filled_in marks_line
-marks_line_spec = tie.close (tie.spec (λ c. search rules) (λ c. search rules) (λ c κs. search rules) λ c. c.lone-line.ensures)
+marks_line_spec = tie.close (tie.spec (λ c κs. search rules) λ c. c.lone_line.ensures)

@@ -7,9 +7,9 @@ use Rattle.lines.proofs.board.number_line.Tie as tie
 
 returns : tie.Need-returns
 unfolding bytes_of worded_in marked takes filled_in number_line
-returns c = (rw (sym c.before.before.fault-number.ensures) c.lone-line.ensures.0, c.lone-line.ensures.1)
+returns c = (rw (sym c.fault_number.ensures) c.lone_line.ensures.0, c.lone_line.ensures.1)
 
 pub number_line_spec : {M : Type 1} → statement M
 number_line_spec =
     tie.close (tie.spec
-    (λ c. search rules) (λ c κs. search rules) (λ c. search rules) (λ c. search rules) (λ c κs. search rules) returns)
+    (λ c κs. search rules) (λ c. search rules) (λ c. search rules) (λ c κs. search rules) returns)

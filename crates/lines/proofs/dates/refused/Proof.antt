@@ -7,9 +7,9 @@ use Rattle.lines.proofs.dates.refused.Tie as tie
 
 returns : tie.Need-returns
 unfolding bytes_of worded_in marked takes filled_in refused_line
-returns c = (rw (sym c.before.before.before.fault-number.ensures) c.lone-line.ensures.0, c.lone-line.ensures.1)
+returns c = (rw (sym c.fault_number.ensures) c.lone_line.ensures.0, c.lone_line.ensures.1)
 
 pub refused_spec : {M : Type 1} → statement M
 refused_spec =
     tie.close (tie.spec
-    (λ c κs. search rules) (λ c. search rules) (λ c. search rules) (λ c. search rules) (λ c κs. search rules) returns)
+    (λ c κs. search rules) (λ c. search rules) (λ c. search rules) (λ c κs. search rules) returns)

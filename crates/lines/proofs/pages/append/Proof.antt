@@ -30,32 +30,32 @@ module _ (page : Page) (text bytes : List ℕ) (i : ℕ) (w : Written page) wher
       omega (arith, len_is page (text_of page) w, length-append (text_of page) text) in
       rw (e, all, take-length text) (ap (λ n. record { len = n; bytes = filled 256 0 (text_of page ++ text) }) len)
 
-abbrev invariant-loop : tie.invariant-loop
+abbrev invariant-loop : tie.invariant-loop-i
 invariant-loop text at bytes₀ i₀ bytes i = (i ≤ length text) × (bytes ≡ copy at bytes₀ text i)
 
-abbrev decreases-loop : tie.decreases-loop
+abbrev decreases-loop : tie.decreases-loop-i
 decreases-loop text at bytes₀ i₀ bytes i = length text - i
 
-loop-holds : tie.Need-loop-init invariant-loop decreases-loop
+loop-holds : tie.Need-loop-i-init invariant-loop decreases-loop
 loop-holds c =
     let start = c.before in
     (omega arith, begun start.args.page start.args.text.now [] 0 start.requires.0)
 
-loop-again : tie.Need-loop-preserved invariant-loop decreases-loop
+loop-again : tie.Need-loop-i-preserved invariant-loop decreases-loop
 loop-again c =
     let at = c.before.before in
     let start = at.before.before in
     let g = start.args in (
       omega arith,
-      copied g.page g.text.now at.loop.bytes at.loop.i start.requires.0 start.requires.1 (omega arith)
-          at.loop.invariant.1,
+      copied g.page g.text.now at.loop-i.bytes at.loop-i.i start.requires.0 start.requires.1 (omega arith)
+          at.loop-i.invariant.1,
     )
 
 returns : tie.Need-returns invariant-loop decreases-loop
 returns c =
     let at = c.before in
     let start = at.before.before in
-    done start.args.page start.args.text.now at.loop.bytes at.loop.i start.requires.0 (omega arith) at.loop.invariant.1
+    done start.args.page start.args.text.now at.loop-i.bytes at.loop-i.i start.requires.0 (omega arith) at.loop-i.invariant.1
 
 pub append_spec : {M : Type 1} → statement M
 append_spec =

@@ -5,17 +5,17 @@ use Rattle.lines.specs.inner.Templates.{marked, takes, filled_in}
 use Rattle.lines.proofs.parts.assign_line.Statement.{statement}
 use Rattle.lines.proofs.parts.assign_line.Tie as tie
 
-returns : tie.Need-returns
+returns : tie.Need-returns-in-Takers
 unfolding bytes_of worded_in marked takes filled_in assign_line
-returns c = (rw c.before.before.before.before.a.given.1 c.fill-in.ensures.0, omega arith)
+returns c = (rw c.in-Takers.is c.fill_in.ensures.0, omega arith)
 
-returns-2 : tie.Need-returns-2
+returns-2 : tie.Need-returns-in-Nobody
 unfolding bytes_of worded_in filled_in assign_line
-returns-2 c = (rw c.before.before.before.enum_told.given.1 c.fill-in2.ensures.0, omega arith)
+returns-2 c = (rw c.in-Nobody.is c.fill_in-in-Nobody.ensures.0, omega arith)
 
 pub assign_line_spec : {M : Type 1} → statement M
 assign_line_spec =
     tie.close (tie.spec
     (λ c. search rules) (λ c. search rules) (λ c. search rules)
-    (λ c. search rules) (λ c κs. search rules) (λ c. search rules) (λ c. search rules) (λ c. search rules)
+    (λ c κs. search rules) (λ c. search rules)
     (λ c κs. search rules) returns returns-2)

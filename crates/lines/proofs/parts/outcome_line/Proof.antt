@@ -5,17 +5,17 @@ use Rattle.lines.specs.inner.Templates.{marked, takes, filled_in}
 use Rattle.lines.proofs.parts.outcome_line.Statement.{statement}
 use Rattle.lines.proofs.parts.outcome_line.Tie as tie
 
-returns : tie.Need-returns
+returns : tie.Need-returns-in-Miss
 unfolding bytes_of worded_in marked takes filled_in outcome_line
-returns c = rw c.before.before.before.before.before.o.given.1 c.fill-in.ensures.0
+returns c = rw c.in-Miss.is c.fill_in.ensures.0
 
-returns-2 : tie.Need-returns-2
+returns-2 : tie.Need-returns-in-Clean
 unfolding bytes_of worded_in marked takes filled_in outcome_line
-returns-2 c = rw c.before.before.before.before.before.before.before.o2.given.1 c.fill-in2.ensures.0
+returns-2 c = rw c.in-Clean.is c.fill_in-in-Clean.ensures.0
 
 pub outcome_line_spec : {M : Type 1} → statement M
 outcome_line_spec =
     tie.close (tie.spec
     (λ c. search rules) (λ c. search rules) (λ c. search rules)
-    (λ c. search rules) (λ c κs. search rules) (λ c. search rules) (λ c. search rules) (λ c. search rules)
-    (λ c. search rules) (λ c. search rules) (λ c. search rules) (λ c κs. search rules) returns returns-2)
+    (λ c κs. search rules) (λ c. search rules) (λ c. search rules) (λ c. search rules)
+    (λ c. search rules) (λ c. search rules) (λ c κs. search rules) returns returns-2)

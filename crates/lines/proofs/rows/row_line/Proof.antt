@@ -10,4 +10,4 @@ unfolding bytes_of worded_in marked takes filled_in row_line
 row_line_spec =
     tie.close (tie.spec
     (λ c. search rules) (λ c. search rules) (λ c. search rules) (λ c. search rules) (λ c. search rules) (λ c. search rules)
-    (λ c. search rules) (λ c. search rules) (λ c κs. search rules) (λ c. c.lone-line.ensures))
+    (λ c. search rules) (λ c κs. search rules) (λ c. c.lone_line.ensures))

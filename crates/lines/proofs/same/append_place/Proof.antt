@@ -7,7 +7,7 @@ use Rattle.lines.proofs.same.append_place.Tie as tie
 
 returns : tie.Need-returns
 unfolding bytes_of marked takes filled_in
-returns c = (simp append-nil at c.fill-in.ensures.0, omega (arith, c.fill-in.ensures.1))
+returns c = (simp append-nil at c.fill_in.ensures.0, omega (arith, c.fill_in.ensures.1))
 
 pub append_place_spec : {M : Type 1} → statement M
-append_place_spec = tie.close (tie.spec (λ c. search rules) (λ c. search rules) (λ c κs. search rules) returns)
+append_place_spec = tie.close (tie.spec (λ c. search rules) (λ c κs. search rules) returns)

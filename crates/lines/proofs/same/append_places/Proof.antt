@@ -12,7 +12,7 @@ use Rattle.lines.proofs.PlacesText.{behind, places-none, places-text-more}
 use Rattle.lines.proofs.same.append_places.Statement.{statement}
 use Rattle.lines.proofs.same.append_places.Tie as tie
 
-abbrev invariant-loop : tie.invariant-loop
+abbrev invariant-loop : tie.invariant-loop-i
 invariant-loop n places page i₀ next i =
     record {
       upto : i ≤ n;
@@ -22,10 +22,10 @@ invariant-loop n places page i₀ next i =
       text : next ≡ page_of (text_of page ++ places_text (take i places));
     }
 
-abbrev decreases-loop : tie.decreases-loop
+abbrev decreases-loop : tie.decreases-loop-i
 decreases-loop n places page i₀ next i = n - i
 
-loop-holds : tie.Need-loop-init invariant-loop decreases-loop
+loop-holds : tie.Need-loop-i-init invariant-loop decreases-loop
 loop-holds c =
     record {
       upto = omega arith;
@@ -35,44 +35,44 @@ loop-holds c =
       text = own _ c.requires.0 ∙ ap page_of (places-none (text_of c.args.page));
     }
 
-mul-append-place : tie.Need-overflow-mul-append-place invariant-loop decreases-loop
+mul-append-place : tie.Need-offset_bounds-places-i invariant-loop decreases-loop
 mul-append-place c = omega arith
 
-array-read-append-place : tie.Need-array-read-append-place invariant-loop decreases-loop
+array-read-append-place : tie.Need-bounds-places-i invariant-loop decreases-loop
 array-read-append-place c = omega arith
 
-append-place-requires : tie.Need-append-place-requires invariant-loop decreases-loop
+append-place-requires : tie.Need-append_place-next-requires invariant-loop decreases-loop
 append-place-requires c κs =
     let at = c.before in
-    (written _ _ at.loop.invariant.text, omega (arith, at.loop.invariant.short, at.loop.invariant.few))
+    (written _ _ at.loop-i.invariant.text, omega (arith, at.loop-i.invariant.short, at.loop-i.invariant.few))
 
-add-i : tie.Need-overflow-add-i invariant-loop decreases-loop
+add-i : tie.Need-overflow_add-i invariant-loop decreases-loop
 add-i c = omega arith
 
-loop-less : tie.Need-loop-smaller invariant-loop decreases-loop
+loop-less : tie.Need-loop-i-smaller invariant-loop decreases-loop
 loop-less c = omega arith
 
-loop-again : tie.Need-loop-preserved invariant-loop decreases-loop
+loop-again : tie.Need-loop-i-preserved invariant-loop decreases-loop
 loop-again c =
     let at = c.before.before in
-    let a = at.before.args in
-    let more = places-text-more a.t3 at.loop.i (omega (arith, at.loop.invariant.few, at.loop.invariant.ten)) in
+    let a = at.args in
+    let more = places-text-more a.places at.loop-i.i (omega (arith, at.loop-i.invariant.few, at.loop-i.invariant.ten)) in
     record {
       upto = omega arith;
-      few = at.loop.invariant.few;
-      ten = at.loop.invariant.ten;
-      short = omega (arith, c.append-place.ensures.1, at.loop.invariant.short);
-      text = behind _ _ (text_of a.page) (places_text (take at.loop.i a.t3)) _ at.loop.invariant.text c.append-place.ensures.0
+      few = at.loop-i.invariant.few;
+      ten = at.loop-i.invariant.ten;
+      short = omega (arith, c.append_place-next.ensures.1, at.loop-i.invariant.short);
+      text = behind _ _ (text_of a.page) (places_text (take at.loop-i.i a.places)) _ at.loop-i.invariant.text c.append_place-next.ensures.0
           ∙ ap (λ text. page_of (text_of a.page ++ text)) (sym more);
     }
 
 returns : tie.Need-returns invariant-loop decreases-loop
 returns c =
     let at = c.before in
-    let a = at.before.args in
-    let all : at.loop.i ≡ a.n = omega (arith, at.loop.invariant.upto) in (
-      at.loop.invariant.text ∙ ap (λ k. page_of (text_of a.page ++ places_text (take k a.t3))) all,
-      omega (arith, at.loop.invariant.short, at.loop.invariant.few),
+    let a = at.args in
+    let all : at.loop-i.i ≡ a.n = omega (arith, at.loop-i.invariant.upto) in (
+      at.loop-i.invariant.text ∙ ap (λ k. page_of (text_of a.page ++ places_text (take k a.places))) all,
+      omega (arith, at.loop-i.invariant.short, at.loop-i.invariant.few),
     )
 
 pub append_places_spec : {M : Type 1} → statement M

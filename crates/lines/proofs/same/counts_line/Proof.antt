@@ -7,4 +7,4 @@ use Rattle.lines.proofs.same.counts_line.Tie as tie
 
 pub counts_line_spec : {M : Type 1} → statement M
 unfolding bytes_of worded_in marked takes filled_in counts_line
-counts_line_spec = tie.close (tie.spec (λ c. search rules) (λ c. search rules) (λ c κs. search rules) λ c. c.lone-line.ensures)
+counts_line_spec = tie.close (tie.spec (λ c. search rules) (λ c κs. search rules) λ c. c.lone_line.ensures)

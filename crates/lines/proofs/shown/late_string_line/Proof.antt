@@ -5,31 +5,31 @@ use Rattle.lines.specs.{Shown.{permission, late_words, string_line}, inner.Templ
 use Rattle.lines.proofs.shown.late_string_line.Statement.{statement}
 use Rattle.lines.proofs.shown.late_string_line.Tie as tie
 
-abbrev start : tie.After-struct-known6 → tie.Start
+abbrev start : tie.After-struct_known-6-1 → tie.Start
 start c = c.before.before.before.before.before.before
 
 some-late : (c : tie.Start) → c.args.s.j.0 ≡ 0 → ⊥
 some-late c e = omega (arith, c.requires)
 
-returns : tie.Need-returns
+returns : tie.Need-returns-then-s-eq1
 unfolding bytes_of worded_in marked takes filled_in permission late_words string_line
 returns c =
     let test = c.before.before.before in (
-      rw (ne_eqb _ 0 (some-late (start test.before)), eq-eqb _ 1 test.if1.true) c.lone-line.ensures.0,
-      c.lone-line.ensures.1,
+      rw (ne_eqb _ 0 (some-late (start test.before.before)), eq-eqb _ 1 test.if-s-eq1.true) c.lone_line.ensures.0,
+      c.lone_line.ensures.1,
     )
 
-returns-2 : tie.Need-returns-2
+returns-2 : tie.Need-returns
 unfolding bytes_of worded_in marked takes filled_in permission late_words string_line
 returns-2 c =
     let test = c.before.before.before in (
-      rw (ne_eqb _ 0 (some-late (start test.before)), ne_eqb _ 1 test.if1.false) c.lone-line2.ensures.0,
-      c.lone-line2.ensures.1,
+      rw (ne_eqb _ 0 (some-late (start test.before.before)), ne_eqb _ 1 test.if-s-eq1.false) c.lone_line-2.ensures.0,
+      c.lone_line-2.ensures.1,
     )
 
 pub late_string_line_spec : {M : Type 1} → statement M
 late_string_line_spec =
     tie.close (tie.spec
     (λ c. search rules) (λ c. search rules) (λ c. search rules) (λ c. search rules) (λ c. search rules)
-    (λ c. search rules) (λ c. search rules) (λ c κs. search rules) returns (λ c. search rules) (λ c. search rules) (λ c κs. search rules)
+    (λ c. search rules) (λ c κs. search rules) returns (λ c. search rules) (λ c κs. search rules)
     returns-2)

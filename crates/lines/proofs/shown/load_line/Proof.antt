@@ -9,4 +9,4 @@ pub load_line_spec : {M : Type 1} → statement M
 unfolding bytes_of worded_in marked takes filled_in load_line
 load_line_spec =
     tie.close (tie.spec
-    (λ c. search rules) (λ c. search rules) (λ c κs. search rules) λ c. c.lone-line.ensures)
+    (λ c. search rules) (λ c κs. search rules) λ c. c.lone_line.ensures)

@@ -5,21 +5,21 @@ use Rattle.lines.specs.{Stints.days_line, inner.Templates.{marked, takes, filled
 use Rattle.lines.proofs.stints.days_line.Statement.{statement}
 use Rattle.lines.proofs.stints.days_line.Tie as tie
 
-returns : tie.Need-returns
+returns : tie.Need-returns-in-Idle
 unfolding bytes_of worded_in marked takes filled_in days_line
-returns c = (rw c.before.before.before.enum_told.given.1 c.lone-line.ensures.0, c.lone-line.ensures.1)
+returns c = (rw c.in-Idle.is c.lone_line.ensures.0, c.lone_line.ensures.1)
 
-returns-2 : tie.Need-returns-2
+returns-2 : tie.Need-returns-in-Work
 unfolding bytes_of worded_in marked takes filled_in days_line
-returns-2 c = (rw c.before.before.before.before.used.given.1 c.lone-line2.ensures.0, c.lone-line2.ensures.1)
+returns-2 c = (rw c.in-Work.is c.lone_line-in-Work.ensures.0, c.lone_line-in-Work.ensures.1)
 
-returns-3 : tie.Need-returns-3
+returns-3 : tie.Need-returns-in-Move
 unfolding bytes_of worded_in marked takes filled_in days_line
-returns-3 c = (rw c.before.before.before.before.used2.given.1 c.lone-line3.ensures.0, c.lone-line3.ensures.1)
+returns-3 c = (rw c.in-Move.is c.lone_line-in-Move.ensures.0, c.lone_line-in-Move.ensures.1)
 
 pub days_line_spec : {M : Type 1} → statement M
 days_line_spec =
     tie.close (tie.spec
-    (λ c. search rules) (λ c. search rules) (λ c. search rules) (λ c κs. search rules) (λ c. search rules)
-    (λ c. search rules) (λ c. search rules) (λ c κs. search rules) (λ c. search rules) (λ c. search rules)
-    (λ c. search rules) (λ c κs. search rules) returns returns-2 returns-3)
+    (λ c. search rules) (λ c. search rules) (λ c κs. search rules) (λ c. search rules)
+    (λ c. search rules) (λ c κs. search rules) (λ c. search rules) (λ c. search rules)
+    (λ c κs. search rules) returns returns-2 returns-3)

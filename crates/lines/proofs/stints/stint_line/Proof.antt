@@ -4,13 +4,13 @@ use Rattle.lines.specs.Stints.{stint_line}
 use Rattle.lines.proofs.stints.stint_line.Statement.{statement}
 use Rattle.lines.proofs.stints.stint_line.Tie as tie
 
-returns : tie.Need-returns
+returns : tie.Need-returns-then-s-lt2
 unfolding stint_line
-returns c = (rw (lt-ltb _ _ c.before.if1.true) c.one-day-line.ensures.0, c.one-day-line.ensures.1)
+returns c = (rw (lt-ltb _ _ c.if-s-lt2.true) c.one_day_line.ensures.0, c.one_day_line.ensures.1)
 
-returns-2 : tie.Need-returns-2
+returns-2 : tie.Need-returns
 unfolding stint_line
-returns-2 c = (rw (le-ltb _ _ c.before.before.if1.false) c.days-line.ensures.0, c.days-line.ensures.1)
+returns-2 c = (rw (le-ltb _ _ c.if-s-lt2.false) c.days_line.ensures.0, c.days_line.ensures.1)
 
 pub stint_line_spec : {M : Type 1} → statement M
 stint_line_spec =

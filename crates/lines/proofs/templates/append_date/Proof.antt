@@ -14,25 +14,25 @@ kept : (page : Page) (date : WhichDate) (f : Fault) (at : ℕ) → Written page 
 unfolding date_for
 kept page date f at w e = rw (e, append-nil (text_of page)) (own page w)
 
-append-text-requires : tie.Need-append-text-requires
+append-text-requires : tie.Need-append_text-requires
 append-text-requires c κs =
-    let found = c.before in
-    let asked = found.before.before in
-    (asked.before.before.requires.0, (omega arith, date_answer-exists _ _ (sym asked.from-day.ensures ∙ found.date.given.1)))
+    let found = c in
+    let asked = found.before in
+    (asked.requires.0, (omega arith, date_answer-exists _ _ (sym asked.from_day-date.ensures ∙ found.in-Is.is)))
 
-returns-2 : tie.Need-returns-2
+returns-2 : tie.Need-returns-in-Is
 unfolding date_for
 returns-2 c =
-    let found = c.before.before in
-    rw (sym found.before.before.from-day.ensures ∙ found.date.given.1) c.append-text.ensures
+    let found = c.before in
+    rw (sym found.from_day-date.ensures ∙ found.in-Is.is) c.append_text.ensures
 
-returns-3 : tie.Need-returns-3
+returns-3 : tie.Need-returns-in-Refused
 returns-3 c =
-    let asked = c.before.before in
-    kept _ _ _ _ asked.before.before.requires.0 (sym asked.from-day.ensures ∙ c.enum_told.given.1)
+    let asked = c.before in
+    kept _ _ _ _ asked.requires.0 (sym asked.from_day-date.ensures ∙ c.in-Refused.is)
 
 pub append_date_spec : {M : Type 1} → statement M
 append_date_spec =
     tie.close (tie.spec
-    (λ c. kept _ _ _ _ c.before.requires.0 (date_answer-refused _ (omega arith))) (λ c. search rules)
+    (λ c. kept _ _ _ _ c.requires.0 (date_answer-refused _ (omega arith))) (λ c. search rules)
     (λ c κs. search rules) (λ c. search rules) append-text-requires (λ c. search rules) returns-2 returns-3)

@@ -7,18 +7,18 @@ use Rattle.lines.proofs.templates.append_text.Statement.{statement}
 use Rattle.lines.proofs.templates.append_text.Tie as tie
 
 -- what was written
-written : (c : tie.After-date-text) → c.date-text.result.bytes ≡ date_text c.before.args.d
-written c = ap (λ (t : DateText). t.bytes) (c.date-text.ensures ∙ date_writing-is c.before.args.d c.before.requires.1.1)
+written : (c : tie.After-date_text-text) → c.date_text-text.result.bytes ≡ date_text c.args.d
+written c = ap (λ (t : DateText). t.bytes) (c.date_text-text.ensures ∙ date_writing-is c.args.d c.requires.1.1)
 
 append-requires : tie.Need-append-requires
 append-requires c κs =
     let text = c.before.before in
-    (text.before.requires.0, omega (arith, ap length (written text), date_text-ten text.before.args.d))
+    (text.requires.0, omega (arith, ap length (written text), date_text-ten text.args.d))
 
 returns : tie.Need-returns
 returns c =
     let text = c.before.before.before in
-    c.append.ensures ∙ ap (λ bytes. page_of (text_of text.before.args.page ++ bytes)) (written text)
+    c.append.ensures ∙ ap (λ bytes. page_of (text_of text.args.page ++ bytes)) (written text)
 
 pub append_text_spec : {M : Type 1} → statement M
 append_text_spec = tie.close (tie.spec (λ c κs. search rules) (λ c. search rules) append-requires returns)

@@ -4,7 +4,7 @@ use Rattle.lines.specs.{Pages.{text_of, Written}, inner.Templates.filled_in}
 use Rattle.lines.proofs.{Digits.decimal-64, Growing.{own, written, len_more}, Filled.{marked-short, takes-most, filled_more, filled-used, filled-whole}, templates.fill_in.Statement.statement}
 use Rattle.lines.proofs.templates.fill_in.Tie as tie
 
-abbrev invariant-loop : tie.invariant-loop
+abbrev invariant-loop : tie.invariant-loop-at
 invariant-loop template numbers page at₀ next₀ filled at next = record {
   in_text : at ≤ length template;
   in_numbers : next ≤ length numbers;
@@ -13,63 +13,63 @@ invariant-loop template numbers page at₀ next₀ filled at next = record {
   whole : text_of filled ++ filled_in (drop at template) (drop next numbers) ≡ text_of page ++ filled_in template numbers;
 }
 
-abbrev decreases-loop : tie.decreases-loop
+abbrev decreases-loop : tie.decreases-loop-at
 decreases-loop template numbers page at₀ next₀ filled at next = length template - at
 
-loop-holds : tie.Need-loop-init invariant-loop decreases-loop
-loop-holds c = record { in_text = omega arith; in_numbers = omega arith; room = omega arith; kept = c.before.before.requires.0; whole = refl }
+loop-holds : tie.Need-loop-at-init invariant-loop decreases-loop
+loop-holds c = record { in_text = omega arith; in_numbers = omega arith; room = omega arith; kept = c.requires.0; whole = refl }
 
 append-requires : tie.Need-append-requires invariant-loop decreases-loop
 append-requires c κs =
     let at = c.before.before.before in
-    let text = at.before.before.before.args.template.now in
-    (at.loop.invariant.kept, omega (arith, length-take (length text - at.loop.at) (drop at.loop.at text)))
+    let text = at.args.template.now in
+    (at.loop-at.invariant.kept, omega (arith, length-take (length text - at.loop-at.at) (drop at.loop-at.at text)))
 
-returns : tie.Need-returns invariant-loop decreases-loop
+returns : tie.Need-returns-then-next-numbers invariant-loop decreases-loop
 returns c =
     let at = c.before.before.before.before in
-    let g = at.before.before.before.args in
+    let g = at.args in
     let text = g.template.now in
-    let inv = at.loop.invariant in
-    let long = len_more _ _ _ _ (own at.loop.filled inv.kept) c.append.ensures in (
-      filled-used at.loop.filled g.page text g.numbers.now at.loop.at at.loop.next inv.kept inv.whole _
+    let inv = at.loop-at.invariant in
+    let long = len_more _ _ _ _ (own at.loop-at.filled inv.kept) c.append.ensures in (
+      filled-used at.loop-at.filled g.page text g.numbers.now at.loop-at.at at.loop-at.next inv.kept inv.whole _
           (omega arith) c.append.ensures,
-      omega (arith, length-take (length text - at.loop.at) (drop at.loop.at text)),
+      omega (arith, length-take (length text - at.loop-at.at) (drop at.loop-at.at text)),
     )
 
 -- a mark takes one number
-add-next : tie.Need-overflow-add-next invariant-loop decreases-loop
+add-next : tie.Need-overflow_add-next invariant-loop decreases-loop
 add-next c =
     let at = c.before.before.before.before.before.before in
-    omega (arith, takes-most (get_or at.before.before.before.args.template.now at.loop.at 0))
+    omega (arith, takes-most (get_or at.args.template.now at.loop-at.at 0))
 
-loop-again : tie.Need-loop-preserved invariant-loop decreases-loop
+loop-again : tie.Need-loop-at-preserved invariant-loop decreases-loop
 loop-again c =
     let at = c.before.before.before.before.before.before in
-    let g = at.before.before.before.args in
-    let inv = at.loop.invariant in
-    let b = get_or g.template.now at.loop.at 0 in
-    let n = get_or g.numbers.now at.loop.next 0 in
-    let small = c.before.before.shared-slice-known4.given at.loop.next in
+    let g = at.args in
+    let inv = at.loop-at.invariant in
+    let b = get_or g.template.now at.loop-at.at 0 in
+    let n = get_or g.numbers.now at.loop-at.next 0 in
+    let small = c.shared_slice_known-in-loop-at-2-1.given at.loop-at.next in
     let here = marked-short 20 b n (omega arith) (decimal-64 n (omega arith)) in
     let most = takes-most b in
-    let long = len_more _ _ _ _ (own at.loop.filled inv.kept) c.before.append-marked.ensures in
+    let long = len_more _ _ _ _ (own at.loop-at.filled inv.kept) c.append_marked-filled.ensures in
     record {
       in_text = omega arith;
       in_numbers = omega arith;
       room = omega arith;
-      kept = written _ _ c.before.append-marked.ensures;
-      whole = rw c.takes-number.ensures
-          (filled_more at.loop.filled g.page g.template.now g.numbers.now at.loop.at at.loop.next inv.kept
-          inv.whole _ (omega arith) (omega arith) c.before.append-marked.ensures);
+      kept = written _ _ c.append_marked-filled.ensures;
+      whole = rw c.takes_number-next.ensures
+          (filled_more at.loop-at.filled g.page g.template.now g.numbers.now at.loop-at.at at.loop-at.next inv.kept
+          inv.whole _ (omega arith) (omega arith) c.append_marked-filled.ensures);
     }
 
-returns-2 : tie.Need-returns-2 invariant-loop decreases-loop
+returns-2 : tie.Need-returns invariant-loop decreases-loop
 returns-2 c =
     let at = c.before in
-    let g = at.before.before.before.args in
-    let inv = at.loop.invariant in (
-      filled-whole at.loop.filled g.page g.template.now g.numbers.now at.loop.at at.loop.next inv.kept
+    let g = at.args in
+    let inv = at.loop-at.invariant in (
+      filled-whole at.loop-at.filled g.page g.template.now g.numbers.now at.loop-at.at at.loop-at.next inv.kept
           inv.whole (omega arith),
       omega arith,
     )
@@ -79,5 +79,5 @@ fill_in_spec =
     tie.close (tie.spec
     invariant-loop decreases-loop loop-holds (λ c. omega arith) (λ c. omega arith) (λ c. omega arith) append-requires returns
     (λ c. omega arith) (λ c. omega arith) (λ c. omega arith)
-    (λ c κs. (c.before.before.before.before.loop.invariant.kept, omega arith)) (λ c κs. tt) add-next (λ c. omega arith)
+    (λ c κs. (c.loop-at.invariant.kept, omega arith)) (λ c κs. tt) add-next (λ c. omega arith)
     (λ c. omega arith) loop-again returns-2)

@@ -5,7 +5,7 @@ use Rattle.lines.proofs.templates.lone_line.Tie as tie
 
 returns : tie.Need-returns
 returns c =
-    let is = grown _ _ [] _ c.before.blank.ensures c.fill-in.ensures.0 in
+    let is = grown _ _ [] _ c.blank.ensures c.fill_in.ensures.0 in
     (is, within _ _ is)
 
 pub lone_line_spec : {M : Type 1} → statement M

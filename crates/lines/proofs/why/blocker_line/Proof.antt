@@ -7,8 +7,8 @@ use Rattle.lines.proofs.why.blocker_line.Tie as tie
 
 returns : tie.Need-returns
 unfolding bytes_of worded_in marked takes filled_in blocker_line
-returns c = (rw (sym c.before.before.before.before.more-than.ensures) c.lone-line.ensures.0, c.lone-line.ensures.1)
+returns c = (rw (sym c.more_than-left.ensures) c.lone_line.ensures.0, c.lone_line.ensures.1)
 
 pub blocker_line_spec : {M : Type 1} → statement M
-blocker_line_spec = tie.close (tie.spec (λ c κs. search rules) (λ c. search rules) (λ c. search rules) (λ c. search rules)
+blocker_line_spec = tie.close (tie.spec (λ c κs. search rules) (λ c. search rules) (λ c. search rules)
     (λ c κs. search rules) returns)

@@ -13,9 +13,9 @@ append-requires c κs =
 -- the word
 word : (c : tie.After-append) → c.append.result ≡ page_of (bytes_of "blocking")
 unfolding bytes_of
-word c = grown _ _ [] _ c.before.before.blank.ensures c.append.ensures
+word c = grown _ _ [] _ c.blank.ensures c.append.ensures
 
-end-column-requires : tie.Need-end-column-requires
+end-column-requires : tie.Need-end_column-requires
 unfolding bytes_of
 end-column-requires c κs = (written _ _ (word c.before), omega (arith, len_is _ _ (word c.before)))
 
@@ -23,9 +23,9 @@ returns : tie.Need-returns
 unfolding blocking_line
 returns c =
     let is = text-is _ _ (word c.before.before) in
-    let b = c.before.before.before.before.before.args.blocking.0 in
-    (c.end-column.ensures.0 ∙ ap (λ text. page_of (columned text b)) is, c.end-column.ensures.1)
+    let b = c.args.blocking.0 in
+    (c.end_column.ensures.0 ∙ ap (λ text. page_of (columned text b)) is, c.end_column.ensures.1)
 
 pub blocking_line_spec : {M : Type 1} → statement M
-blocking_line_spec = tie.close (tie.spec (λ c κs. search rules) (λ c. search rules) append-requires
+blocking_line_spec = tie.close (tie.spec (λ c κs. search rules) append-requires
     (λ c. search rules) end-column-requires returns)

@@ -5,14 +5,14 @@ use Rattle.lines.specs.{Why.jobs_words, inner.Templates.{marked, takes, filled_i
 use Rattle.lines.proofs.why.jobs_said.Statement.{statement}
 use Rattle.lines.proofs.why.jobs_said.Tie as tie
 
-returns : tie.Need-returns
+returns : tie.Need-returns-then-jobs-eq1
 unfolding bytes_of worded_in marked takes filled_in jobs_words
-returns c = (rw (eq-eqb _ 1 c.before.before.before.if1.true) c.fill-in.ensures.0, omega (arith, c.fill-in.ensures.1))
+returns c = (rw (eq-eqb _ 1 c.if-jobs-eq1.true) c.fill_in.ensures.0, omega (arith, c.fill_in.ensures.1))
 
-returns-2 : tie.Need-returns-2
+returns-2 : tie.Need-returns
 unfolding bytes_of worded_in marked takes filled_in jobs_words
-returns-2 c = (rw (ne_eqb _ 1 c.before.before.before.if1.false) c.fill-in2.ensures.0, omega (arith, c.fill-in2.ensures.1))
+returns-2 c = (rw (ne_eqb _ 1 c.if-jobs-eq1.false) c.fill_in-2.ensures.0, omega (arith, c.fill_in-2.ensures.1))
 
 pub jobs_said_spec : {M : Type 1} → statement M
-jobs_said_spec = tie.close (tie.spec (λ c. search rules) (λ c. search rules) (λ c κs. search rules) returns (λ c. search rules)
-    (λ c. search rules) (λ c κs. search rules) returns-2)
+jobs_said_spec = tie.close (tie.spec (λ c. search rules) (λ c κs. search rules) returns (λ c. search rules)
+    (λ c κs. search rules) returns-2)

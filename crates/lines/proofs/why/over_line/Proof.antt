@@ -7,7 +7,7 @@ use Rattle.lines.proofs.why.over_line.Tie as tie
 
 returns : tie.Need-returns
 unfolding bytes_of worded_in marked takes filled_in over_line
-returns c = (rw (sym c.before.before.before.more-than.ensures) c.lone-line.ensures.0, c.lone-line.ensures.1)
+returns c = (rw (sym c.more_than-over.ensures) c.lone_line.ensures.0, c.lone_line.ensures.1)
 
 pub over_line_spec : {M : Type 1} → statement M
-over_line_spec = tie.close (tie.spec (λ c κs. search rules) (λ c. search rules) (λ c. search rules) (λ c κs. search rules) returns)
+over_line_spec = tie.close (tie.spec (λ c κs. search rules) (λ c. search rules) (λ c κs. search rules) returns)

@@ -9,10 +9,10 @@ text-length : (c : tie.Start) → length (text_of c.args.page) ≡ c.args.page.l
 text-length c = sym (len_is c.args.page (text_of c.args.page) (own c.args.page c.requires.0))
 
 -- the spaces that it lacks
-lacking : (c : tie.Else1) → c.before.args.columns - c.before.args.page.len ≤ 41
-lacking c = omega (arith, c.before.requires.1.0)
+lacking : (c : tie.Else-columns-at) → c.args.columns - c.args.page.len ≤ 41
+lacking c = omega (arith, c.requires.1.0)
 
-spaces-length : (c : tie.Else1) → let k = c.before.args.columns - c.before.args.page.len in length (take k
+spaces-length : (c : tie.Else-columns-at) → let k = c.args.columns - c.args.page.len in length (take k
     (replicate {A = ℕ} 41 0x20)) ≡ k
 spaces-length c = length-take-le _ (replicate {A = ℕ} 41 0x20) (omega (arith, lacking c, length-replicate {A = ℕ} 41 0x20))
 
@@ -21,14 +21,14 @@ append-requires c κs =
     let start = c.before.before in
     (start.requires.0, omega (arith, start.requires.1.1, lacking c.before, spaces-length c.before))
 
-returns : tie.Need-returns
+returns : tie.Need-returns-then-columns-at
 returns c =
     let start = c.before in
     let page = start.args.page in
     let full = padded-full start.args.columns (text_of page) (omega (arith, text-length start)) in
     (own page start.requires.0 ∙ ap page_of (sym full), omega arith)
 
-returns-2 : tie.Need-returns-2
+returns-2 : tie.Need-returns
 unfolding padded
 returns-2 c =
     let start = c.before.before.before in

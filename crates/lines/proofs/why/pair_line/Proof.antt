@@ -7,5 +7,5 @@ use Rattle.lines.proofs.why.pair_line.Tie as tie
 
 pub pair_line_spec : {M : Type 1} → statement M
 unfolding bytes_of worded_in marked takes filled_in pair_line
-pair_line_spec = tie.close (tie.spec (λ c. search rules) (λ c. search rules) (λ c. search rules) (λ c. search rules)
-    (λ c κs. search rules) λ c. c.lone-line.ensures)
+pair_line_spec = tie.close (tie.spec (λ c. search rules) (λ c. search rules) (λ c. search rules)
+    (λ c κs. search rules) λ c. c.lone_line.ensures)

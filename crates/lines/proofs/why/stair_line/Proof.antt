@@ -5,14 +5,14 @@ use Rattle.lines.specs.{Why.stair_line, inner.Templates.{marked, takes, filled_i
 use Rattle.lines.proofs.why.stair_line.Statement.{statement}
 use Rattle.lines.proofs.why.stair_line.Tie as tie
 
-returns : tie.Need-returns
+returns : tie.Need-returns-then-days-demand
 unfolding bytes_of worded_in marked takes filled_in stair_line
-returns c = (rw (lt-ltb _ _ c.before.before.before.if1.true) c.lone-line.ensures.0, c.lone-line.ensures.1)
+returns c = (rw (lt-ltb _ _ c.if-days-demand.true) c.lone_line.ensures.0, c.lone_line.ensures.1)
 
-returns-2 : tie.Need-returns-2
+returns-2 : tie.Need-returns
 unfolding bytes_of worded_in marked takes filled_in stair_line
-returns-2 c = (rw (le-ltb _ _ c.before.before.before.if1.false) c.lone-line2.ensures.0, c.lone-line2.ensures.1)
+returns-2 c = (rw (le-ltb _ _ c.if-days-demand.false) c.lone_line-2.ensures.0, c.lone_line-2.ensures.1)
 
 pub stair_line_spec : {M : Type 1} → statement M
-stair_line_spec = tie.close (tie.spec (λ c. search rules) (λ c. search rules) (λ c. omega arith) (λ c. search rules)
-    (λ c κs. search rules) returns (λ c. search rules) (λ c. search rules) (λ c κs. search rules) returns-2)
+stair_line_spec = tie.close (tie.spec (λ c. search rules) (λ c. search rules) (λ c. omega arith)
+    (λ c κs. search rules) returns (λ c. search rules) (λ c κs. search rules) returns-2)

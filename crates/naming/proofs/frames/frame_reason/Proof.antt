@@ -7,47 +7,47 @@ use Rattle.naming.proofs.Chosen.{frame-missing, frame-kind, frame-head, frame-ot
 use Rattle.naming.proofs.frames.frame_reason.Statement.{statement}
 use Rattle.naming.proofs.frames.frame_reason.Tie as tie
 
-kind-is : (c : tie.After-number-in) → let l = c.before.before.before in c.number_in.result ≡ kind_in (hex_bytes
-    l.line-in.result.now)
+kind-is : (c : tie.After-number_in-kind) → let l = c.before.before.before in c.number_in-kind.result ≡ kind_in (hex_bytes
+    l.line_in-line.result.now)
 unfolding number_at
-kind-is c = c.number_in.ensures.0
+kind-is c = c.number_in-kind.ensures.0
 
-returns : tie.Need-returns
+returns : tie.Need-returns-then-line-eq0
 returns c =
     let s = c.before.before.before.before in
     let l = c.before.before in
     let v = meant_by s.args.version in
-    c.missing-reason.ensures ∙ frame-missing v l.line-in.result.now s.args.n s.args.k (omega arith)
-    ∙ ap (frame_reason v s.args.n s.args.k) l.line-in.ensures
+    c.missing_reason.ensures ∙ frame-missing v l.line_in-line.result.now s.args.n s.args.k (omega arith)
+    ∙ ap (frame_reason v s.args.n s.args.k) l.line_in-line.ensures
 
-returns-2 : tie.Need-returns-2
+returns-2 : tie.Need-returns-then-kind-due
 returns-2 c =
     let s = c.before.before.before.before.before.before.before.before in
     let l = c.before.before.before.before.before.before in
     let v = meant_by s.args.version in
-    frame-kind v l.line-in.result.now s.args.n s.args.k (λ e. omega arith) _ _ (kind-is c.before.before.before)
-    c.before.before.before.before.frame-due.ensures.0
-    (λ e. omega arith) ∙ ap (frame_reason v s.args.n s.args.k) l.line-in.ensures
+    frame-kind v l.line_in-line.result.now s.args.n s.args.k (λ e. omega arith) _ _ (kind-is c.before.before.before)
+    c.frame_due-due.ensures.0
+    (λ e. omega arith) ∙ ap (frame_reason v s.args.n s.args.k) l.line_in-line.ensures
 
-returns-3 : tie.Need-returns-3
+returns-3 : tie.Need-returns-then-k-le1
 returns-3 c =
     let s = c.before.before.before.before.before.before.before.before.before in
     let l = c.before.before.before.before.before.before.before in
     let v = meant_by s.args.version in
-    c.header-reason.ensures
-    ∙ frame-head v l.line-in.result.now s.args.n s.args.k (λ e. omega arith) _ _ (kind-is
-    c.before.before.before.before) c.before.before.before.before.before.frame-due.ensures.0
-    (omega arith) (omega arith) ∙ ap (frame_reason v s.args.n s.args.k) l.line-in.ensures
+    c.header_reason.ensures
+    ∙ frame-head v l.line_in-line.result.now s.args.n s.args.k (λ e. omega arith) _ _ (kind-is
+    c.before.before.before.before) c.frame_due-due.ensures.0
+    (omega arith) (omega arith) ∙ ap (frame_reason v s.args.n s.args.k) l.line_in-line.ensures
 
-returns-4 : tie.Need-returns-4
+returns-4 : tie.Need-returns
 returns-4 c =
     let s = c.before.before.before.before.before.before.before.before in
     let l = c.before.before.before.before.before.before in
     let v = meant_by s.args.version in
-    frame-other-length v l.line-in.result.now s.args.n s.args.k (λ e. omega arith) _ _ (kind-is
-    c.before.before.before) c.before.before.before.before.frame-due.ensures.0
-    _ c.before.before.before.before.frame-due.ensures.1 (omega arith) (omega arith) ∙ ap (frame_reason v s.args.n
-    s.args.k) l.line-in.ensures
+    frame-other-length v l.line_in-line.result.now s.args.n s.args.k (λ e. omega arith) _ _ (kind-is
+    c.before.before.before) c.frame_due-due.ensures.0
+    _ c.frame_due-due.ensures.1 (omega arith) (omega arith) ∙ ap (frame_reason v s.args.n
+    s.args.k) l.line_in-line.ensures
 
 pub frame_reason_spec : {M : Type 1} → statement M
 frame_reason_spec =

@@ -8,6 +8,6 @@ pub malformed_reason_spec : {M : Type 1} → statement M
 malformed_reason_spec =
     tie.close (tie.spec
     (λ c. is-empty _ (omega arith)) (λ c κs. search rules) (λ c. search rules) (λ c. omega arith) (λ c κs. search rules)
-    (λ c. c.character-reason.ensures ∙ is-other _ _ c.before.before.before.other_at.ensures (omega arith))
-    (λ c. is-unended _ _ c.before.before.other_at.ensures (omega arith) (λ e. omega arith) (omega arith))
-    (λ c. is_odd _ _ c.before.before.other_at.ensures (omega arith) (λ e. omega arith) (λ e. omega arith)))
+    (λ c. c.character_reason.ensures ∙ is-other _ _ c.other_at-at.ensures (omega arith))
+    (λ c. is-unended _ _ c.other_at-at.ensures (omega arith) (λ e. omega arith) (omega arith))
+    (λ c. is_odd _ _ c.other_at-at.ensures (omega arith) (λ e. omega arith) (λ e. omega arith)))

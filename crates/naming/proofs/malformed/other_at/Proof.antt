@@ -5,29 +5,29 @@ use Rattle.naming.proofs.Searches.{other_from, no-digit-here, other-next, other-
 use Rattle.naming.proofs.malformed.other_at.Statement.{statement}
 use Rattle.naming.proofs.malformed.other_at.Tie as tie
 
-abbrev invariant-loop : tie.invariant-loop
+abbrev invariant-loop : tie.invariant-loop-i
 invariant-loop line i₀ i = (i ≤ length line) × (other_from line i ≡ other_at line)
 
-abbrev decreases-loop : tie.decreases-loop
+abbrev decreases-loop : tie.decreases-loop-i
 decreases-loop line i₀ i = length line - i
 
-abbrev line_of : tie.At-loop invariant-loop decreases-loop → List ℕ
-line_of o = o.before.before.args.line.now
+abbrev line_of : tie.At-loop-i invariant-loop decreases-loop → List ℕ
+line_of o = o.args.line.now
 
-returns : tie.Need-returns invariant-loop decreases-loop
+returns : tie.Need-returns-then-digit-ge16 invariant-loop decreases-loop
 returns c =
     let o = c.before.before.before.before in
-    sym (no-digit-here (line_of o) o.loop.i (omega arith) (omega (arith, c.before.digit.ensures))) ∙ o.loop.invariant.1
+    sym (no-digit-here (line_of o) o.loop-i.i (omega arith) (omega (arith, c.digit.ensures))) ∙ o.loop-i.invariant.1
 
-loop-again : tie.Need-loop-preserved invariant-loop decreases-loop
+loop-again : tie.Need-loop-i-preserved invariant-loop decreases-loop
 loop-again c =
     let o = c.before.before.before.before in
-    (omega arith, sym (other-next (line_of o) o.loop.i (omega arith) (omega (arith, c.before.digit.ensures))) ∙ o.loop.invariant.1)
+    (omega arith, sym (other-next (line_of o) o.loop-i.i (omega arith) (omega (arith, c.digit.ensures))) ∙ o.loop-i.invariant.1)
 
-returns-2 : tie.Need-returns-2 invariant-loop decreases-loop
+returns-2 : tie.Need-returns invariant-loop decreases-loop
 returns-2 c =
     let o = c.before in
-    sym (other-end (line_of o) o.loop.i (omega arith)) ∙ o.loop.invariant.1
+    sym (other-end (line_of o) o.loop-i.i (omega arith)) ∙ o.loop-i.invariant.1
 
 pub other_at_spec : {M : Type 1} → statement M
 other_at_spec =

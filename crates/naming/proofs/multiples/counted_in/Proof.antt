@@ -8,20 +8,20 @@ use Rattle.naming.proofs.Numbers.{said}
 use Rattle.naming.proofs.multiples.counted_in.Statement.{statement}
 use Rattle.naming.proofs.multiples.counted_in.Tie as tie
 
-count : (c : tie.After-field-of) → let s = c.before.before in
-    c.field_of.result ≡ n_in (meant_by s.args.version) (line_no (lines_of s.args.text.now) 1)
+count : (c : tie.After-field_of-n) → let s = c.before.before in
+    c.field_of-n.result ≡ n_in (meant_by s.args.version) (line_no (lines_of s.args.text.now) 1)
 unfolding n_in
 count c =
     let s = c.before.before in
     let version = s.args.version in
-    c.field_of.ensures.0 ∙ said (header_frame (meant_by version)) Count _ (count-place version.number) (line_no (lines_of
+    c.field_of-n.ensures.0 ∙ said (header_frame (meant_by version)) Count _ (count-place version.number) (line_no (lines_of
     s.args.text.now) 1)
 
-returns : tie.Need-returns
+returns : tie.Need-returns-then-n-lt10
 unfolding plan_named
 returns c = omega (arith, count c.before)
 
-returns-2 : tie.Need-returns-2
+returns-2 : tie.Need-returns
 unfolding plan_named
 returns-2 c = omega (arith, count c.before)
 

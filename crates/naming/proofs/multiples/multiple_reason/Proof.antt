@@ -7,49 +7,49 @@ use Rattle.naming.proofs.Periods.{named-few, named-ten, over-low, none-stands, n
 use Rattle.naming.proofs.multiples.multiple_reason.Statement.{statement}
 use Rattle.naming.proofs.multiples.multiple_reason.Tie as tie
 
-abbrev start : tie.After-plan-named → tie.Start
+abbrev start : tie.After-plan_named-p → tie.Start
 start c = c.before.before
 
-few : (c : tie.After-plan-named) → c.plan-named.result.n ≤ 10
+few : (c : tie.After-plan_named-p) → c.plan_named-p.result.n ≤ 10
 few c =
     let s = start c in
-    omega (arith, ap (λ (p : Plan). p.n) c.plan-named.ensures, named-few (meant_by s.args.version) (lines_of s.args.text.now))
+    omega (arith, ap (λ (p : Plan). p.n) c.plan_named-p.ensures, named-few (meant_by s.args.version) (lines_of s.args.text.now))
 
-ten : (c : tie.After-plan-named) → length c.plan-named.result.strings ≡ 10
+ten : (c : tie.After-plan_named-p) → length c.plan_named-p.result.strings ≡ 10
 ten c =
     let s = start c in
-    ap (λ (p : Plan). length p.strings) c.plan-named.ensures ∙ named-ten (meant_by s.args.version) (lines_of s.args.text.now)
+    ap (λ (p : Plan). length p.strings) c.plan_named-p.ensures ∙ named-ten (meant_by s.args.version) (lines_of s.args.text.now)
 
-returns : tie.Need-returns
+returns : tie.Need-returns-then-i-gt10
 returns c =
     let o = c.before in
     let p = o.before in
-    none-stands p.plan-named.result o.over-place.result (sym o.over-place.ensures) (ten p) c.if1.true
-    ∙ ap multiple_reason p.plan-named.ensures
+    none-stands p.plan_named-p.result o.over_place-i.result (sym o.over_place-i.ensures) (ten p) c.if-i-gt10.true
+    ∙ ap multiple_reason p.plan_named-p.ensures
 
-sub-s : tie.Need-overflow-sub-s
+sub-s : tie.Need-overflow_sub-s
 sub-s c =
     let o = c.before.before in
-    omega (arith, o.over-place.ensures, over-low o.before.plan-named.result)
+    omega (arith, o.over_place-i.ensures, over-low o.plan_named-p.result)
 
-smaller-fit-requires : tie.Need-smaller-fit-requires
+smaller-fit-requires : tie.Need-smaller_fit-smaller-requires
 smaller-fit-requires c κs =
     let o = c.before.before.before in
-    (omega (arith, o.over-place.ensures, over-low o.before.plan-named.result), omega arith, ten o.before)
+    (omega (arith, o.over_place-i.ensures, over-low o.plan_named-p.result), omega arith, ten o.before)
 
-returns-2 : tie.Need-returns-2
+returns-2 : tie.Need-returns-then-smaller-eq0
 returns-2 c =
     let o = c.before.before.before.before.before.before.before in
     let p = o.before in
-    none-fits p.plan-named.result o.over-place.result (sym o.over-place.ensures)
-    (sym c.before.before.before.smaller-fit.ensures ∙ c.before.before.if2.true) ∙ ap multiple_reason p.plan-named.ensures
+    none-fits p.plan_named-p.result o.over_place-i.result (sym o.over_place-i.ensures)
+    (sym c.smaller_fit-smaller.ensures ∙ c.if-smaller-eq0.true) ∙ ap multiple_reason p.plan_named-p.ensures
 
-returns-3 : tie.Need-returns-3
+returns-3 : tie.Need-returns
 returns-3 c =
     let o = c.before.before.before.before.before.before in
     let p = o.before in
-    some_fits p.plan-named.result o.over-place.result (sym o.over-place.ensures) _ c.before.before.smaller-fit.ensures
-    c.before.if2.false ∙ ap multiple_reason p.plan-named.ensures
+    some_fits p.plan_named-p.result o.over_place-i.result (sym o.over_place-i.ensures) _ c.smaller_fit-smaller.ensures
+    c.if-smaller-eq0.false ∙ ap multiple_reason p.plan_named-p.ensures
 
 pub multiple_reason_spec : {M : Type 1} → statement M
 multiple_reason_spec =

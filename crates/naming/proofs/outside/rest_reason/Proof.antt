@@ -8,6 +8,6 @@ pub rest_reason_spec : {M : Type 1} → statement M
 rest_reason_spec =
     tie.close (tie.spec
     (λ c. search rules) (λ c. search rules) (λ c. search rules) (λ c. search rules) (λ c. no-work _ _ (omega arith))
-    (λ c. omega arith) (λ c κs. search rules) (λ c. c.work-reason.ensures ∙ much-work _ _ (λ e. omega arith) (omega arith))
+    (λ c. omega arith) (λ c κs. search rules) (λ c. c.work_reason.ensures ∙ much-work _ _ (λ e. omega arith) (omega arith))
     (λ c. other-permission _ _ (λ e. omega arith) (omega arith) (omega arith)) (λ c. search rules)
     (λ c. much-cost _ _ (λ e. omega arith) (omega arith) (omega arith)))

@@ -10,4 +10,4 @@ string_reason_spec =
     (λ c. search rules) (λ c. search rules) (λ c. search rules) (λ c. period-low _ _ (omega arith)) (λ c. period-high _ _ (omega arith))
     (λ c. due-low _ _ (omega arith) (omega arith) (omega arith)) (λ c. due-high _ _ (omega arith) (omega arith) (omega arith))
     (λ c. late-out _ _ (omega arith) (omega arith) (omega arith) (omega arith) (omega arith)) (λ c κs. search rules)
-    (λ c. c.rest-reason.ensures ∙ rest_out _ _ (omega arith) (omega arith) (omega arith) (omega arith) (omega arith)))
+    (λ c. c.rest_reason.ensures ∙ rest_out _ _ (omega arith) (omega arith) (omega arith) (omega arith) (omega arith)))

@@ -9,12 +9,12 @@ use Rattle.naming.proofs.Released.{no-day-ahead, ahead-some}
 use Rattle.naming.proofs.releases.day_ahead.Statement.{statement}
 use Rattle.naming.proofs.releases.day_ahead.Tie as tie
 
-returns : tie.Need-returns
+returns : tie.Need-returns-then-k-n
 returns c =
     let s = c.before.before in
     no-day-ahead (meant_by s.args.version) (lines_of s.args.text.now) s.args.n s.args.k (omega arith)
 
-returns-2 : tie.Need-returns-2
+returns-2 : tie.Need-returns
 returns-2 c =
     let s = c.before.before.before in
     let version = s.args.version in

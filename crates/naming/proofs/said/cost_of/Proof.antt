@@ -8,7 +8,7 @@ use Rattle.naming.proofs.Numbers.{said, common-room, own_room, common-two, own-t
 use Rattle.naming.proofs.said.cost_of.Statement.{statement}
 use Rattle.naming.proofs.said.cost_of.Tie as tie
 
-returns : tie.Need-returns
+returns : tie.Need-returns-then-version-gt0
 unfolding a_in
 returns c =
     let s = c.before.before.before.before in
@@ -16,16 +16,16 @@ returns c =
     let v = meant_by version in
     let lines = lines_of s.args.text.now in
     c.field_of.ensures.0 ∙ said (header_frame v) Common version.common (common-known version s.requires) (line_no lines 1)
-    ∙ sym (cost-common v (line_no lines 1) (line_no lines s.args.k) (omega (arith, c.before.if1.true, common-size version s.requires)))
+    ∙ sym (cost-common v (line_no lines 1) (line_no lines s.args.k) (omega (arith, c.if-version-gt0.true, common-size version s.requires)))
 
-returns-2 : tie.Need-returns-2
+returns-2 : tie.Need-returns
 returns-2 c =
     let s = c.before.before.before.before in
     let version = s.args.version in
     let v = meant_by version in
     let lines = lines_of s.args.text.now in
-    c.field-of2.ensures.0 ∙ said (string_frame v) Own version.own (own-known version s.requires) (line_no lines s.args.k)
-    ∙ sym (cost-own v (line_no lines 1) (line_no lines s.args.k) (omega (arith, c.before.if1.false, common-size version s.requires)))
+    c.field_of-2.ensures.0 ∙ said (string_frame v) Own version.own (own-known version s.requires) (line_no lines s.args.k)
+    ∙ sym (cost-own v (line_no lines 1) (line_no lines s.args.k) (omega (arith, c.if-version-gt0.false, common-size version s.requires)))
 
 pub cost_of_spec : {M : Type 1} → statement M
 cost_of_spec =
@@ -41,4 +41,4 @@ cost_of_spec =
     own_room s.args.version s.requires)
     (λ c.
     let s = c.before.before.before.before in
-    omega (arith, c.field-of2.ensures.1, own-two s.args.version s.requires)) returns-2)
+    omega (arith, c.field_of-2.ensures.1, own-two s.args.version s.requires)) returns-2)

@@ -6,9 +6,9 @@ use Rattle.naming.proofs.said.field_of.Tie as tie
 
 returns : tie.Need-returns
 returns c =
-    let field = c.before.before.before.args.field in (
+    let field = c.args.field in (
       c.number_in.ensures.0 ∙ ap (λ bytes. number_at bytes field.at field.size)
-          c.before.line-in.ensures,
+          c.line_in-line.ensures,
       c.number_in.ensures.1,
     )
 

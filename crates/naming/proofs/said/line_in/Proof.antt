@@ -11,13 +11,13 @@ unfolding head_bytes
 returns c =
     let end = c.before in
     let from = end.before in
-    let text = from.before.before.args.text.now in
-    let at = from.line-start.result in
-    let long : end.line-end.result - at ≡ length (head_bytes (drop at text)) = omega (arith, end.line-end.ensures.0) in
-    rw long (line-whole text at) ∙ ap (λ (l : Line). l.bytes) from.line-start.ensures.0
+    let text = from.args.text.now in
+    let at = from.line_start-start.result in
+    let long : end.line_end-end.result - at ≡ length (head_bytes (drop at text)) = omega (arith, end.line_end-end.ensures.0) in
+    rw long (line-whole text at) ∙ ap (λ (l : Line). l.bytes) from.line_start-start.ensures.0
 
 pub line_in_spec : {M : Type 1} → statement M
 line_in_spec =
     tie.close (tie.spec
-    (λ c κs. search rules) (λ c κs. c.line-start.ensures.1) (λ c. omega (arith, c.line-end.ensures.0))
-    (λ c. search rules) (λ c. c.line-end.ensures.1) returns)
+    (λ c κs. search rules) (λ c κs. c.line_start-start.ensures.1) (λ c. omega (arith, c.line_end-end.ensures.0))
+    (λ c. search rules) (λ c. c.line_end-end.ensures.1) returns)

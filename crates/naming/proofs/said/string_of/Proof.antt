@@ -22,22 +22,18 @@ returns c =
     let line = line_no (lines_of s.args.text.now) s.args.k in
     let l = string_frame v in
     string-said v _ line _ _ _ _ _ _
-    (t.field-of2.ensures.0 ∙ said l T _ (t-place number) line)
-    (d.before.field-of3.ensures.0 ∙ said l C _ (c-place number) line)
-    (d.field-of4.ensures.0 ∙ said l D _ (d-place number) line)
-    (t.before.field_of.ensures.0 ∙ said l X _ (x-place number) line)
-    (ap days a.cost-of.ensures)
-    (c.field-of5.ensures.0 ∙ said l Late version.late (late-known version s.requires) line)
+    (t.field_of.ensures.0 ∙ said l T _ (t-place number) line)
+    (d.field_of-2.ensures.0 ∙ said l C _ (c-place number) line)
+    (d.field_of-3.ensures.0 ∙ said l D _ (d-place number) line)
+    (t.field_of-x.ensures.0 ∙ said l X _ (x-place number) line)
+    (ap days a.cost_of.ensures)
+    (c.field_of-4.ensures.0 ∙ said l Late version.late (late-known version s.requires) line)
 
 pub string_of_spec : {M : Type 1} → statement M
 string_of_spec =
     tie.close (tie.spec
-    (λ c κs. search rules) (λ c. omega (arith, c.field_of.ensures.1)) (λ c κs. search rules)
-    (λ c. omega (arith, c.field-of2.ensures.1)) (λ c κs. search rules) (λ c. omega (arith, c.field-of3.ensures.1))
-    (λ c κs. search rules) (λ c. omega (arith, c.field-of4.ensures.1)) (λ c κs. search rules)
-    (λ c κs.
-    let s = c.before.before.before.before.before.before in
-    late-room s.args.version s.requires)
-    (λ c.
-    let s = c.before.before.before.before.before.before.before in
-    omega (arith, c.field-of5.ensures.1, late-two s.args.version s.requires)) returns)
+    (λ c κs. search rules) (λ c. omega (arith, c.field_of-x.ensures.1)) (λ c κs. search rules)
+    (λ c. omega (arith, c.field_of.ensures.1)) (λ c κs. search rules) (λ c. omega (arith, c.field_of-2.ensures.1))
+    (λ c κs. search rules) (λ c. omega (arith, c.field_of-3.ensures.1)) (λ c κs. search rules)
+    (λ c κs. late-room c.args.version c.requires)
+    (λ c. omega (arith, c.field_of-4.ensures.1, late-two c.args.version c.requires)) returns)

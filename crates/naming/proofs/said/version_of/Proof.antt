@@ -8,8 +8,8 @@ use Rattle.naming.proofs.said.version_of.Tie as tie
 
 returns : tie.Need-returns
 returns c =
-    let lines = lines_of c.before.before.before.args.text.now in
-    c.held_to.ensures ∙ ap code_of (ap held_to c.before.field_of.ensures.0 ∙ version-first lines)
+    let lines = lines_of c.args.text.now in
+    c.held_to.ensures ∙ ap code_of (ap held_to c.field_of.ensures.0 ∙ version-first lines)
 
 pub version_of_spec : {M : Type 1} → statement M
 version_of_spec = tie.close (tie.spec (λ c κs. search rules) (λ c. omega (arith, c.field_of.ensures.1)) (λ c κs. search rules) returns)

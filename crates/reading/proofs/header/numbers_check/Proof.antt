@@ -19,95 +19,96 @@ abbrev line_of : tie.Start → Line
 line_of s = line_at (text_of s) 0
 
 -- where the function starts
-abbrev start : tie.After-field-at → tie.Start
+abbrev start : tie.After-field_at → tie.Start
 start c = c.before.before
 
-abbrev begin : tie.After-field-at2 → tie.Start
+abbrev begin : tie.After-field_at-n → tie.Start
 begin c = start c.before.before.before
 
 -- what the fields say
-version-read : (c : tie.After-field-at) → c.field_at.result ≡ field_of (header_frame (version_of (start c))) Number (line_of (start c))
+version-read : (c : tie.After-field_at) → c.field_at.result ≡ field_of (header_frame (version_of (start c))) Number (line_of (start c))
 version-read c =
     let s = start c in
     c.field_at.ensures
-    ∙ field-said (text_of s) 0 (header_frame (version_of s)) Number _ (number-place s.args.version.number) s.pre.1
+    ∙ field-said (text_of s) 0 (header_frame (version_of s)) Number _ (number-place s.args.version.number) s.requires.1
 
-n-read : (c : tie.After-field-at2) → c.field-at2.result ≡ n_in (version_of (begin c)) (line_of (begin c))
+n-read : (c : tie.After-field_at-n) → c.field_at-n.result ≡ n_in (version_of (begin c)) (line_of (begin c))
 unfolding n_in
 n-read c =
     let s = begin c in
-    c.field-at2.ensures ∙ field-said (text_of s) 0 (header_frame (version_of s)) Count _ (count-place s.args.version.number) s.pre.1
+    c.field_at-n.ensures ∙ field-said (text_of s) 0 (header_frame (version_of s)) Count _ (count-place s.args.version.number) s.requires.1
 
-run-read : (c : tie.After-field-at3) → c.field-at3.result ≡ run_in (version_of (begin c.before)) (line_of (begin c.before))
+run-read : (c : tie.After-field_at-2) → c.field_at-2.result ≡ run_in (version_of (begin c.before.before)) (line_of (begin c.before.before))
 unfolding run_in
 run-read c =
-    let s = begin c.before in
-    c.field-at3.ensures ∙ field-said (text_of s) 0 (header_frame (version_of s)) Run _ (run-known s.args.version s.pre.0) s.pre.1
+    let s = begin c.before.before in
+    c.field_at-2.ensures ∙ field-said (text_of s) 0 (header_frame (version_of s)) Run _ (run-known s.args.version s.requires.0) s.requires.1
 
 -- so the head's check is the definition's
-head_read : (c : tie.After-head-check) → c.head-check.result
-    ≡ head_check 1 (n_in (version_of (begin c.before.before)) (line_of (begin c.before.before)))
-    (run_in (version_of (begin c.before.before)) (line_of (begin c.before.before)))
-head_read c = c.head-check.ensures ∙ rw (n-read c.before.before, run-read c.before)
+head_read : (c : tie.After-head_check-head) → c.head_check-head.result
+    ≡ head_check 1 (n_in (version_of (begin c.before.before.before)) (line_of (begin c.before.before.before)))
+    (run_in (version_of (begin c.before.before.before)) (line_of (begin c.before.before.before)))
+head_read c = c.head_check-head.ensures ∙ rw (n-read c.before.before.before, run-read c.before)
 
 -- and the version is the one that is wanted
-numbers : (c : tie.After-field-at2) → header_numbers (version_of (begin c)) (line_of (begin c))
+numbers : (c : tie.After-field_at-n) → header_numbers (version_of (begin c)) (line_of (begin c))
     ≡ then (head_check 1 (n_in (version_of (begin c)) (line_of (begin c))) (run_in (version_of (begin c)) (line_of (begin c))))
     (cost_check 1 (a_in (version_of (begin c)) (line_of (begin c))))
 numbers c =
     let s = begin c in
     this-version (version_of s) (line_of s)
-    (sym (version-read c.before.before.before) ∙ c.before.if1.false ∙ number-known s.args.version s.pre.0)
+    (sym (version-read c.before.before.before) ∙ c.if-field_at-version.false ∙ number-known s.args.version s.requires.0)
 
-field-at-requires : tie.Need-field-at-requires
+field-at-requires : tie.Need-field_at-requires
 field-at-requires c κs =
     let s = c.before in
     field_room (text_of s) 0 (header_frame (version_of s)) Number _ (number-place s.args.version.number) s.requires.1 (omega arith)
 
-returns : tie.Need-returns
+returns : tie.Need-returns-then-field_at-version
 returns c =
     let read = c.before.before in
     let s = start read in
     sym (number-elsewhere (version_of s) (line_of s)
-    (λ same. c.if1.true (version-read read ∙ same ∙ sym (number-known s.args.version s.pre.0))))
+    (λ same. c.if-field_at-version.true (version-read read ∙ same ∙ sym (number-known s.args.version s.requires.0))))
 
-field-at-requires-2 : tie.Need-field-at-requires-2
+field-at-requires-2 : tie.Need-field_at-n-requires
 field-at-requires-2 c κs =
     let s = start c.before.before in
-    field_room (text_of s) 0 (header_frame (version_of s)) Count _ (count-place s.args.version.number) s.pre.1 (omega arith)
+    field_room (text_of s) 0 (header_frame (version_of s)) Count _ (count-place s.args.version.number) s.requires.1 (omega arith)
 
-field-at-requires-3 : tie.Need-field-at-requires-3
+field-at-requires-3 : tie.Need-field_at-requires-2
 field-at-requires-3 c κs =
-    let s = begin c in
+    let s = begin c.before in
     let version = s.args.version in
-    field_room (text_of s) 0 (header_frame (version_of s)) Run _ (run-known version s.pre.0) s.pre.1 (run_small version s.pre.0)
+    field_room (text_of s) 0 (header_frame (version_of s)) Run _ (run-known version s.requires.0) s.requires.1
+    (run_small version s.requires.0)
 
-field-at-requires-4 : tie.Need-field-at-requires-4
+field-at-requires-4 : tie.Need-field_at-requires-in-Lawful
 field-at-requires-4 c κs =
-    let s = begin c.before.before.before.before in
+    let s = begin c.before.before.before.before.before in
     let version = s.args.version in
-    field_room (text_of s) 0 (header_frame (version_of s)) Common _ (common-known version s.pre.0) s.pre.1
-    (common-small version s.pre.0)
+    field_room (text_of s) 0 (header_frame (version_of s)) Common _ (common-known version s.requires.0) s.requires.1
+    (common-small version s.requires.0)
 
-returns-2 : tie.Need-returns-2
+returns-2 : tie.Need-returns-in-Lawful
 unfolding a_in
 returns-2 c =
     let cost = c.before in
     let told = cost.before in
     let head = told.before.before in
-    let n = head.before.before in
+    let n = head.before.before.before in
     let s = begin n in
     let version = s.args.version in
-    let a = field-said (text_of s) 0 (header_frame (version_of s)) Common _ (common-known version s.pre.0) s.pre.1 in
-    c.cost-check.ensures
-    ∙ ap (cost_check 1) (cost.field-at4.ensures ∙ a)
-    ∙ sym (numbers n ∙ then-lawful _ _ (sym (head_read head) ∙ told.enum_told.given.1))
+    let a = field-said (text_of s) 0 (header_frame (version_of s)) Common _ (common-known version s.requires.0) s.requires.1 in
+    c.cost_check.ensures
+    ∙ ap (cost_check 1) (cost.field_at-in-Lawful.ensures ∙ a)
+    ∙ sym (numbers n ∙ then-lawful _ _ (sym (head_read head) ∙ told.in-Lawful.is))
 
-returns-3 : tie.Need-returns-3
+returns-3 : tie.Need-returns-in-Refused
 returns-3 c =
-    let known = c.before in
-    let head = known.before.before in
-    sym (numbers head.before.before ∙ then-refused _ _ _ _ (sym (head_read head) ∙ known.head.given.1))
+    let known = c in
+    let head = known.before in
+    sym (numbers head.before.before.before ∙ then-refused _ _ _ _ (sym (head_read head) ∙ known.in-Refused.is))
 
 pub numbers_check_spec : {M : Type 1} → statement M
 numbers_check_spec =

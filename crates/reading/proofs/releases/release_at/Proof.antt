@@ -13,17 +13,17 @@ layout_of s = release_frame (meant_by s.args.version)
 abbrev number_of : tie.Start → ℕ
 number_of s = s.args.version.number
 
-field-at-requires : tie.Need-field-at-requires
+field-at-requires : tie.Need-field_at-place-requires
 field-at-requires c κs =
     let s = c.before in
     field_room s.args.text.now s.args.at (layout_of s) Place _ (place-place (number_of s)) s.requires.1 (omega arith)
 
-field-at-requires-2 : tie.Need-field-at-requires-2
+field-at-requires-2 : tie.Need-field_at-requires
 field-at-requires-2 c κs =
     let s = c.before.before in
     field_room s.args.text.now s.args.at (layout_of s) Day _ (day-place (number_of s)) s.requires.1 (omega arith)
 
-field-at-requires-3 : tie.Need-field-at-requires-3
+field-at-requires-3 : tie.Need-field_at-requires-2
 field-at-requires-3 c κs =
     let s = c.before.before.before in
     field_room s.args.text.now s.args.at (layout_of s) Need _ (need-place (number_of s)) s.requires.1 (omega arith)
@@ -37,10 +37,10 @@ returns c =
     let at = s.args.at in
     let l = layout_of s in
     rw (
-      c.due-at.ensures,
-      o.field-at3.ensures ∙ field-said text at l Need _ (need-place (number_of s)) s.requires.1,
-      o.before.field-at2.ensures ∙ field-said text at l Day _ (day-place (number_of s)) s.requires.1,
-      o.before.before.field_at.ensures ∙ field-said text at l Place _ (place-place (number_of s)) s.requires.1,
+      c.due_at-due.ensures,
+      o.field_at-2.ensures ∙ field-said text at l Need _ (need-place (number_of s)) s.requires.1,
+      o.field_at.ensures ∙ field-said text at l Day _ (day-place (number_of s)) s.requires.1,
+      o.field_at-place.ensures ∙ field-said text at l Place _ (place-place (number_of s)) s.requires.1,
     )
 
 pub release_at_spec : {M : Type 1} → statement M

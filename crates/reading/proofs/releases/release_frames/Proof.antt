@@ -45,59 +45,60 @@ ended j here end e =
     let all : j + 0 ≡ j = omega arith in
     rw (e, all)
 
-abbrev invariant-loop : tie.invariant-loop
+abbrev invariant-loop : tie.invariant-loop-version
 invariant-loop text start k version j₀ j =
     (j ≤ 1000) × (start + j * version.release.line ≤ length text)
     × (after j (left (meant_by version) text version.release.line start k j)
     ≡ frames_in (release_frame (meant_by version)) k 1000 (lines_from text start))
 
-abbrev decreases-loop : tie.decreases-loop
+abbrev decreases-loop : tie.decreases-loop-version
 decreases-loop text start k version j₀ j = 1000 - j
 
-abbrev begin : tie.At-loop invariant-loop decreases-loop → tie.Start invariant-loop decreases-loop
+abbrev begin : tie.At-loop-version invariant-loop decreases-loop → tie.Start invariant-loop decreases-loop
 begin o = o.before.before
 
-abbrev reached : tie.After-struct-known invariant-loop decreases-loop → tie.At-loop invariant-loop decreases-loop
+abbrev reached : tie.After-struct_known-1 invariant-loop decreases-loop → tie.At-loop-version invariant-loop decreases-loop
 reached c = c.before
 
-abbrev layout_of : tie.At-loop invariant-loop decreases-loop → Layout ReleaseField
+abbrev layout_of : tie.At-loop-version invariant-loop decreases-loop → Layout ReleaseField
 layout_of o = release_frame (meant_by (begin o).args.version)
 
-abbrev step_of : tie.At-loop invariant-loop decreases-loop → ℕ
+abbrev step_of : tie.At-loop-version invariant-loop decreases-loop → ℕ
 step_of o = (begin o).args.version.release.line
 
 -- no line reached stands further than this
-near : (o : tie.At-loop invariant-loop decreases-loop) → o.loop.j * step_of o ≤ 60000
+near : (o : tie.At-loop-version invariant-loop decreases-loop) → o.loop-version.j * step_of o ≤ 60000
 near o =
     let b = begin o in
-    thousand-short o.loop.j (step_of o) o.loop.invariant.0 (release-line-short b.args.version b.pre.0)
+    thousand-short o.loop-version.j (step_of o) o.loop-version.invariant.0 (release-line-short b.args.version b.requires.0)
 
-abbrev checked_at : tie.After-frame-check invariant-loop decreases-loop → tie.At-loop invariant-loop decreases-loop
-checked_at c = reached c.before.before
+abbrev checked_at : tie.After-frame_check-line invariant-loop decreases-loop → tie.At-loop-version invariant-loop decreases-loop
+checked_at c = reached c.before.before.before
 
-abbrev found : tie.After-enum-told invariant-loop decreases-loop → tie.After-frame-check invariant-loop decreases-loop
-found c = c.before.before
+abbrev found : tie.In-Lawful invariant-loop decreases-loop → tie.After-frame_check-line invariant-loop decreases-loop
+found c = c.before
 
 -- what the check of the line reached said
-framed : (c : tie.After-frame-check invariant-loop decreases-loop) → c.frame-check.result
-    ≡ layout_check ((begin (checked_at c)).args.k + (checked_at c).loop.j) (layout_of (checked_at c))
-    (line_at (begin (checked_at c)).args.text.now ((begin (checked_at c)).args.start + (checked_at c).loop.j * step_of (checked_at c)))
+framed : (c : tie.After-frame_check-line invariant-loop decreases-loop) → c.frame_check-line.result
+    ≡ layout_check ((begin (checked_at c)).args.k + (checked_at c).loop-version.j) (layout_of (checked_at c))
+    (line_at (begin (checked_at c)).args.text.now ((begin (checked_at c)).args.start + (checked_at c).loop-version.j * step_of
+    (checked_at c)))
 framed c =
     let o = checked_at c in
     let b = begin o in
     let g = b.args in
-    let line = line_at g.text.now (g.start + o.loop.j * step_of o) in
-    c.frame-check.ensures
-    ∙ ap (λ (l : code.Layout). frame_check (g.k + o.loop.j) l.kind l.size line) (release-known g.version b.pre.0)
+    let line = line_at g.text.now (g.start + o.loop-version.j * step_of o) in
+    c.frame_check-line.ensures
+    ∙ ap (λ (l : code.Layout). frame_check (g.k + o.loop-version.j) l.kind l.size line) (release-known g.version b.requires.0)
 
-lawful : (c : tie.After-enum-told invariant-loop decreases-loop)
-    → layout_check ((begin (checked_at (found c))).args.k + (checked_at (found c)).loop.j) (layout_of (checked_at (found c)))
+lawful : (c : tie.In-Lawful invariant-loop decreases-loop)
+    → layout_check ((begin (checked_at (found c))).args.k + (checked_at (found c)).loop-version.j) (layout_of (checked_at (found c)))
     (line_at (begin (checked_at (found c))).args.text.now
-    ((begin (checked_at (found c))).args.start + (checked_at (found c)).loop.j * step_of (checked_at (found c))))
+    ((begin (checked_at (found c))).args.start + (checked_at (found c)).loop-version.j * step_of (checked_at (found c))))
     ≡ Lawful
-lawful c = sym (framed (found c)) ∙ c.enum_told.given.1
+lawful c = sym (framed (found c)) ∙ c.in-Lawful.is
 
-loop-holds : tie.Need-loop-init invariant-loop decreases-loop
+loop-holds : tie.Need-loop-version-init invariant-loop decreases-loop
 loop-holds c =
     let s = c.before in
     let g = s.args in
@@ -107,61 +108,61 @@ loop-holds c =
       at_first (meant_by g.version) g.text.now step g.start g.k,
     )
 
-returns : tie.Need-returns invariant-loop decreases-loop
+returns : tie.Need-returns-then-text-here invariant-loop decreases-loop
 returns c =
     let o = reached c.before in
-    ended o.loop.j _ _ (frames-none-at (layout_of o) _ _ _ _ c.if1.true) ∙ o.loop.inv.2
+    ended o.loop-version.j _ _ (frames-none-at (layout_of o) _ _ _ _ c.if-text-here.true) ∙ o.loop-version.invariant.2
 
-add-frame-check : tie.Need-overflow-add-frame-check invariant-loop decreases-loop
+add-frame-check : tie.Need-overflow_add-k invariant-loop decreases-loop
 add-frame-check c =
     let o = reached c.before in
-    omega (arith, o.loop.inv.0, (begin o).pre.1.2)
+    omega (arith, o.loop-version.invariant.0, (begin o).requires.1.2)
 
-add-t15 : tie.Need-overflow-add-t15 invariant-loop decreases-loop
+add-t15 : tie.Need-overflow_add-result invariant-loop decreases-loop
 add-t15 c =
     let o = checked_at (found c.before) in
-    omega (arith, o.loop.inv.0, (begin o).pre.1.2)
+    omega (arith, o.loop-version.invariant.0, (begin o).requires.1.2)
 
-returns-2 : tie.Need-returns-2 invariant-loop decreases-loop
+returns-2 : tie.Need-returns-then-j-gt999 invariant-loop decreases-loop
 returns-2 c =
     let check = found c.before in
     let o = checked_at check in
     let g = (begin o).args in
-    let j = o.loop.j in
+    let j = o.loop-version.j in
     let room : 1000 - j ≡ 0 = omega arith in
     let here = g.start + j * step_of o in
     ended j _ _ (ap (λ r. frames_in (layout_of o) (g.k + j) r (lines_from g.text.now here)) room
-    ∙ frames-full-at (layout_of o) g.text.now here (g.k + j) (lawful c.before) check.before.if1.left)
-    ∙ o.loop.inv.2
+    ∙ frames-full-at (layout_of o) g.text.now here (g.k + j) (lawful c.before) check.if-text-here.false)
+    ∙ o.loop-version.invariant.2
 
-loop-again : tie.Need-loop-preserved invariant-loop decreases-loop
+loop-again : tie.Need-loop-version-preserved invariant-loop decreases-loop
 loop-again c =
     let o = checked_at (found c.before) in
     let b = begin o in
     let g = b.args in
-    let j = o.loop.j in
+    let j = o.loop-version.j in
     let step = step_of o in
     let good = lawful c.before in
     let frame = frame_check-frame g.text.now (g.start + j * step) _ _ _ good in
-    let long = release-line g.version b.pre.0 in
+    let long = release-line g.version b.requires.0 in
     let more : (j + 1) * step ≡ j * step + step = rw (add-one j) (suc-mul j step) in (
       omega arith,
       omega (arith, frame.inside),
-      next (meant_by g.version) g.text.now step g.start g.k j long (omega arith) good ∙ o.loop.inv.2,
+      next (meant_by g.version) g.text.now step g.start g.k j long (omega arith) good ∙ o.loop-version.invariant.2,
     )
 
-returns-3 : tie.Need-returns-3 invariant-loop decreases-loop
+returns-3 : tie.Need-returns-in-Refused invariant-loop decreases-loop
 returns-3 c =
-    let known = c.before in
-    let check = known.before.before in
+    let known = c in
+    let check = known.before in
     let o = checked_at check in
-    let refused = sym (framed check) ∙ known.line.given.1 in
-    ended o.loop.j _ _ (frames-refused-at (layout_of o) _ _ _ _ check.before.if1.false _ _ refused) ∙ o.loop.inv.2
+    let refused = sym (framed check) ∙ known.in-Refused.is in
+    ended o.loop-version.j _ _ (frames-refused-at (layout_of o) _ _ _ _ check.if-text-here.false _ _ refused) ∙ o.loop-version.invariant.2
 
 pub release_frames_spec : {M : Type 1} → statement M
 release_frames_spec =
     tie.close (tie.spec
     invariant-loop decreases-loop loop-holds (λ c. omega (arith, near (reached c)))
-    (λ c. omega (arith, near (reached c), (begin (reached c)).pre.1.1)) returns add-frame-check
-    (λ c κs. (reached c.before).loop.inv.1) (λ c. search rules) add-t15 returns-2 (λ c. omega arith)
+    (λ c. omega (arith, near (reached c), (begin (reached c)).requires.1.1)) returns add-frame-check
+    (λ c κs. (reached c.before.before).loop-version.invariant.1) (λ c. search rules) add-t15 returns-2 (λ c. omega arith)
     (λ c. omega arith) loop-again (λ c. search rules) returns-3)

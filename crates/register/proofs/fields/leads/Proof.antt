@@ -6,5 +6,5 @@ use Rattle.register.proofs.fields.leads.Tie as tie
 pub leads_spec : {M : Type 1} → statement M
 leads_spec =
     tie.close (tie.spec
-    (λ c. lead-few c.before.args.field.now (omega arith)) (λ c. omega arith)
-    (λ c. lead-many c.before.before.args.field.now (omega arith)))
+    (λ c. lead-few c.args.field.now (omega arith)) (λ c. omega arith)
+    (λ c. lead-many c.args.field.now (omega arith)))

@@ -53,143 +53,144 @@ next-stands before part next cells at i s h room got =
     record {
       place = ap (λ k. k + cell.size) s.place ∙ sym (cells_size-step cells no_cell i h);
       text =
-          subst (λ text. TextStands before text (put_mid (at * 2) (length part - at * 2) part next)) (sym (cells_text-step cells no_cell i h))
+          subst (λ text. TextStands before text (put_mid (at * 2) (length part - at * 2) part next))
+          (sym (cells_text-step cells no_cell i h))
           (stands-next before (cells_text (take i cells)) (number_text cell.size cell.value) part next (at * 2) (cell.size * 2)
           s.text so_far
           (number_text-length cell.size cell.value) room got);
     }
 
-abbrev invariant-loop : tie.invariant-loop
+abbrev invariant-loop : tie.invariant-loop-i
 invariant-loop part₀ count cells at₀ i₀ part at i = (i ≤ count) × Standing part₀ cells part at i
 
-abbrev decreases-loop : tie.decreases-loop
+abbrev decreases-loop : tie.decreases-loop-i
 decreases-loop part₀ count cells at₀ i₀ part at i = count - i
 
-loop-holds : tie.Need-loop-init invariant-loop decreases-loop
+loop-holds : tie.Need-loop-i-init invariant-loop decreases-loop
 unfolding cells_size cells_text sum_of flat_map
 loop-holds c = (omega arith, record { place = refl; text = stands-none _ })
 
-mul-put-number : tie.Need-overflow-mul-put-number invariant-loop decreases-loop
+mul-put-number : tie.Need-overflow_mul-at invariant-loop decreases-loop
 mul-put-number c =
     let o = c.before.before in
     let s = o.before.before in
-    let fits = next-room s.args.part.now o.loop.part s.args.t2 o.loop.at o.loop.i s.args.count o.loop.invariant.1
+    let fits = next-room s.args.part.now o.loop-i.part s.args.cells o.loop-i.at o.loop-i.i s.args.count o.loop-i.invariant.1
     (omega arith) s.requires in
     omega arith
 
-sub-put-number : tie.Need-overflow-sub-put-number invariant-loop decreases-loop
+sub-put-number : tie.Need-slice_bounds-put_number-count invariant-loop decreases-loop
 sub-put-number c =
     let o = c.before.before in
     let s = o.before.before in
-    let fits = next-room s.args.part.now o.loop.part s.args.t2 o.loop.at o.loop.i s.args.count o.loop.invariant.1
+    let fits = next-room s.args.part.now o.loop-i.part s.args.cells o.loop-i.at o.loop-i.i s.args.count o.loop-i.invariant.1
     (omega arith) s.requires in
     omega arith
 
-part-put-number-start : tie.Need-slice-bounds-put-number-start invariant-loop decreases-loop
+part-put-number-start : tie.Need-slice_bounds-put_number-start invariant-loop decreases-loop
 part-put-number-start c =
     let o = c.before.before in
     let s = o.before.before in
-    let fits = next-room s.args.part.now o.loop.part s.args.t2 o.loop.at o.loop.i s.args.count o.loop.invariant.1
+    let fits = next-room s.args.part.now o.loop-i.part s.args.cells o.loop-i.at o.loop-i.i s.args.count o.loop-i.invariant.1
     (omega arith) s.requires in
     omega arith
 
-part-put-number-end : tie.Need-slice-bounds-put-number-end invariant-loop decreases-loop
+part-put-number-end : tie.Need-slice_bounds-put_number-end invariant-loop decreases-loop
 part-put-number-end c =
     let o = c.before.before in
     let s = o.before.before in
-    let fits = next-room s.args.part.now o.loop.part s.args.t2 o.loop.at o.loop.i s.args.count o.loop.invariant.1
+    let fits = next-room s.args.part.now o.loop-i.part s.args.cells o.loop-i.at o.loop-i.i s.args.count o.loop-i.invariant.1
     (omega arith) s.requires in
     omega arith
 
-put-number-requires : tie.Need-put-number-requires invariant-loop decreases-loop
+put-number-requires : tie.Need-put_number-requires invariant-loop decreases-loop
 put-number-requires c κs =
     let o = c.before.before.before in
     let s = o.before.before in
-    let fits = next-room s.args.part.now o.loop.part s.args.t2 o.loop.at o.loop.i s.args.count o.loop.invariant.1
+    let fits = next-room s.args.part.now o.loop-i.part s.args.cells o.loop-i.at o.loop-i.i s.args.count o.loop-i.invariant.1
     (omega arith) s.requires in
-    let a = o.loop.at * 2 in
-    rw (lent-part a o.loop.part) (omega (arith, length-drop a o.loop.part))
+    let a = o.loop-i.at * 2 in
+    rw (lent-part a o.loop-i.part) (omega (arith, length-drop a o.loop-i.part))
 
-add_at : tie.Need-overflow-add-at invariant-loop decreases-loop
+add_at : tie.Need-overflow_add-at invariant-loop decreases-loop
 add_at c =
     let o = c.before.before.before.before.before.before in
     let s = o.before.before in
-    let fits = next-room s.args.part.now o.loop.part s.args.t2 o.loop.at o.loop.i s.args.count o.loop.invariant.1
+    let fits = next-room s.args.part.now o.loop-i.part s.args.cells o.loop-i.at o.loop-i.i s.args.count o.loop-i.invariant.1
     (omega arith) s.requires in
     omega arith
 
-loop-again : tie.Need-loop-preserved invariant-loop decreases-loop
+loop-again : tie.Need-loop-i-preserved invariant-loop decreases-loop
 loop-again c =
     let o = c.before.before.before.before.before.before in
     let s = o.before.before in
-    let fits = next-room s.args.part.now o.loop.part s.args.t2 o.loop.at o.loop.i s.args.count o.loop.invariant.1
+    let fits = next-room s.args.part.now o.loop-i.part s.args.cells o.loop-i.at o.loop-i.i s.args.count o.loop-i.invariant.1
     (omega arith) s.requires in
-    let next = c.before.before.put-number.new.0 in (
+    let next = c.put_number.new.part in (
       omega arith,
-      next-stands s.args.part.now o.loop.part next s.args.t2 o.loop.at o.loop.i o.loop.invariant.1
-          (omega (arith, s.requires.there)) (omega arith) c.before.before.put-number.ensures,
+      next-stands s.args.part.now o.loop-i.part next s.args.cells o.loop-i.at o.loop-i.i o.loop-i.invariant.1
+          (omega (arith, s.requires.there)) (omega arith) c.put_number.ensures,
     )
 
-mul-put-end : tie.Need-overflow-mul-put-end invariant-loop decreases-loop
+mul-put-end : tie.Need-overflow_mul-at-2 invariant-loop decreases-loop
 mul-put-end c =
     let o = c.before in
     let s = o.before.before in
-    let fits = end-room s.args.part.now o.loop.part s.args.t2 o.loop.at o.loop.i s.args.count o.loop.invariant.1
+    let fits = end-room s.args.part.now o.loop-i.part s.args.cells o.loop-i.at o.loop-i.i s.args.count o.loop-i.invariant.1
     (omega arith) s.requires in
     omega arith
 
-sub-put-end : tie.Need-overflow-sub-put-end invariant-loop decreases-loop
+sub-put-end : tie.Need-slice_bounds-put_end-count invariant-loop decreases-loop
 sub-put-end c =
     let o = c.before in
     let s = o.before.before in
-    let fits = end-room s.args.part.now o.loop.part s.args.t2 o.loop.at o.loop.i s.args.count o.loop.invariant.1
+    let fits = end-room s.args.part.now o.loop-i.part s.args.cells o.loop-i.at o.loop-i.i s.args.count o.loop-i.invariant.1
     (omega arith) s.requires in
     omega arith
 
-part-put-end-start : tie.Need-slice-bounds-put-end-start invariant-loop decreases-loop
+part-put-end-start : tie.Need-slice_bounds-put_end-start invariant-loop decreases-loop
 part-put-end-start c =
     let o = c.before in
     let s = o.before.before in
-    let fits = end-room s.args.part.now o.loop.part s.args.t2 o.loop.at o.loop.i s.args.count o.loop.invariant.1
+    let fits = end-room s.args.part.now o.loop-i.part s.args.cells o.loop-i.at o.loop-i.i s.args.count o.loop-i.invariant.1
     (omega arith) s.requires in
     omega arith
 
-part-put-end-end : tie.Need-slice-bounds-put-end-end invariant-loop decreases-loop
+part-put-end-end : tie.Need-slice_bounds-put_end-end invariant-loop decreases-loop
 part-put-end-end c =
     let o = c.before in
     let s = o.before.before in
-    let fits = end-room s.args.part.now o.loop.part s.args.t2 o.loop.at o.loop.i s.args.count o.loop.invariant.1
+    let fits = end-room s.args.part.now o.loop-i.part s.args.cells o.loop-i.at o.loop-i.i s.args.count o.loop-i.invariant.1
     (omega arith) s.requires in
     omega arith
 
-put-end-requires : tie.Need-put-end-requires invariant-loop decreases-loop
+put-end-requires : tie.Need-put_end-requires invariant-loop decreases-loop
 put-end-requires c κs =
     let o = c.before.before in
     let s = o.before.before in
-    let fits = end-room s.args.part.now o.loop.part s.args.t2 o.loop.at o.loop.i s.args.count o.loop.invariant.1
+    let fits = end-room s.args.part.now o.loop-i.part s.args.cells o.loop-i.at o.loop-i.i s.args.count o.loop-i.invariant.1
     (omega arith) s.requires in
-    let a = o.loop.at * 2 in
-    rw (lent-part a o.loop.part) (omega (arith, length-drop a o.loop.part))
+    let a = o.loop-i.at * 2 in
+    rw (lent-part a o.loop-i.part) (omega (arith, length-drop a o.loop-i.part))
 
-same_length : tie.Need-same-length invariant-loop decreases-loop
+same_length : tie.Need-shape_of-part invariant-loop decreases-loop
 same_length c =
     let o = c.before.before.before.before.before in
     let s = o.before.before in
-    let fits = end-room s.args.part.now o.loop.part s.args.t2 o.loop.at o.loop.i s.args.count o.loop.invariant.1
+    let fits = end-room s.args.part.now o.loop-i.part s.args.cells o.loop-i.at o.loop-i.i s.args.count o.loop-i.invariant.1
     (omega arith) s.requires in
-    lent_length (o.loop.at * 2) o.loop.part (0x0a ∷ []) c.before.before.put-end.new.0 (omega arith)
-    c.before.before.put-end.ensures (omega arith)
-    ∙ o.loop.invariant.1.text.size
+    lent_length (o.loop-i.at * 2) o.loop-i.part (0x0a ∷ []) c.put_end.new.part (omega arith)
+    c.put_end.ensures (omega arith)
+    ∙ o.loop-i.invariant.1.text.size
 
 returns : tie.Need-returns invariant-loop decreases-loop
 returns c =
     let o = c.before.before.before.before.before in
     let s = o.before.before in
-    let fits = end-room s.args.part.now o.loop.part s.args.t2 o.loop.at o.loop.i s.args.count o.loop.invariant.1
+    let fits = end-room s.args.part.now o.loop-i.part s.args.cells o.loop-i.at o.loop-i.i s.args.count o.loop-i.invariant.1
     (omega arith) s.requires in
-    end-stands s.args.part.now o.loop.part c.before.before.put-end.new.0 s.args.t2 o.loop.at o.loop.i
-    s.args.count o.loop.invariant.1
-    (omega arith) fits c.before.before.put-end.ensures
+    end-stands s.args.part.now o.loop-i.part c.put_end.new.part s.args.cells o.loop-i.at o.loop-i.i
+    s.args.count o.loop-i.invariant.1
+    (omega arith) fits c.put_end.ensures
 
 pub put_frame_spec : {M : Type 1} → statement M
 put_frame_spec =

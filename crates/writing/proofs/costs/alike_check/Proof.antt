@@ -7,29 +7,29 @@ use Rattle.writing.specs.Saved.{first_other}
 use Rattle.writing.proofs.{Saving.{alike-none, alike-yes, alike-differs}, costs.alike_check.Statement.statement}
 use Rattle.writing.proofs.costs.alike_check.Tie as tie
 
-returns : tie.Need-returns
+returns : tie.Need-returns-then-version-eq0
 returns c =
     let s = c.before.before in
     let version = s.args.version in
-    sym (alike-none (meant_by version) s.args.p _ (omega (arith, common-size version s.requires.0, c.if1.true)))
+    sym (alike-none (meant_by version) s.args.p _ (omega (arith, common-size version s.requires.0, c.if-version-eq0.true)))
 
-returns-2 : tie.Need-returns-2
+returns-2 : tie.Need-returns-then-p-other
 returns-2 c =
     let called = c.before.before in
     let s = called.before.before.before in
-    sym (alike-yes (meant_by s.args.version) s.args.p _ (omega (arith, called.first-other.ensures, c.if2.true)))
+    sym (alike-yes (meant_by s.args.version) s.args.p _ (omega (arith, called.first_other-other.ensures, c.if-p-other.true)))
 
-returns-3 : tie.Need-returns-3
+returns-3 : tie.Need-returns
 returns-3 c =
     let called = c.before.before in
     let else = called.before in
     let s = else.before.before in
     let version = s.args.version in
     let p = s.args.p in
-    let other = called.first-other.ensures in
+    let other = called.first_other-other.ensures in
     ap (λ k. Refused CostsDiffer k) other
-    ∙ sym (alike-differs (meant_by version) p (first_other p) (omega (arith, common-size version s.requires.0, else.if1.false))
-    (omega (arith, other, c.if2.false)))
+    ∙ sym (alike-differs (meant_by version) p (first_other p) (omega (arith, common-size version s.requires.0, else.if-version-eq0.false))
+    (omega (arith, other, c.if-p-other.false)))
 
 pub alike_check_spec : {M : Type 1} → statement M
-alike_check_spec = tie.close (tie.spec returns (λ c κs. c.before.before.requires.1) returns-2 returns-3)
+alike_check_spec = tie.close (tie.spec returns (λ c κs. c.requires.1) returns-2 returns-3)

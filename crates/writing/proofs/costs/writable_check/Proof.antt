@@ -9,27 +9,27 @@ use Rattle.writing.proofs.costs.writable_check.Statement.{statement}
 use Rattle.writing.proofs.costs.writable_check.Tie as tie
 
 -- where the function starts, from the lawful arm of the check
-abbrev start : tie.After-enum-told → tie.Start
-start c = c.before.before.before
+abbrev start : tie.In-Lawful → tie.Start
+start c = c.before.before
 
-lawful : (c : tie.After-enum-told) → run_check (start c).args.p (start c).args.rs ≡ Lawful
-lawful c = sym c.before.before.run-check.ensures ∙ c.enum_told.given.1
+lawful : (c : tie.In-Lawful) → run_check (start c).args.p (start c).args.rs ≡ Lawful
+lawful c = sym c.run_check-checked.ensures ∙ c.in-Lawful.is
 
-alike-check-requires : tie.Need-alike-check-requires
+alike-check-requires : tie.Need-alike_check-requires
 alike-check-requires c κs =
     let s = start c in
     let good = run_check-lawful s.args.p s.args.rs (lawful c) in
-    (s.pre, (good.plan.n_pos, good.plan.n_max))
+    (s.requires, (good.plan.n_pos, good.plan.n_max))
 
-returns : tie.Need-returns
+returns : tie.Need-returns-in-Lawful
 unfolding writable_check
-returns c = c.alike-check.ensures ∙ sym (then-lawful _ _ (lawful c.before))
+returns c = c.alike_check.ensures ∙ sym (then-lawful _ _ (lawful c.before))
 
-returns-2 : tie.Need-returns-2
+returns-2 : tie.Need-returns-in-Refused
 unfolding writable_check
 returns-2 c =
-    let known = c.before in
-    sym (then-refused _ _ _ _ (sym known.before.before.run-check.ensures ∙ known.checked.given.1))
+    let known = c in
+    sym (then-refused _ _ _ _ (sym known.run_check-checked.ensures ∙ known.in-Refused.is))
 
 pub writable_check_spec : {M : Type 1} → statement M
 writable_check_spec =

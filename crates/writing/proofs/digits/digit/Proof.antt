@@ -4,13 +4,13 @@ use Rattle.writing.specs.Written.{digit_text}
 use Rattle.writing.proofs.digits.digit.Statement.{statement}
 use Rattle.writing.proofs.digits.digit.Tie as tie
 
-returns : tie.Need-returns
+returns : tie.Need-returns-then-v-lt10
 unfolding digit_text
-returns c = rw (lt-ltb _ _ c.if1.true)
+returns c = rw (lt-ltb _ _ c.if-v-lt10.true)
 
-returns-2 : tie.Need-returns-2
+returns-2 : tie.Need-returns
 unfolding digit_text
-returns-2 c = rw (le-ltb _ _ c.if1.false)
+returns-2 c = rw (le-ltb _ _ c.if-v-lt10.false)
 
 pub digit_spec : {M : Type 1} → statement M
 digit_spec =

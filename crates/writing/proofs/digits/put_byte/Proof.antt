@@ -7,10 +7,10 @@ use Rattle.writing.proofs.digits.put_byte.Tie as tie
 returns : tie.Need-returns
 unfolding byte_text
 returns c =
-    let b = c.before.before.before.args.b in
-    let high : c.before.digit.result ≡ digit_text (b / 16) = c.before.digit.ensures in
-    let low : c.digit2.result ≡ digit_text (b % 16) = c.digit2.ensures in
-    rw (high, low) (set-two c.before.before.before.args.part.now (digit_text (b / 16)) (digit_text (b % 16)) (omega arith))
+    let b = c.args.b in
+    let high : c.digit.result ≡ digit_text (b / 16) = c.digit.ensures in
+    let low : c.digit-2.result ≡ digit_text (b % 16) = c.digit-2.ensures in
+    rw (high, low) (set-two c.args.part.now (digit_text (b / 16)) (digit_text (b % 16)) (omega arith))
 
 pub put_byte_spec : {M : Type 1} → statement M
 put_byte_spec =

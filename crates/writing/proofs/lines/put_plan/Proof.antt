@@ -1,6 +1,6 @@
 -- `put_plan` meets its contract: the header's line, then the strings' lines in the next part, then the releases' lines in the part after
 -- that.
-use Rattle.base.proofs.Prelude.{ℕ, ◌+◌, ◌-◌, ◌*◌, ◌≤◌, ◌≡◌, refl, sym, ap, ◌∙◌, List, [], ◌∷◌, ◌++◌, flat_map, arith, length, take, drop, length-append, length-drop, length-take-le, put_mid, rules}
+use Rattle.base.proofs.Prelude.{ℕ, ◌+◌, ◌-◌, ◌*◌, ◌≤◌, ◌≡◌, sym, ap, ◌∙◌, List, [], ◌∷◌, ◌++◌, flat_map, arith, length, take, drop, length-append, length-drop, length-take-le, put_mid, rules}
 use Rattle.rules.specs.{declared.Plan.Plan, declared.Releases.Releases, Plan.strings_of, Release.releases_of, Layout.{Version, line_size, header_frame, string_frame, release_frame}}
 use Rattle.layouts.specs.inner.Versions.{meant_by, Known}
 use Rattle.layouts.proofs.Versions.{header-line, header-line-short, string-line, string-line-short, ten-short, release-line}
@@ -93,13 +93,13 @@ module _ (version : code.Version) (known : Known version) (p : Plan) (rs : Relea
         (omega (arith, room, stands.size, releases_are)) got
 
 -- where the function starts
-abbrev begin : tie.After-put-frame → tie.Start
+abbrev begin : tie.After-put_frame → tie.Start
 begin c = c.before.before.before.before.before.before
 
-abbrev start : tie.After-slice-known2 → tie.Start
+abbrev start : tie.After-slice_known-2-1 → tie.Start
 start c = begin c.before.before
 
-abbrev later : tie.After-slice-known3 → tie.After-slice-known2
+abbrev later : tie.After-slice_known-3-1 → tie.After-slice_known-2-1
 later c = c.before.before.before.before
 
 -- what is asked of the page, at the start
@@ -111,55 +111,55 @@ room_at s = room s.args.version s.requires.0 s.args.p s.args.rs s.args.part.now 
 short-at : (s : tie.Start) → s.args.version.header.line + s.args.p.n * s.args.version.string.line ≤ 1000
 short-at s = short s.args.version s.requires.0 s.args.p s.args.rs s.args.part.now s.requires.1
 
-header-cells-requires : tie.Need-header-cells-requires
+header-cells-requires : tie.Need-header_cells-requires
 header-cells-requires c κs =
     let s = c.before.before.before.before in
     (s.requires.0, (s.requires.1.strings.some, s.requires.1.strings.few))
 
-put-frame-requires : tie.Need-put-frame-requires
+put-frame-requires : tie.Need-put_frame-requires
 put-frame-requires c κs =
     let s = c.before.before.before.before.before in
-    line-room c.header-cells.result 5 (header_frame (meant_by s.args.version)) _ _ c.header-cells.ensures (omega arith)
+    line-room c.header_cells.result 5 (header_frame (meant_by s.args.version)) _ _ c.header_cells.ensures (omega arith)
     (omega (arith, room_at s, header-line s.args.version s.requires.0))
 
 -- ---- What stands after each part
 
-headed : (c : tie.After-slice-known2)
+headed : (c : tie.After-slice_known-2-1)
     → TextStands (start c).args.part.now (header_text (meant_by (start c).args.version) (start c).args.p)
-    c.before.before.put-frame.new.0
+    c.put_frame.new.part
 headed c =
     let s = start c in
-    header-stands s.args.version s.pre.0 s.args.p s.args.rs s.args.part.now s.pre.1 _ _
-    c.before.before.before.header-cells.ensures
-    c.before.before.put-frame.ensures
+    header-stands s.args.version s.requires.0 s.args.p s.args.rs s.args.part.now s.requires.1 _ _
+    c.header_cells.ensures
+    c.put_frame.ensures
 
 -- the page after the strings
-abbrev page-two : (c : tie.After-slice-known3) → List ℕ
+abbrev page-two : (c : tie.After-slice_known-3-1) → List ℕ
 page-two c =
     let known = later c in
-    let part = known.before.before.put-frame.last.0 in
+    let part = known.put_frame.new.part in
     let header = (start known).args.version.header.line in
-    put_mid header (length part - header) part c.before.before.put-strings.new.0
+    put_mid header (length part - header) part c.put_strings.new.part
 
-stringed : (c : tie.After-slice-known3)
+stringed : (c : tie.After-slice_known-3-1)
     → TextStands (start (later c)).args.part.now
     (header_text (meant_by (start (later c)).args.version) (start (later c)).args.p
     ++ flat_map (string_text (meant_by (start (later c)).args.version)) (strings_of (start (later c)).args.p))
     (page-two c)
 stringed c =
     let s = start (later c) in
-    strings-stand s.args.version s.pre.0 s.args.p s.args.rs s.args.part.now s.pre.1 _ _ (headed (later c))
-    c.before.before.put-strings.ensures
+    strings-stand s.args.version s.requires.0 s.args.p s.args.rs s.args.part.now s.requires.1 _ _ (headed (later c))
+    c.put_strings.ensures
 
-put-strings-requires : tie.Need-put-strings-requires
+put-strings-requires : tie.Need-put_strings-requires
 put-strings-requires c κs =
     let known = c.before in
     let s = start known in
-    let part = known.before.before.put-frame.new.0 in
-    let fit = s.pre.1.strings in
+    let part = known.put_frame.new.part in
+    let fit = s.requires.1.strings in
     let header = s.args.version.header.line in
-    let long = strings-are s.args.version s.pre.0 s.args.p s.args.rs s.args.part.now s.pre.1 in (
-      s.pre.0,
+    let long = strings-are s.args.version s.requires.0 s.args.p s.args.rs s.args.part.now s.requires.1 in (
+      s.requires.0,
       rw (lent-part header part)
           (record {
             some = fit.some;
@@ -169,14 +169,14 @@ put-strings-requires c κs =
           }),
     )
 
-put-releases-requires : tie.Need-put-releases-requires
+put-releases-requires : tie.Need-put_releases-requires
 put-releases-requires c κs =
     let known = c.before in
     let s = start (later known) in
     let place = s.args.version.header.line + s.args.p.n * s.args.version.string.line in
-    let fit = s.pre.1.releases in
-    let long = releases_are s.args.version s.pre.0 s.args.p s.args.rs s.args.part.now s.pre.1 in (
-      s.pre.0,
+    let fit = s.requires.1.releases in
+    let long = releases_are s.args.version s.requires.0 s.args.p s.args.rs s.args.part.now s.requires.1 in (
+      s.requires.0,
       rw (lent-part place (page-two known))
           (record {
             few = fit.few;
@@ -190,8 +190,8 @@ returns : tie.Need-returns
 returns c =
     let known = c.before.before.before.before in
     let s = start (later known) in
-    (releases-stand s.args.version s.pre.0 s.args.p s.args.rs s.args.part.now s.pre.1 (page-two known) _
-    (stringed known) c.before.before.put-releases.ensures).is
+    (releases-stand s.args.version s.requires.0 s.args.p s.args.rs s.args.part.now s.requires.1 (page-two known) _
+    (stringed known) c.put_releases.ensures).is
 
 pub put_plan_spec : {M : Type 1} → statement M
 put_plan_spec =

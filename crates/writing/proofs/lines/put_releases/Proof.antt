@@ -41,26 +41,26 @@ module _ (version : code.Version) (known : Known version) (rs : Releases) (befor
         before part i rows
         (omega (arith, counted)) held
 
-abbrev invariant-loop : tie.invariant-loop
+abbrev invariant-loop : tie.invariant-loop-i
 invariant-loop part₀ version count list line i₀ part i = (i ≤ count) × Lines version list count part₀ part i
 
-abbrev decreases-loop : tie.decreases-loop
+abbrev decreases-loop : tie.decreases-loop-i
 decreases-loop part₀ version count list line i₀ part i = count - i
 
-abbrev start : tie.At-loop invariant-loop decreases-loop → tie.Start invariant-loop decreases-loop
+abbrev start : tie.At-loop-i invariant-loop decreases-loop → tie.Start invariant-loop decreases-loop
 start o = o.before.before.before
 
 -- there is room for the next line
-fits : (c : tie.In-loop invariant-loop decreases-loop)
-    → c.before.loop.i * (start c.before).args.version.release.line + (start c.before).args.version.release.line
-    ≤ length c.before.loop.part
+fits : (c : tie.In-loop-i invariant-loop decreases-loop)
+    → c.loop-i.i * (start c.before).args.version.release.line + (start c.before).args.version.release.line
+    ≤ length c.loop-i.part
 fits c =
     let o = c.before in
     let s = start o in
-    next-room s.args.version s.pre.0 s.args.rs s.args.part.now s.pre.1 o.loop.part o.loop.i o.loop.invariant.1
+    next-room s.args.version s.requires.0 s.args.rs s.args.part.now s.requires.1 o.loop-i.part o.loop-i.i o.loop-i.invariant.1
     (omega arith)
 
-loop-holds : tie.Need-loop-init invariant-loop decreases-loop
+loop-holds : tie.Need-loop-i-init invariant-loop decreases-loop
 loop-holds c =
     let s = c.before.before in
     let version = s.args.version in (
@@ -69,28 +69,28 @@ loop-holds c =
           (releases_of s.args.rs) no_release _,
     )
 
-release-cells-requires : tie.Need-release-cells-requires invariant-loop decreases-loop
+release-cells-requires : tie.Need-release_cells-requires invariant-loop decreases-loop
 release-cells-requires c κs =
     let o = c.before.before.before in
     let s = start o in
     let rs = s.args.rs in
-    let many = counted s.args.version s.pre.0 rs s.args.part.now s.pre.1 in (
-      s.pre.0,
-      subst (λ r. r.place ≤ 10) (get_or-take rs.count rs.list o.loop.i no_release (omega arith))
-          (all-at (λ r. r.place ≤ 10) (releases_of rs) no_release s.pre.1.places o.loop.i (omega arith)),
+    let many = counted s.args.version s.requires.0 rs s.args.part.now s.requires.1 in (
+      s.requires.0,
+      subst (λ r. r.place ≤ 10) (get_or-take rs.count rs.list o.loop-i.i no_release (omega arith))
+          (all-at (λ r. r.place ≤ 10) (releases_of rs) no_release s.requires.1.places o.loop-i.i (omega arith)),
     )
 
-put-frame-requires : tie.Need-put-frame-requires invariant-loop decreases-loop
+put-frame-requires : tie.Need-put_frame-requires invariant-loop decreases-loop
 put-frame-requires c κs =
     let into = c.before.before.before in
     let o = into.before in
     let version = (start o).args.version in
-    let a = o.loop.i * version.release.line in
-    rw (lent-part a o.loop.part)
-    (line-room c.release-cells.result 5 (release_frame (meant_by version)) _ _ c.release-cells.ensures (omega arith)
-    (omega (arith, fits into, length-drop a o.loop.part, release-line version (start o).requires.0)))
+    let a = o.loop-i.i * version.release.line in
+    rw (lent-part a o.loop-i.part)
+    (line-room c.release_cells.result 5 (release_frame (meant_by version)) _ _ c.release_cells.ensures (omega arith)
+    (omega (arith, fits into, length-drop a o.loop-i.part, release-line version (start o).requires.0)))
 
-loop-again : tie.Need-loop-preserved invariant-loop decreases-loop
+loop-again : tie.Need-loop-i-preserved invariant-loop decreases-loop
 unfolding release_text
 loop-again c =
     let into = c.before.before.before.before.before.before in
@@ -99,19 +99,19 @@ loop-again c =
     let version = s.args.version in
     let v = meant_by version in
     let rs = s.args.rs in
-    let i = o.loop.i in
-    let made = c.before.before.before.release-cells in
+    let i = o.loop-i.i in
+    let made = c.release_cells in
     let this = get_or-take rs.count rs.list i no_release (omega arith) in
     let put = line-put made.result 5 (release_frame v) (release_says (get_or rs.list i no_release)) _ _ made.ensures
-    c.before.before.put-frame.ensures in
-    let part = o.loop.part in
+    c.put_frame.ensures in
+    let part = o.loop-i.part in
     let a = i * version.release.line in
     let there = take (length part - a) (drop a part) in
-    let long = ap (λ k. release_text v (get_or rs.list i no_release) ++ drop k there) (sym (release-line version s.pre.0)) in (
+    let long = ap (λ k. release_text v (get_or rs.list i no_release) ++ drop k there) (sym (release-line version s.requires.0)) in (
       omega arith,
-      rows_next (release_text v) version.release.line (each_long version s.pre.0) (releases_of rs) no_release s.args.part.now
-          part c.before.before.put-frame.new.0 i o.loop.invariant.1
-          (omega (arith, counted version s.pre.0 rs s.args.part.now s.pre.1)) (fits into) (rw this (put ∙ long)),
+      rows_next (release_text v) version.release.line (each_long version s.requires.0) (releases_of rs) no_release s.args.part.now
+          part c.put_frame.new.part i o.loop-i.invariant.1
+          (omega (arith, counted version s.requires.0 rs s.args.part.now s.requires.1)) (fits into) (rw this (put ∙ long)),
     )
 
 returns : tie.Need-returns invariant-loop decreases-loop
@@ -122,15 +122,15 @@ returns c =
     let rs = s.args.rs in
     let v = meant_by version in
     rows_written (release_text v) (line_size (release_frame v)) (release_text-length v) (releases_of rs)
-    no_release s.args.part.now o.loop.part o.loop.i o.loop.invariant.1
-    (omega (arith, counted version s.pre.0 rs s.args.part.now s.pre.1))
+    no_release s.args.part.now o.loop-i.part o.loop-i.i o.loop-i.invariant.1
+    (omega (arith, counted version s.requires.0 rs s.args.part.now s.requires.1))
 
 pub put_releases_spec : {M : Type 1} → statement M
 put_releases_spec =
     tie.close (tie.spec
-    invariant-loop decreases-loop loop-holds (λ c. omega (arith, (start c.before).pre.1.few))
-    (λ c. omega (arith, (start c.before).pre.1.few)) (λ c. omega (arith, fits c.before))
+    invariant-loop decreases-loop loop-holds (λ c. omega (arith, (start c.before).requires.1.few))
+    (λ c. omega (arith, (start c.before).requires.1.few)) (λ c. omega (arith, fits c.before))
     (λ c. omega (arith, fits c.before)) (λ c. omega (arith, fits c.before)) (λ c. omega (arith, fits c.before))
     release-cells-requires put-frame-requires
-    (λ c. omega (arith, (start c.before.before.before.before.before.before.before).pre.1.few))
-    (λ c. omega arith) loop-again (λ c. c.before.loop.invariant.1.size) returns)
+    (λ c. omega (arith, (start c.before.before.before.before.before.before.before).requires.1.few))
+    (λ c. omega arith) loop-again (λ c. c.loop-i.invariant.1.size) returns)

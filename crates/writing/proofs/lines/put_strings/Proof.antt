@@ -40,26 +40,26 @@ module _ (version : code.Version) (known : Known version) (p : Plan) (before : L
         before part i rows
         (omega (arith, counted)) held
 
-abbrev invariant-loop : tie.invariant-loop
+abbrev invariant-loop : tie.invariant-loop-i
 invariant-loop part₀ version n strings line i₀ part i = (i ≤ n) × Lines version strings n part₀ part i
 
-abbrev decreases-loop : tie.decreases-loop
+abbrev decreases-loop : tie.decreases-loop-i
 decreases-loop part₀ version n strings line i₀ part i = n - i
 
-abbrev start : tie.At-loop invariant-loop decreases-loop → tie.Start invariant-loop decreases-loop
+abbrev start : tie.At-loop-i invariant-loop decreases-loop → tie.Start invariant-loop decreases-loop
 start o = o.before.before.before
 
 -- there is room for the next line
-fits : (c : tie.In-loop invariant-loop decreases-loop)
-    → c.before.loop.i * (start c.before).args.version.string.line + (start c.before).args.version.string.line
-    ≤ length c.before.loop.part
+fits : (c : tie.In-loop-i invariant-loop decreases-loop)
+    → c.loop-i.i * (start c.before).args.version.string.line + (start c.before).args.version.string.line
+    ≤ length c.loop-i.part
 fits c =
     let o = c.before in
     let s = start o in
-    next-room s.args.version s.pre.0 s.args.p s.args.part.now s.pre.1 o.loop.part o.loop.i o.loop.invariant.1
+    next-room s.args.version s.requires.0 s.args.p s.args.part.now s.requires.1 o.loop-i.part o.loop-i.i o.loop-i.invariant.1
     (omega arith)
 
-loop-holds : tie.Need-loop-init invariant-loop decreases-loop
+loop-holds : tie.Need-loop-i-init invariant-loop decreases-loop
 loop-holds c =
     let s = c.before.before in
     let version = s.args.version in (
@@ -68,17 +68,17 @@ loop-holds c =
           (strings_of s.args.p) no_string _,
     )
 
-put-frame-requires : tie.Need-put-frame-requires invariant-loop decreases-loop
+put-frame-requires : tie.Need-put_frame-requires invariant-loop decreases-loop
 put-frame-requires c κs =
     let into = c.before.before.before in
     let o = into.before in
     let version = (start o).args.version in
-    let a = o.loop.i * version.string.line in
-    rw (lent-part a o.loop.part)
-    (line-room c.string-cells.result 7 (string_frame (meant_by version)) _ _ c.string-cells.ensures (omega arith)
-    (omega (arith, fits into, length-drop a o.loop.part, string-line version (start o).requires.0)))
+    let a = o.loop-i.i * version.string.line in
+    rw (lent-part a o.loop-i.part)
+    (line-room c.string_cells.result 7 (string_frame (meant_by version)) _ _ c.string_cells.ensures (omega arith)
+    (omega (arith, fits into, length-drop a o.loop-i.part, string-line version (start o).requires.0)))
 
-loop-again : tie.Need-loop-preserved invariant-loop decreases-loop
+loop-again : tie.Need-loop-i-preserved invariant-loop decreases-loop
 unfolding string_text
 loop-again c =
     let into = c.before.before.before.before.before.before in
@@ -87,19 +87,19 @@ loop-again c =
     let version = s.args.version in
     let v = meant_by version in
     let p = s.args.p in
-    let i = o.loop.i in
-    let made = c.before.before.before.string-cells in
+    let i = o.loop-i.i in
+    let made = c.string_cells in
     let this : get_or (strings_of p) i no_string ≡ get_or p.strings i no_string = get_or-take p.n p.strings i no_string (omega arith) in
     let put = line-put made.result 7 (string_frame v) (string_says (get_or p.strings i no_string)) _ _ made.ensures
-    c.before.before.put-frame.ensures in
-    let part = o.loop.part in
+    c.put_frame.ensures in
+    let part = o.loop-i.part in
     let a = i * version.string.line in
     let there = take (length part - a) (drop a part) in
-    let long = ap (λ k. string_text v (get_or p.strings i no_string) ++ drop k there) (sym (string-line version s.pre.0)) in (
+    let long = ap (λ k. string_text v (get_or p.strings i no_string) ++ drop k there) (sym (string-line version s.requires.0)) in (
       omega arith,
-      rows_next (string_text v) version.string.line (each_long version s.pre.0) (strings_of p) no_string s.args.part.now
-          part c.before.before.put-frame.new.0 i o.loop.invariant.1
-          (omega (arith, counted version s.pre.0 p s.args.part.now s.pre.1)) (fits into) (rw this (put ∙ long)),
+      rows_next (string_text v) version.string.line (each_long version s.requires.0) (strings_of p) no_string s.args.part.now
+          part c.put_frame.new.part i o.loop-i.invariant.1
+          (omega (arith, counted version s.requires.0 p s.args.part.now s.requires.1)) (fits into) (rw this (put ∙ long)),
     )
 
 returns : tie.Need-returns invariant-loop decreases-loop
@@ -110,15 +110,15 @@ returns c =
     let p = s.args.p in
     rows_written (string_text (meant_by version)) (line_size (string_frame (meant_by version))) (string_text-length (meant_by version))
     (strings_of p)
-    no_string s.args.part.now o.loop.part o.loop.i o.loop.invariant.1
-    (omega (arith, counted version s.pre.0 p s.args.part.now s.pre.1))
+    no_string s.args.part.now o.loop-i.part o.loop-i.i o.loop-i.invariant.1
+    (omega (arith, counted version s.requires.0 p s.args.part.now s.requires.1))
 
 pub put_strings_spec : {M : Type 1} → statement M
 put_strings_spec =
     tie.close (tie.spec
-    invariant-loop decreases-loop loop-holds (λ c. omega (arith, (start c.before).pre.1.few))
-    (λ c. omega (arith, (start c.before).pre.1.few)) (λ c. omega (arith, fits c.before))
+    invariant-loop decreases-loop loop-holds (λ c. omega (arith, (start c.before).requires.1.few))
+    (λ c. omega (arith, (start c.before).requires.1.few)) (λ c. omega (arith, fits c.before))
     (λ c. omega (arith, fits c.before)) (λ c. omega (arith, fits c.before)) (λ c. omega (arith, fits c.before))
-    (λ c κs. (start c.before.before.before).pre.0) put-frame-requires
-    (λ c. omega (arith, (start c.before.before.before.before.before.before.before).pre.1.few))
-    (λ c. omega arith) loop-again (λ c. c.before.loop.invariant.1.size) returns)
+    (λ c κs. (start c.before.before.before).requires.0) put-frame-requires
+    (λ c. omega (arith, (start c.before.before.before.before.before.before.before).requires.1.few))
+    (λ c. omega arith) loop-again (λ c. c.loop-i.invariant.1.size) returns)

@@ -6,4 +6,4 @@ use Rattle.writing.proofs.says.release_cells.Tie as tie
 pub release_cells_spec : {M : Type 1} → statement M
 release_cells_spec =
     tie.close (tie.spec
-    (λ c. search rules) (λ c. release-says c.before.args.version c.before.requires.0 c.before.args.r))
+    (λ c. search rules) (λ c. release-says c.args.version c.requires.0 c.args.r))
