@@ -1,4 +1,6 @@
 // A plan file in, its answer out: the refusal, or verdict, search and run.
+#![tactic(auto)]
+
 mod three;
 
 ghost use Rattle.std.specs.Prelude.{◌≡◌};
@@ -11,7 +13,7 @@ use three::three_given;
 // The verdict and the run use the X in the plan, not the set found. The text is lent and keeps its bytes.
 pub fn answer(text: &[u8]) -> Answer
     ensures exact { result ≡ answer_of text.now }
-    ensures kept { text.now ≡ text.now }
+    ensures kept { text.exit.now ≡ text.entry.now }
 {
     let reading = reading::read(text);
     let checked = reading.checked;

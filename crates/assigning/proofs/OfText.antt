@@ -3,20 +3,18 @@
 --     Nobody       the text is lawful and no set passes
 --     Text         what was written is the text of the same plan and releases with the set that the search finds; with it the plan passes
 -- But for Text, no byte of the page is another.
-use Rattle.base.proofs.Prelude.{ℕ, zero, suc, ◌+◌, ◌-◌, ◌*◌, ◌/◌, ◌%◌, ◌^◌, ◌≤◌, ◌<◌, ◌≡◌, refl, sym, ap, ◌∙◌, subst, ◌⊎◌, inl, inr, ◌↔◌, true, false, List, [], ◌∷◌, ◌++◌, arith, pow-suc, length, take, drop, replicate, length-take-le, take-append_seam}
+use Rattle.base.proofs.Prelude.{ℕ, zero, suc, ◌-◌, ◌/◌, ◌%◌, ◌^◌, ◌≤◌, ◌<◌, ◌≡◌, refl, sym, ap, ◌∙◌, subst, List, [], ◌∷◌, ◌++◌, arith, pow-suc, length, take, drop, replicate, length-take-le}
 use Rattle.base.specs.Count.{filled}
-use Rattle.base.proofs.Lists.{by_bool}
-use Rattle.days.specs.Days.{days}
-use Rattle.faults.specs.{declared.Fault.Fault, declared.Fault.TheVariants.NoRoom}
+use Rattle.faults.specs.{declared.Fault.Fault}
 use Rattle.faults.proofs.Checks.{by-checked, then-first}
-use Rattle.rules.specs.{declared.BatteryString.BatteryString, declared.Plan.Plan, declared.Releases.Releases, declared.Reading.Reading, declared.Assign.Assign, Plan.{strings_of, no_string}, Demand.Passes, Search.{permit, with_set, set_passes, search_of}, Release.releases_of, Refusal.{plan_check, releases_check, run_check, search_answer}, Layout.version03, Text.{lines_of, version_of, reading_of}}
-use Rattle.laws.proofs.{Lawful.{LawfulPlan, plan_check-lawful}, Answers.search-lawful, ReadLawful.read-lawful}
-use Rattle.demand.proofs.{Sets.{permitted, with_set-strings, with_set-lawful}, Search.{set_passes-exactly, search-passes}}
+use Rattle.rules.specs.{declared.BatteryString.BatteryString, declared.Plan.Plan, declared.Releases.Releases, declared.Reading.Reading, declared.Assign.Assign, Plan.{strings_of, no_string}, Demand.Passes, Search.{permit, with_set, search_of}, Refusal.{plan_check, releases_check, run_check}, Layout.version03, Text.{lines_of, version_of, reading_of}}
+use Rattle.laws.proofs.{Lawful.{plan_check-lawful}, Answers.search-lawful, ReadLawful.read-lawful}
+use Rattle.demand.proofs.{Sets.{permitted, with_set-strings}, Search.{set_passes-exactly, search-passes}}
 use Rattle.writing.specs.declared.Saved.{Saved}
-use Rattle.writing.specs.Saved.{saved_text, no_room, writable_check, save_check, saved_answer, saved_page}
-use Rattle.roundtrip.specs.OneText.{trimmed_plan, trimmed_releases, read_again}
+use Rattle.writing.specs.Saved.{saved_answer, saved_page}
+use Rattle.roundtrip.specs.OneText.{trimmed_plan, trimmed_releases}
 use Rattle.roundtrip.proofs.{As02.{read-trimmed, ten-places, thousand}, InPage.reading-the-page}
-use Rattle.assigning.specs.{declared.Assigned.Assigned, declared.Assigned.TheVariants.{Refused, Nobody, Text}, Assigned.{wrote_set, set_answered, set_page, assigned_answer, assigned_page}, TakesFound.TakesFound}
+use Rattle.assigning.specs.{declared.Assigned.TheVariants.{Refused, Nobody, Text}, Assigned.{wrote_set, set_answered, set_page, assigned_answer, assigned_page}, TakesFound.TakesFound}
 use Rattle.faults.specs.declared.Checked.TheVariants as checked
 use Rattle.rules.specs.declared.AskedAssign.TheVariants as asked
 use Rattle.rules.specs.declared.Assign.TheVariants as found
@@ -143,7 +141,8 @@ module _ (text page : List ℕ) (at : ℕ) where
   -- ---- Text
 
   -- what is written is the text of the plan with the set that the search finds, and that plan passes
-  pub assigned-text : (len : ℕ) → assigned_answer text page at ≡ Text len → TakesFound text (take len (drop at (assigned_page text page at)))
+  pub assigned-text : (len : ℕ) → assigned_answer text page at ≡ Text len → TakesFound text
+      (take len (drop at (assigned_page text page at)))
   assigned-text len said = by-checked (reading_of text).checked (λ h. go h (search_of p) refl) refused
     where
       refused : (f : Fault) (k : ℕ) → (reading_of text).checked ≡ checked.Refused f k

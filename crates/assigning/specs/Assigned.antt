@@ -1,7 +1,7 @@
 -- The plan of a text with the set that the search finds, as the text of a plan in the caller's page.
 --     wrote_set a            what the writer answered
---     set_answered, set_page  what is answered, and the page afterwards, where the search answered for p and rs are its releases: p with the
---                           set that was found is written, in version 03; 9 with 0 where there is no room
+--     set_answered, set_page  what is answered, and the page afterwards, where the search answered for p and rs are its releases: p with
+--                           the set that was found is written, in version 03; 9 with 0 where there is no room
 --     assigned_answer, assigned_page   the same of a text; but what the reader finds, 1 to 8, comes first
 -- Where no text is written, no byte of the page is another.
 use Rattle.std.specs.Prelude.{ℕ, List}

@@ -1,4 +1,6 @@
 // The plan of a text with the set that the search finds, as the text of a plan in the caller's page.
+#![tactic(auto)]
+
 ghost use Rattle.std.specs.Prelude.{◌≡◌};
 ghost use Rattle.rules.specs.Layout.{version03};
 ghost use Rattle.rules.specs.Search.{with_set};
@@ -53,7 +55,7 @@ fn put(p: Plan, rs: Releases, page: &mut [u8], at: usize) -> Assigned
 pub fn assign(text: &[u8], page: &mut [u8], at: usize) -> Assigned
     ensures exact { result ≡ assigned_answer text.now page.old at }
     ensures page { page.new ≡ assigned_page text.now page.old at }
-    ensures kept { text.now ≡ text.now }
+    ensures kept { text.exit.now ≡ text.entry.now }
 {
     let reading = reading::read(text);
     let checked = reading.checked;

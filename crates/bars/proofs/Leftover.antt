@@ -1,7 +1,7 @@
 -- Whether one of a list of releases is left over, one after the other.
 --     any_left g n i         one of the numbers behind i, up to n, passes g
 --     left_by p rs us n i t k     the k-th release is one that is left over
-use Rattle.base.proofs.Prelude.{ℕ, suc, ◌+◌, ◌-◌, ◌≤◌, ◌<◌, ◌≡◌, refl, sym, ap, ◌∙◌, Bool, true, false, cond, ◌&&◌, ltb, List, arith, add-one, length, get_or, take, length-take-le, get_or-take}
+use Rattle.base.proofs.Prelude.{ℕ, suc, ◌+◌, ◌-◌, ◌≤◌, ◌<◌, ◌≡◌, sym, ap, ◌∙◌, Bool, true, false, cond, ◌&&◌, ltb, List, arith, add-one, length, get_or, take, length-take-le, get_or-take}
 use Rattle.base.specs.Count.{any, count_of, up_from}
 use Rattle.rules.specs.{declared.Plan.Plan, declared.Release.Release, declared.Releases.Releases, declared.Use.Use, declared.Use.TheVariants.Idle, Release.{releases_of, released, no_release}}
 use Rattle.sound.specs.Served.{works_for}

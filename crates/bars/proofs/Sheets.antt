@@ -1,12 +1,12 @@
 -- What the sheet of a run holds, by how the run ended; and what the answer for its stints says of the checks.
-use Rattle.base.proofs.Prelude.{ℕ, ◌+◌, ◌-◌, ◌*◌, ◌≤◌, ◌≡◌, refl, sym, ap, ◌∙◌, true, false, leb, leb-true, List, [], ◌∷◌, ◌++◌, append-nil, arith, length, take}
+use Rattle.base.proofs.Prelude.{ℕ, ◌-◌, ◌≤◌, ◌≡◌, sym, ap, ◌∙◌, leb, leb-true, List, [], ◌∷◌, ◌++◌, arith, length, take}
 use borrow.Author.Tests.{leb-false}
 use mathlib.Core.List.{flat_map}
 use Rattle.base.proofs.Lists.{by_bool}
 use Rattle.days.specs.{declared.Day.Day, declared.Length.Length, Days.day}
 use Rattle.faults.specs.{declared.Fault.Fault, declared.Checked.Checked, declared.Checked.TheVariants.{Lawful, Refused}}
 use Rattle.faults.proofs.Checks.{by-checked}
-use Rattle.rules.specs.{declared.Plan.Plan, declared.Release.Release, declared.Releases.Releases, declared.Outcome.Outcome, declared.Outcome.TheVariants.{Miss, Clean}, Release.releases_of, Run.{miss_day, late_on, run_of}, Stints.{days_run, run_stints, stints_numbers, stints_answer}, Refusal.{run_check, run_answer}}
+use Rattle.rules.specs.{declared.Plan.Plan, declared.Release.Release, declared.Releases.Releases, declared.Outcome.Outcome, declared.Outcome.TheVariants.{Miss, Clean}, Release.releases_of, Run.{miss_day, run_of}, Stints.{days_run, run_stints, stints_numbers, stints_answer}, Refusal.{run_check, run_answer}}
 use Rattle.rules.specs.declared.Stinted.TheVariants as stinted
 use Rattle.rules.specs.declared.AskedOutcome.TheVariants as asked
 use Rattle.laws.proofs.{Releases.run_check-lawful, Answers.run-lawful}

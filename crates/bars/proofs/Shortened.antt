@@ -1,5 +1,5 @@
 -- Idle days that share a column, and where the columns end.
-use Rattle.base.proofs.Prelude.{ℕ, ◌+◌, ◌-◌, ◌≤◌, ◌<◌, ◌≡◌, sym, ap, ◌∙◌, List, [], arith, ltb, length, get_or, get_or-take, lt-ltb, le-ltb}
+use Rattle.base.proofs.Prelude.{ℕ, ◌-◌, ◌≤◌, ◌<◌, ◌≡◌, sym, ap, ◌∙◌, List, [], arith, length, get_or, get_or-take, lt-ltb, le-ltb}
 use Rattle.showing.specs.Shown.{in_place}
 use Rattle.showing.proofs.InPlace.{in_place-there, in_place-none}
 use Rattle.lines.specs.Bars.{idle_line, cut_line}

@@ -1,5 +1,5 @@
 -- The lines that are asked for one by one, put together, are the whole text.
-use Rattle.base.proofs.Prelude.{ℕ, ◌≤◌, ◌≡◌, ap, ◌∙◌, List, ◌++◌, arith, length, length-take}
+use Rattle.base.proofs.Prelude.{ℕ, ◌≡◌, ap, ◌∙◌, List, ◌++◌, arith, length-take}
 use mathlib.Core.List.{flat_map}
 use Rattle.base.specs.Count.{up_from}
 use Rattle.faults.specs.declared.Checked.TheVariants.{Lawful}
@@ -11,7 +11,8 @@ use Rattle.bars.specs.{declared.Column.Column, Bars.{no_column, stint_columns, m
 
 -- for a lawful run
 pub bars-whole : (p : Plan) (rs : Releases) → run_check p rs ≡ Lawful
-    → head_shown p rs ++ flat_map (row_shown p rs) (up_from 1 p.n) ++ marks_line ++ flat_map (idle_shown p rs) (up_from 1 70) ++ cut_shown p rs
+    → head_shown p rs ++ flat_map (row_shown p rs) (up_from 1 p.n) ++ marks_line ++ flat_map (idle_shown p rs) (up_from 1 70)
+    ++ cut_shown p rs
     ≡ bars_text p rs
 unfolding head_shown row_shown idle_shown cut_shown bars_text drawn
 bars-whole p rs lawful =

@@ -1,8 +1,8 @@
 -- The run of a plan as bars, a row for each string and a column for each day: the text of `clerk bars`, and each of its lines as it is
 -- asked for.
 -- In a run of n days on which the bank did us, day by day:
---     drawn_on p i going t r a release r of the string at place i is drawn on day t as long as it has work to come: while the run goes, from
---                           its release day on; on the day of a miss, if that is its deadline
+--     drawn_on p i going t r a release r of the string at place i is drawn on day t as long as it has work to come: while the run goes,
+--                           from its release day on; on the day of a miss, if that is its deadline
 --     to_do rs us k t        the k-th release has had less work than it needs before day t
 --     left_over p rs us n i t     a release of the string at place i is drawn on day t and has work to come
 --     used_bar i u b         # where the bank works for place i, m where it moves for it, else b
@@ -20,7 +20,8 @@
 --     idle_words c           which days share the column c; nothing where it is one day's
 --     cut_behind cs e        where the columns cs end, if they are seventy and end before day e; nothing elsewhere
 --     cut_words p rs         the same of the run's columns and the day on which it ends
---     head_shown, row_shown, idle_shown, cut_shown     the line above, the row of place i, the line for the k-th column, the line at the end
+--     head_shown, row_shown, idle_shown, cut_shown     the line above, the row of place i, the line for the k-th column, the line at
+--                           the end
 --     bars_text p rs         the whole text
 use Rattle.std.specs.Prelude.{ℕ, ◌+◌, ◌-◌, ◌%◌, Bool, cond, ◌&&◌, ltb, leb, eqb, length, take, get_or}
 use mathlib.Core.List.{List, [], ◌∷◌, ◌++◌, map, flat_map}

@@ -1,5 +1,7 @@
 // The run of a plan as bars, line by line: the days, a row for each string, the idle days that share a column, and where the bars end. No
 // caller is trusted to have checked anything: what is refused gives the refusal's line, and a place at which nothing stands an empty page.
+#![tactic(auto)]
+
 mod cells;
 mod columns;
 mod sheet;

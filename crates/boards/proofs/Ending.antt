@@ -6,7 +6,7 @@ use Rattle.calendar.specs.Numbers.{date_of, last_day}
 use Rattle.rules.specs.declared.Outcome.{Outcome}
 use Rattle.rules.specs.declared.Outcome.TheVariants.{Miss, Clean}
 use Rattle.lines.specs.{Pages.{length_told, page_told}, Board.missed_line}
-use Rattle.lines.proofs.Putting.{room, no_room}
+use Rattle.lines.proofs.Putting.{room, no-room}
 use Rattle.boards.specs.{Board.{date_head, miss_line_of}, Whole.end_text, inner.Daily.head_with}
 use Rattle.boards.proofs.Days.{head-long}
 
@@ -44,7 +44,7 @@ module _ (k : ℕ) (t : Day) (i : ℕ) (page : List ℕ) where
         )
 
     pub end_short : length page < 15 + length (missed_line i) → EndTold k (Miss t i) page 0 page
-    end_short h = rw end_is (no_room miss_line page (omega (arith, miss_line-long)))
+    end_short h = rw end_is (no-room miss_line page (omega (arith, miss_line-long)))
 
     pub end-put : 15 + length (missed_line i) ≤ length page
         → (long : ℕ) (after : List ℕ) → long ≡ 0 + length miss_line → after ≡ put_at 0 miss_line page → EndTold k (Miss t i) page long after

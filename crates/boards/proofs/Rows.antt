@@ -28,7 +28,8 @@ module _ (ts : List Test) where
             fits-over ts room k u us full ∙ ap (λ d. board_from k ts (take d (u ∷ us))) (sym (days-not ts room k u us full))
       ]
 
-  in_parts : (d k : ℕ) (us : List Use) → d ≤ length us → board_from k ts us ≡ board_from k ts (take d us) ++ board_from (k + d) ts (drop d us)
+  in_parts : (d k : ℕ) (us : List Use) → d ≤ length us → board_from k ts us ≡ board_from k ts (take d us)
+      ++ board_from (k + d) ts (drop d us)
   unfolding board_from
   in_parts zero k us h =
       let same : k + 0 ≡ k = omega arith in

@@ -96,16 +96,19 @@ pub worked : map (λ r. board_text r.plan r.input) table ≡ map (λ r. r.board)
 unfolding
     row filled_diary table small missed moving refused char hex_of line flat_map
     sum_of largest smallest smallest_with every any keep count_of up_from least_from first_of places_of digits_in digits_of number_on
-    leap_year year_length months_with month_lengths month_length date_exists date_after days_before_year days_before_month day_number date_of weekday_of
+    leap_year year_length months_with month_lengths month_length date_exists date_after days_before_year days_before_month day_number
+    date_of weekday_of
     on_leap_day in_no_year moved_in in_year same_date falls_on digits fits_at fits date_text yearly_text date_in yearly_in
     string_lawful common_multiple multiple_of moving_cost
     too_close out_of_order release_lawful unlawful_from first_unlawful
-    chosen late_at new_slot join_from joined holder payer taken next_up given use_of spent morning state_at use_on late_on history days_of miss_day
+    chosen late_at new_slot join_from joined holder payer taken next_up given use_of spent morning state_at use_on late_on history days_of
+    miss_day
     run_of days_run
     count_check run_length_check cost_check strings_check multiple_check plan_check releases_check run_check
     before lines_of digit_of well_formed hex_bytes frame_of has_field field_among field_in held_to field_of
     n_in run_in a_in cost_of string_of due_in release_of plan_in list_in frame_check version_check header_check
-    string_line_check string_lines_check release_line_check release_lines_check body_check lines_check text_check lawful_reading reading_in version_of
+    string_line_check string_lines_check release_line_check release_lines_check body_check lines_check text_check lawful_reading
+    reading_in version_of
     reading_of bytes_of decimal worded_in
     weekday_name used_line missed_line number_line
     start_right start_check start_said test_in test_right test_check diary_check diary_in input_check input_reading

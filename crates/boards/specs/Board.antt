@@ -9,8 +9,8 @@
 --     board_from k ts us     the same of days in a row, the first of which is day k, on which the bank did us
 --     board_end k o          a miss ends the board with its line, for a run from day k that ended with o
 --     tests_of d             the tests of a diary
---     board_of k d p rs      the whole board of the run of p over rs, from day k on, with the diary d: the days of the run's history, up to,
---                           not into, the day of a miss, and its line
+--     board_of k d p rs      the whole board of the run of p over rs, from day k on, with the diary d: the days of the run's history,
+--                           up to, not into, the day of a miss, and its line
 use Rattle.std.specs.Prelude.{ℕ, suc, ◌+◌, Bool, take}
 use mathlib.Core.List.{List, [], ◌∷◌, ◌++◌, flat_map}
 use Rattle.base.specs.Count.{keep}

@@ -203,7 +203,7 @@ fn input_with(start: Day, found: Noting) -> Input
 // What standard input says, for a run of so many days. The text is lent and keeps its bytes.
 pub fn input_read(text: &[u8], run: Length) -> Input
     ensures exact { result ≡ input_reading run.0 text.now }
-    ensures kept { text.now ≡ text.now }
+    ensures kept { text.exit.now ≡ text.entry.now }
 {
     let end = line_end(text, 0);
     let start = start_at(&text[..end], end < text.len(), run);

@@ -1,4 +1,6 @@
 // The crew's board (document 02, W-214): a start date and a diary, read, and the days of a run, written page by page.
+#![tactic(auto)]
+
 mod daily;
 mod entered;
 mod paging;

@@ -32,7 +32,7 @@ fn less(a: u32, b: u32) -> u32
 pub fn board_page(b: Board, list: &[u32], from: Day, page: &mut [u8]) -> Filled
     ensures exact { result ≡ page_filled b list.now from.0 (length page.old) }
     ensures page { page.new ≡ page_after b list.now from.0 page.old }
-    ensures kept { list.now ≡ list.now }
+    ensures kept { list.exit.now ≡ list.entry.now }
 {
     let start = b.start.0;
     let stints = b.stints;

@@ -75,7 +75,7 @@ fn board_over(p: Plan, rs: Releases, input: &[u8], list: &mut [u32]) -> Board
 pub fn board_read(plan: &[u8], input: &[u8], list: &mut [u32]) -> Board
     ensures exact { result ≡ board_reading plan.now input.now (length list.old) }
     ensures stored { list.new ≡ board_listed plan.now input.now list.old }
-    ensures kept { (plan.now ≡ plan.now) × (input.now ≡ input.now) }
+    ensures kept { (plan.exit.now ≡ plan.entry.now) × (input.exit.now ≡ input.entry.now) }
 {
     let reading = read(plan);
     let checked = reading.checked;

@@ -1,5 +1,5 @@
 -- Laws for loops over the strings of a plan that look for those like one: of the array of ten the first n count.
-use Rattle.base.proofs.Prelude.{ℕ, zero, suc, ◌+◌, ◌-◌, ◌≤◌, ◌<◌, ◌≡◌, sym, ap, ◌∙◌, true, false, List, arith, add-one, length, take, drop, get_or}
+use Rattle.base.proofs.Prelude.{ℕ, zero, suc, ◌+◌, ◌-◌, ◌≤◌, ◌<◌, ◌≡◌, sym, true, false, List, arith, add-one, length, take, drop, get_or}
 use Rattle.base.specs.Count.{count_of}
 use Rattle.base.proofs.FirstN.{part-cons, part_end}
 use Rattle.rules.specs.{declared.BatteryString.BatteryString, Plan.no_string}
@@ -33,7 +33,8 @@ module _ (s : BatteryString) (xs : List BatteryString) (n : ℕ) where
       let less : suc left - 1 ≡ left = omega arith in
       rw (part-cons n i xs no_string inside fits, less, add-one (i + 1)) (sym (places_from-next (alike s) (i + 1) left _ _ t))
 
-  pub left-past : (i left : ℕ) → i < n → n ≤ length xs → alike s (get_or xs i no_string) ≡ false → likes_left (i + 1) left ≡ likes_left i left
+  pub left-past : (i left : ℕ) → i < n → n ≤ length xs → alike s (get_or xs i no_string) ≡ false → likes_left (i + 1) left
+      ≡ likes_left i left
   left-past i left inside fits e =
       rw (part-cons n i xs no_string inside fits, add-one (i + 1)) (sym (places_from-skip (alike s) (i + 1) left _ _ e))
 

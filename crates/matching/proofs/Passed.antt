@@ -2,7 +2,7 @@
 -- without a partner is among those that are left.
 --     places_to xs ys i      the array where the first i strings are passed
 --     alone_from xs ys n i   the first without a partner among the n strings, those after the first i
-use Rattle.base.proofs.Prelude.{ℕ, zero, suc, ◌+◌, ◌-◌, ◌≤◌, ◌<◌, min, ◌≡◌, refl, sym, ap, ◌∙◌, true, false, List, [], ◌∷◌, ◌++◌, map, map-append, Option, none, some, arith, add-one, eq-eqb, ne_eqb, eqb, length, take, get_or, set, length-take, get_or-take}
+use Rattle.base.proofs.Prelude.{ℕ, zero, suc, ◌+◌, ◌-◌, ◌≤◌, ◌<◌, min, ◌≡◌, refl, sym, ap, ◌∙◌, List, [], ◌∷◌, ◌++◌, map, map-append, Option, none, some, arith, add-one, eq-eqb, ne_eqb, eqb, length, take, get_or, set, length-take, get_or-take}
 use mathlib.Core.Path.{ap₂}
 use lib.Seq.{take-take}
 use Rattle.base.specs.Count.{count_of, up_from, first_of, filled}

@@ -1,12 +1,11 @@
 -- What the answer says, exactly when: the same strings, with the smallest list of places, where there is another order; the first string
 -- that is too many of its kind; or the two numbers.
 --     Case xs ys            which of the three it is, and what is then said
-use Rattle.base.proofs.Prelude.{ℕ, zero, suc, ◌≡◌, refl, sym, ap, ◌∙◌, ◌↔◌, List, Option, none, some, arith, ℕ_discrete, eq-eqb, ne_eqb, eqb, length, take, take_at}
-use Rattle.base.specs.Count.{filled}
+use Rattle.base.proofs.Prelude.{ℕ, ◌≡◌, refl, sym, ap, ◌∙◌, ◌↔◌, List, Option, none, some, arith, ℕ_discrete, eq-eqb, ne_eqb, length, take_at}
 use Rattle.rules.specs.declared.BatteryString.{BatteryString}
 use Rattle.results.specs.{Places.{AnotherOrder, SmallestTo}, Partners.{partners, first_alone, LeftAlone}}
 use Rattle.results.proofs.{Bijection.{EachPartnered, partnered-permuted, another-of-permuted, permuted-of-another}, SmallestList.{partners-length, partners-smallest}, LeftAlone.{each-of-none, first-alone-exactly, alone-no-order}}
-use Rattle.matching.specs.Matched.{told_by, matched_of, MatchedSaid, same_at, alone_at, counts, matching_says, matched_says}
+use Rattle.matching.specs.Matched.{told_by, matched_of, same_at, alone_at, counts, matching_says, matched_says}
 
 -- ---- What is said in each case
 

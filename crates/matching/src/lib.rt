@@ -1,5 +1,7 @@
 // Whether two plans hold the same strings in another order, which string of the one is which of the other, and the line that says so. The
 // answer is for any two plans: N plays no part, and neither do bounds.
+#![tactic(auto)]
+
 mod likes;
 
 ghost use Rattle.std.specs.Prelude.{◌≡◌, ◌≤◌, length};

@@ -8,7 +8,7 @@
 --                  has more than 1,000 releases
 --     Text         what was written is the text of the same plan, with N raised, and of releases over which it misses
 -- But for Text, no byte of the page is another.
-use Rattle.base.proofs.Prelude.{ℕ, ◌-◌, ◌≤◌, ◌<◌, ◌≡◌, refl, sym, ap, ◌∙◌, subst, ◌⊎◌, inl, inr, ◌↔◌, true, false, List, arith, length, take, drop, length-append, length-replicate, length-take, take_all}
+use Rattle.base.proofs.Prelude.{ℕ, ◌-◌, ◌≤◌, ◌≡◌, refl, sym, ap, ◌∙◌, subst, ◌⊎◌, inl, inr, ◌↔◌, true, false, List, arith, length, take, drop, length-append, length-replicate, length-take, take_all}
 use Rattle.days.specs.{declared.Day.Day, declared.Length.Length}
 use Rattle.base.proofs.Lists.{by_bool}
 use Rattle.faults.specs.{declared.Fault.Fault, declared.Fault.TheVariants.NoRoom, Checks.fault_number}

@@ -1,4 +1,6 @@
 // The releases that make a plan miss a deadline, as the text of a plan in the caller's page.
+#![tactic(auto)]
+
 ghost use Rattle.std.specs.Prelude.{◌≡◌};
 ghost use Rattle.rules.specs.Layout.{version03};
 ghost use Rattle.writing.specs.Saved.{saved_answer, saved_page};
@@ -61,7 +63,7 @@ fn put(p: Plan, page: &mut [u8], at: usize) -> Missed
 pub fn miss(text: &[u8], page: &mut [u8], at: usize) -> Missed
     ensures exact { result ≡ missed_answer text.now page.old at }
     ensures page { page.new ≡ missed_page text.now page.old at }
-    ensures kept { text.now ≡ text.now }
+    ensures kept { text.exit.now ≡ text.entry.now }
 {
     let reading = reading::read(text);
     let checked = reading.checked;

@@ -1,5 +1,5 @@
 -- What is answered where the stints of a run are asked for, case by case.
-use Rattle.base.proofs.Prelude.{ℕ, ◌+◌, ◌*◌, ◌≤◌, ◌<◌, ◌≡◌, refl, ap, ◌∙◌, List, ◌++◌, arith, lt-ltb, le-ltb, length, take, drop, length-take}
+use Rattle.base.proofs.Prelude.{ℕ, ◌*◌, ◌≤◌, ◌<◌, ◌≡◌, List, ◌++◌, arith, lt-ltb, le-ltb, length, drop, length-take}
 use Rattle.faults.specs.{declared.Fault.Fault, declared.Fault.TheVariants.NoRoom, declared.Checked.TheVariants.{Lawful, Refused}}
 use Rattle.rules.specs.{declared.Plan.Plan, declared.Releases.Releases, Release.releases_of, Refusal.run_check, Stints.{run_stints, stints_numbers, stints_check, stints_answer, stints_listed}}
 use Rattle.rules.specs.declared.Stinted.TheVariants as stinted

@@ -2,13 +2,13 @@
 --     Booked us list₀ list b    the book b and the list, which was list₀, have the stints of the uses us: those before the last stand in
 --                               the list, if it has room for them, and the last, if there is one, is the book's current one
 --     Told us list₀ list k      there are k stints, and the list has them all, if it has room for them
-use Rattle.base.proofs.Prelude.{ℕ, zero, suc, ◌+◌, ◌*◌, ◌≤◌, ◌<◌, ◌≡◌, refl, sym, ap, ◌∙◌, subst, ◌⊎◌, inl, inr, Bool, true, false, cond, ◌&&◌, List, [], ◌∷◌, ◌++◌, append_assoc, append-nil, arith, add-one, eq-eqb, ne_eqb, leb-true, le-leb, lt-leb, eqb, leb, length, take, drop, set, replicate, length-append, length-replicate, length-drop, take_at, drop-drop, drop_at, length-take}
+use Rattle.base.proofs.Prelude.{ℕ, suc, ◌+◌, ◌*◌, ◌≤◌, ◌<◌, ◌≡◌, refl, sym, ap, ◌∙◌, subst, ◌⊎◌, inl, inr, true, false, ◌&&◌, List, [], ◌∷◌, ◌++◌, append_assoc, arith, eq-eqb, ne_eqb, leb-true, le-leb, lt-leb, eqb, leb, length, take, drop, set, replicate, length-append, length-replicate, length-drop, take_at, drop-drop, drop_at, length-take}
 use mathlib.Core.List.{flat_map}
 use lib.Seq.{sets-eq}
-use Rattle.days.specs.Days.{day, days}
+use Rattle.days.specs.Days.{day}
 use Rattle.rules.specs.{declared.Plan.Plan, declared.Release.Release, declared.Use.Use, declared.Use.TheVariants.{Idle, Work, Move}, declared.Stint.Stint, Run.{late_on, history}, Stints.{same_use, stint, stints_from, days_run, run_stints, kind_of, place_used, release_used, stint_numbers, stints_numbers}}
 use Rattle.base.specs.Count.{put_at}
-use Rattle.base.proofs.Lists.{by_bool, and_left, and_right}
+use Rattle.base.proofs.Lists.{by_bool}
 use Rattle.laws.proofs.History.{miss_day-is, miss_day-none}
 use Rattle.stretch.proofs.Few.{few-stints}
 use Rattle.stretch.proofs.StintJoin.{same_use-is, stints-one, stints-longer, stints-more}

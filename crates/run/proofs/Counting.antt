@@ -1,7 +1,7 @@
 -- The tally of a run's days: a stretch more adds its days to the kind of their use, and no kind has more days than have passed.
-use Rattle.base.proofs.Prelude.{ℕ, zero, suc, ◌+◌, ◌≤◌, ◌≡◌, refl, sym, ap, ◌∙◌, Bool, cond, List, [], ◌∷◌, ◌++◌, arith, replicate}
+use Rattle.base.proofs.Prelude.{ℕ, zero, suc, ◌+◌, ◌≤◌, ◌≡◌, refl, sym, ap, ◌∙◌, Bool, cond, List, ◌++◌, arith, replicate}
 use Rattle.days.specs.Days.{days}
-use Rattle.rules.specs.{declared.Plan.Plan, declared.Release.Release, declared.Use.Use, declared.Use.TheVariants.{Idle, Work, Move}, declared.Outcome.TheVariants.Clean, Run.{use_on, history, is_work, is_move, is_idle, late_on, days_of, run_of}}
+use Rattle.rules.specs.{declared.Plan.Plan, declared.Release.Release, declared.Use.Use, declared.Use.TheVariants.{Idle, Work, Move}, declared.Outcome.TheVariants.Clean, Run.{history, is_work, is_move, is_idle, late_on, days_of, run_of}}
 use Rattle.base.specs.Count.{count_of}
 use Rattle.base.proofs.{Counts.{count_of-append, count_of-le}, Lists.by_bool}
 use Rattle.laws.proofs.History.{history-length, miss_day-none, run_of-clean}
@@ -45,7 +45,12 @@ module _ (p : Plan) (rs : List Release) where
 
       added : (w m i : ℕ) (u : Use)
           → added_to (record { work = days w; moving = days m; idle = days i }) u k
-          ≡ record { work = days (w + cond (is_work u) k 0); moving = days (m + cond (is_move u) k 0); idle = days (i + cond (is_idle u) k 0) }
+          ≡ record {
+            work = days (w + cond (is_work u) k 0);
+            moving = days (m + cond (is_move u) k 0);
+            idle =
+                days (i + cond (is_idle u) k 0);
+          }
       added w m i Idle =
           let sw : w ≡ w + 0 = omega arith in
           let sm : m ≡ m + 0 = omega arith in

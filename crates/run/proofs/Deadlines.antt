@@ -1,8 +1,8 @@
 -- The deadline that comes first of those after a day, of jobs with something left: nobody's lies before it.
-use Rattle.base.proofs.Prelude.{ℕ, suc, ◌-◌, ◌≤◌, ◌<◌, ◌≡◌, sym, ap, ◌∙◌, inl, inr, true, ◌&&◌, List, arith, dec_le, ltb-true, ltb-false, lt-ltb, ltb, length, get_or-eq_default}
+use Rattle.base.proofs.Prelude.{ℕ, suc, ◌≤◌, ◌<◌, ◌≡◌, sym, ap, ◌∙◌, inl, inr, true, List, arith, dec_le, ltb-true, ltb-false, lt-ltb, ltb, length, get_or-eq_default}
 use Rattle.days.specs.declared.Day.{Day}
 use Rattle.rules.specs.{declared.Slot.Slot, Run.{left, no_slot, slot_at, due_before}}
-use Rattle.base.proofs.Lists.{true-not-false, and_left, and_right, and_both}
+use Rattle.base.proofs.Lists.{true-not-false, and_left, and_both}
 use Rattle.laws.proofs.{Slots.{at, slot_at-suc}, Choice.{Choice}}
 use Rattle.slots.specs.{declared.Question.TheVariants.Due, inner.Question.{ok_of, chosen_for}}
 use Rattle.slots.proofs.Questions.{due-choice}

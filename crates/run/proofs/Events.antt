@@ -9,7 +9,7 @@
 use Rattle.base.proofs.Prelude.{ℕ, suc, ◌+◌, ◌-◌, ◌≤◌, ◌<◌, ◌≡◌, sym, ap, ◌∙◌, List, map, arith, dec_le, ℕ_discrete, le_refl, length, get_or, take, drop, set, length-drop, get_or-drop}
 use lib.Seq.{take-set-lt}
 use Rattle.days.specs.Days.{days}
-use Rattle.rules.specs.{declared.Plan.Plan, declared.Release.Release, declared.Slot.Slot, Plan.strings_of, Release.no_release, Run.{empty_slot, late_at, new_slot, join_from, joined, taken, given, use_of, spent, morning, state_at, use_on, late_on}}
+use Rattle.rules.specs.{declared.Plan.Plan, declared.Release.Release, declared.Slot.Slot, Plan.strings_of, Release.no_release, Run.{empty_slot, late_at, new_slot, join_from, joined, taken, given, use_of, morning, state_at, use_on, late_on}}
 use Rattle.stretch.specs.Stretch.{day_at, days_off, morning_on, Stretch}
 use Rattle.stretch.proofs.{JoinList.{join_from-none, join_from-drop, join_from-here}, QuietDay.{state_at-old, taken-quiet}, Stretches.{stretch-state, stretch-late, stretch-history}}
 use Rattle.run.specs.{declared.day.Evening.Evening, declared.tally.Tally.Tally, inner.Tally.{added_to, tally_of}, inner.Day.EndedBy}

@@ -1,5 +1,5 @@
 -- How long a day lies after another, and the shorter of two lengths.
-use Rattle.base.proofs.Prelude.{ℕ, ◌-◌, ◌≤◌, ◌<◌, min, max, ◌≡◌, refl, sym, ap, ◌∙◌, arith, dec_le, le-leb, lt-leb}
+use Rattle.base.proofs.Prelude.{◌-◌, ◌≡◌, ap, arith, dec_le, le-leb, lt-leb}
 use Rattle.days.specs.{declared.Day.Day, declared.Length.Length, declared.Gap.TheVariants.{Of, Backwards}, Days.{days, gap_of}}
 
 pub gap-of : (t s : Day) (n : Length) → gap_of t s ≡ Of n → n ≡ days (t.0 - s.0)

@@ -1,7 +1,7 @@
 -- What holds of every slot at the start of every day: the moving that is left is at most 1,000 days for each day passed, and what its job
 -- would pay is at most 1,000, so that paying always fits; and the release that it serves is one of the list, so that its number does.
-use Rattle.base.proofs.Prelude.{ℕ, zero, suc, ◌+◌, ◌-◌, ◌*◌, ◌^◌, ◌≤◌, ◌<◌, ◌≡◌, refl, sym, ap, ◌∙◌, subst, inl, inr, List, arith, ℕ_discrete, ltb, length, get_or, take, length-set, length-take}
-use Rattle.rules.specs.{declared.Plan.Plan, declared.Release.Release, declared.Job.Job, declared.Job.TheVariants.{Empty, Waiting, OnBank}, declared.Slot.Slot, declared.Use.Use, Plan.{strings_of, no_string}, Demand.moving_cost, Run.{empty_slot, no_slot, slot_at, new_slot, joined, holder, payer, stopped, charged, stop, taken, seated, given, use_of, used_for, spent_job, spent, morning, state_at, use_on}, Stints.{place_used, release_used}}
+use Rattle.base.proofs.Prelude.{ℕ, zero, suc, ◌+◌, ◌-◌, ◌*◌, ◌^◌, ◌≤◌, ◌<◌, ◌≡◌, sym, ap, ◌∙◌, subst, List, arith, ℕ_discrete, ltb, length, take, length-set, length-take}
+use Rattle.rules.specs.{declared.Plan.Plan, declared.Release.Release, declared.Job.Job, declared.Job.TheVariants.{Empty, Waiting, OnBank}, declared.Slot.Slot, Plan.{strings_of, no_string}, Demand.moving_cost, Run.{empty_slot, no_slot, slot_at, new_slot, joined, holder, payer, stopped, stop, taken, given, use_of, used_for, morning, state_at, use_on}, Stints.{place_used, release_used}}
 use Rattle.base.proofs.{Lists.{All, all-at, all_map, all_get_d, by_bool}, Order.{all_of, all-mapped}}
 use Rattle.laws.proofs.{Lawful.{LawfulPlan, PlanString, plan-strings, no_string-cost}, JobParts.{moving_of, stopped-parts, seated-parts, charged-moving, spent-moving}, Slots.{new_slot-string, new_slot-job, new_slot-serves, slot_at-take, change-take}, Steps.{use_of-free, use_of-held, holder-le, payer-le}}
 use Rattle.stretch.specs.Stretch.{morning_on}

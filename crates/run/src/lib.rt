@@ -1,5 +1,7 @@
 // The run: what the bank does under a plan and a list of releases, how the run ends, and its stints. Its days are those of the page, one by
 // one; the code goes from event to event.
+#![tactic(auto)]
+
 mod change; // change.rt: slots with one job made another
 mod release; // release.rt: step 2
 mod day; // day.rt: steps 3 to 5

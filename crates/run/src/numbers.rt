@@ -23,7 +23,7 @@ fn use_in(kind: u32, place: u32, release: u32) -> Use
 // The stint with index k, from 0, of a list with five numbers for each; one of no days where the list does not reach it.
 pub fn stint_at(numbers: &[u32], k: usize) -> Stint
     ensures exact { result ≡ stint_at numbers.now k }
-    ensures kept { numbers.now ≡ numbers.now }
+    ensures kept { numbers.exit.now ≡ numbers.entry.now }
 {
     if numbers.len() / 5 <= k {
         return Stint {

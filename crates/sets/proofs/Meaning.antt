@@ -2,7 +2,7 @@
 --     fewest takers         stands at exactly the set that the search finds
 --     misses                stands only where a list of releases that is lawful for the plan with the set misses a deadline
 --     never misses          stands only where none does, whatever N
-use Rattle.base.proofs.Prelude.{ℕ, ◌≡◌, refl, sym, ap, ◌∙◌, ◌⊎◌, inl, inr, ◌↔◌, true, false, arith, eqb, eq-eqb, eqb-true}
+use Rattle.base.proofs.Prelude.{ℕ, ◌≡◌, refl, ap, ◌∙◌, ◌⊎◌, inl, inr, ◌↔◌, true, arith, eqb, eq-eqb, eqb-true}
 use Rattle.base.proofs.Lists.{by_bool}
 use Rattle.days.specs.declared.Length.{Length}
 use Rattle.rules.specs.{declared.Plan.Plan, declared.Releases.Releases, declared.Assign.Assign, declared.Assign.TheVariants.{Takers, Nobody}, declared.Verdict.Verdict, Verdict.is_pass, Search.{with_set, set_passes, search_of}}

@@ -1,6 +1,6 @@
 -- The search's order by number: how many sets there are, and which is the k-th, as a walk over all numbers meets them.
 --     sets_left n k m        the sets with k ones from the number m on, and then those with more, in the search's order
-use Rattle.base.proofs.Prelude.{ℕ, zero, suc, ◌+◌, ◌-◌, ◌^◌, ◌≤◌, ◌<◌, ◌≡◌, refl, sym, ap, ◌∙◌, Bool, true, false, cond, List, [], ◌∷◌, ◌++◌, arith, add-one, eq-eqb, ne_eqb, eqb-true, eqb-false, fun_ext, ones, eqb, length, length-append, get_or}
+use Rattle.base.proofs.Prelude.{ℕ, zero, suc, ◌+◌, ◌-◌, ◌^◌, ◌≤◌, ◌<◌, ◌≡◌, refl, ap, ◌∙◌, Bool, cond, List, [], ◌∷◌, ◌++◌, arith, add-one, eq-eqb, ne_eqb, eqb-true, eqb-false, fun_ext, ones, eqb, length, length-append, get_or}
 use mathlib.Core.List.{flat_map}
 use lib.Count.{ones-le}
 use Rattle.base.specs.Count.{up_from, keep, count_of, sum_of, All}

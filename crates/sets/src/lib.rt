@@ -1,5 +1,7 @@
 // The permission sets of a plan, line by line in the order of the search: number, places, verdict, and what is known beyond it. No caller
 // is trusted to have checked anything: a refused plan gives the refusal's line, and a place at which no set stands an empty page.
+#![tactic(auto)]
+
 ghost use Rattle.std.specs.Prelude.{◌^◌, ◌≤◌, ◌<◌, ◌≡◌, cond, eqb, length, get_or};
 ghost use Rattle.std.specs.Int.Count.{ones as ones_of};
 ghost use Rattle.rules.specs.Search.{ordered};

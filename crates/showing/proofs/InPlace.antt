@@ -36,7 +36,8 @@ module _ (p : Plan) (i : ℕ) where
       get_or-append holds (replicate (10 - length holds) 0) 0 i (omega arith) ∙ get_or-map (hold_of p) (strings_of p) i no_string
 
 pub string-there : (p : Plan) (i : ℕ) → p.n ≤ length p.strings → 1 ≤ i → i ≤ p.n
-    → string_line i (get_or p.strings (i - 1) no_string) (get_or (holds_of p) (i - 1) 0) ≡ in_place (string_words p) no_string (strings_of p) i
+    → string_line i (get_or p.strings (i - 1) no_string) (get_or (holds_of p) (i - 1) 0)
+    ≡ in_place (string_words p) no_string (strings_of p) i
 string-there p i room low high =
     let here = length-take-le p.n p.strings room in
     let string = get_or-take p.n p.strings (i - 1) no_string (omega arith) in

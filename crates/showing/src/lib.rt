@@ -1,5 +1,7 @@
 // A plan shown in decimal words, line by line: the plan, each string with its E, H and the load, each release. No caller is trusted to
 // have checked anything: a refused plan gives the refusal's line, and a place at which nothing stands an empty page.
+#![tactic(auto)]
+
 ghost use Rattle.std.specs.Prelude.{◌≡◌, ◌≤◌, length};
 ghost use Rattle.faults.specs.declared.Checked.TheVariants.{Lawful};
 ghost use Rattle.rules.specs.Plan.{strings_of, no_string};

@@ -1,8 +1,8 @@
 -- The first of a list that passes a test, by place: found by halving where all behind one that passes pass too.
 --     Upward f xs           all behind one that passes pass too
 --     Between f xs low high the places below low fail and those from high on pass
-use Rattle.base.proofs.Prelude.{ℕ, zero, suc, ◌+◌, ◌≤◌, ◌<◌, ◌≡◌, refl, sym, ap, ◌∙◌, Bool, true, false, List, [], ◌∷◌, some, none, arith, dec_le, length, get_or}
-use Rattle.base.specs.Count.{All, first_of}
+use Rattle.base.proofs.Prelude.{ℕ, zero, suc, ◌+◌, ◌≤◌, ◌<◌, ◌≡◌, sym, ◌∙◌, Bool, true, false, List, [], ◌∷◌, some, none, arith, length, get_or}
+use Rattle.base.specs.Count.{first_of}
 use Rattle.base.proofs.{Lists.{all-by, all-at, by_bool, true-not-false}, FirstOf.{first_of-here, first_of-later, first_of-none}, Order.Rising}
 
 module _ (f : ℕ → Bool) where

@@ -1,11 +1,9 @@
 -- Easing never hurts (document 02, W-212) of one number: with which values a plan is lawful and passes.
-use Rattle.base.proofs.Prelude.{ℕ, zero, suc, ◌-◌, ◌≤◌, ◌<◌, ◌≡◌, refl, sym, ap, ◌∙◌, Bool, true, false, List, [], ◌∷◌, arith, le_refl, eqb-true, length, get_or, take, set, length-set, length-take-le, get_or-take, get_or-set_same}
-use Rattle.base.specs.Count.{All}
-use Rattle.base.proofs.Lists.{by_bool, true-not-false, all-at}
-use Rattle.days.specs.Days.{days}
+use Rattle.base.proofs.Prelude.{ℕ, zero, suc, ◌-◌, ◌≤◌, ◌<◌, ◌≡◌, refl, sym, ap, ◌∙◌, true, List, [], ◌∷◌, arith, le_refl, eqb-true, length, get_or, take, set, length-set, length-take-le, get_or-take, get_or-set_same}
+use Rattle.base.proofs.Lists.{true-not-false, all-at}
 use Rattle.faults.specs.{declared.Checked.Checked, declared.Checked.TheVariants.{Lawful, Refused}}
-use Rattle.rules.specs.{declared.BatteryString.BatteryString, declared.Plan.Plan, declared.Verdict.Verdict, declared.AskedVerdict.AskedVerdict, Plan.{strings_of, no_string}, Demand.Passes, Verdict.{verdict_of, is_pass}, Refusal.{plan_check, on_verdict, verdict_answer}}
-use Rattle.laws.proofs.{Lawful.{LawfulString, LawfulPlan, plan_check-lawful}}
+use Rattle.rules.specs.{declared.BatteryString.BatteryString, declared.Plan.Plan, declared.Verdict.Verdict, declared.AskedVerdict.AskedVerdict, Plan.{strings_of, no_string}, Verdict.{verdict_of, is_pass}, Refusal.{plan_check, on_verdict, verdict_answer}}
+use Rattle.laws.proofs.{Lawful.{LawfulString, plan_check-lawful}}
 use Rattle.demand.specs.Quick.{apart_from_pairs, asked_apart, quick_answer}
 use Rattle.demand.proofs.{Verdict.pass-exactly, Agreeing.quick-answer-agrees}
 use Rattle.results.specs.Easing.{Eased, EasedPlan}

@@ -24,7 +24,8 @@ module _ (p : Plan) (i : ℕ) where
       ∙ sym (in_place-there (limit_words p) no_string (strings_of p) i low (omega arith))
 
 -- for a lawful plan the lines that are asked for by place, behind the verdict's, are the whole text
-pub slack-whole : (p : Plan) → plan_check p ≡ Lawful → verdict_line (verdict_of p) ++ flat_map (limits_shown p) (up_from 1 p.n) ≡ slack_text p
+pub slack-whole : (p : Plan) → plan_check p ≡ Lawful → verdict_line (verdict_of p) ++ flat_map (limits_shown p) (up_from 1 p.n)
+    ≡ slack_text p
 unfolding limits_shown slack_text
 slack-whole p lawful =
     let strings : flat_map (limits_shown p) (up_from 1 p.n) ≡ in_order (limit_words p) 1 (strings_of p) =

@@ -5,7 +5,7 @@ use Rattle.base.proofs.FirstOf.{first_of-passes, first_of-keep}
 use Rattle.faults.specs.{declared.Fault.Fault, declared.Checked.TheVariants.{Lawful, Refused}}
 use Rattle.faults.proofs.Checks.{in_bounds-yes, in_bounds-not}
 use Rattle.rules.specs.{declared.Plan.Plan, Refusal.plan_check}
-use Rattle.lines.specs.declared.limits.Limit.TheVariants.{Nothing, At}
+use Rattle.lines.specs.declared.limits.Limit.TheVariants.{Nothing}
 use Rattle.slack.specs.{declared.Letter.Letter, Slack.{hardest_first, passes_with, limit_from, limit_of, limit_answer}, inner.Values.{lawful_with, lawful_values}}
 use Rattle.slack.proofs.Easier.{with-lawful, passes-rule}
 use Rattle.slack.specs.declared.AskedLimit.TheVariants as asked-limit

@@ -1,8 +1,8 @@
 -- What a limit says to a planner: with it the plan passes, beyond it with no lawful value, and between it and the easy end with each, where
 -- easing never hurts.
-use Rattle.base.proofs.Prelude.{ℕ, ◌+◌, ◌-◌, ◌≤◌, ◌<◌, ◌≡◌, refl, sym, ap, ◌∙◌, true, false, Option, none, some, inl, inr, ◌⊎◌, ⊎_elim, map, arith, length}
+use Rattle.base.proofs.Prelude.{ℕ, ◌-◌, ◌≤◌, ◌<◌, ◌≡◌, refl, sym, ap, ◌∙◌, true, false, Option, none, some, ◌⊎◌, ⊎_elim, arith, length}
 use Rattle.base.specs.Count.{All, up_from, first_of}
-use Rattle.base.proofs.{Lists.{by_bool, true-not-false}, FirstOf.{first_of-none, first_of-passes, first_of-least}, Order.{each-of-mapped, each-of-up_from}}
+use Rattle.base.proofs.{Lists.{true-not-false}, FirstOf.{first_of-none, first_of-passes, first_of-least}, Order.{each-of-mapped, each-of-up_from}}
 use Rattle.rules.specs.declared.Plan.{Plan}
 use Rattle.lines.specs.declared.limits.Limit.TheVariants.{Nothing, At}
 use Rattle.slack.specs.{declared.Letter.Letter, Slack.{value_at, hardest_first, passes_with, limit_from, limit_of}, Beyond.{Harder, LawfulWith, RuleWith, IsLimit, NoLimit}}

@@ -1,5 +1,5 @@
 -- With which values a plan is lawful: where the changed string is within its bounds, and for T where H is too. No other number moves H.
-use Rattle.base.proofs.Prelude.{ℕ, zero, suc, ◌-◌, ◌%◌, ◌≤◌, ◌<◌, ◌≡◌, refl, sym, ap, ◌∙◌, fun_ext, Bool, true, false, cond, List, [], ◌∷◌, arith, eqb, ltb, get_or, take, set, get_or-take}
+use Rattle.base.proofs.Prelude.{ℕ, zero, suc, ◌-◌, ◌%◌, ◌≡◌, refl, sym, ap, ◌∙◌, fun_ext, Bool, true, false, cond, List, [], ◌∷◌, arith, eqb, ltb, get_or, set, get_or-take}
 use lib.Seq.{take-set-lt}
 use Rattle.base.specs.Count.{every, least_from}
 use Rattle.base.proofs.Lists.{by_bool, true-not-false}

@@ -1,9 +1,9 @@
 -- Among the lawful values of a number all behind one with which the plan passes do, where easing never hurts; so that halving finds the
 -- limit. Where it may, the first found by trying one after the other is the limit.
 --     TriedTo p i x list at   with none of the values before place `at` does the plan pass
-use Rattle.base.proofs.Prelude.{ℕ, ◌+◌, ◌-◌, ◌≤◌, ◌<◌, ◌≡◌, refl, sym, ap, ◌∙◌, Bool, true, false, List, arith, dec_le, ℕ_discrete, length, get_or, take, length-take-le, get_or-take}
-use Rattle.base.specs.Count.{All, up_from, keep, first_of}
-use Rattle.base.proofs.{Lists.{all-at, all_map}, Order.{Rising, rising-mapped, rising-within, rising-up_from, rising-keep, all-up_from, all_keep, all_of}}
+use Rattle.base.proofs.Prelude.{ℕ, ◌+◌, ◌-◌, ◌≤◌, ◌<◌, ◌≡◌, sym, ap, ◌∙◌, Bool, true, false, List, arith, ℕ_discrete, length, get_or, take, length-take-le, get_or-take}
+use Rattle.base.specs.Count.{All, up_from, first_of}
+use Rattle.base.proofs.{Lists.{all-at}, Order.{Rising, rising-mapped, rising-within, rising-up_from, rising-keep, all-up_from, all_keep, all_of}}
 use Rattle.rules.specs.{declared.Plan.Plan, Plan.no_string}
 use Rattle.lines.specs.declared.limits.Limit.TheVariants.{Nothing, At}
 use Rattle.slack.specs.{declared.Letter.Letter, Slack.{value_at, hardest_first, passes_with, limit_from}, Beyond.{Harder, gapless}, inner.Values.{lawful_with, lawful_values, HoldsValues}}

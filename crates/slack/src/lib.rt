@@ -1,5 +1,7 @@
 // How far a plan can be changed: of each number of a string, all else as it is, the hardest lawful value with which the plan passes. No
 // caller is trusted to have checked anything: a refused plan gives the refusal.
+#![tactic(auto)]
+
 mod changing;
 mod halving;
 mod shown;

@@ -1,5 +1,7 @@
 // The slots of a run: which of them answers a question, and what a step of a day makes of a job.
 // Nothing is asked of a caller: each function answers for all inputs. Of the ten slots of an array the first n count.
+#![tactic(auto)]
+
 mod choice; // choice.rt: the place that answers a question
 mod job; // job.rt: a job alone
 mod passing; // passing.rt: a slot under a question

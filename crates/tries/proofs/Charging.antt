@@ -1,6 +1,6 @@
 -- Which strings can be charged, place by place, as the code asks it.
 use Rattle.base.proofs.Prelude.{ℕ, zero, suc, ◌+◌, ◌-◌, ◌≤◌, ◌<◌, ◌≡◌, refl, sym, ap, ◌∙◌, Bool, List, true, false, ◌&&◌, [], ◌∷◌, arith, eq-eqb, ne_eqb, leb, add-one, length, length-take, drop, drop-cons, drop_of_length-le, get_or, get_or-take, get_or-eq_default}
-use Rattle.base.specs.Count.{any, up_from}
+use Rattle.base.specs.Count.{any}
 use Rattle.rules.specs.{declared.BatteryString.BatteryString, declared.Plan.Plan, Plan.{strings_of, string_at, no_string}, Demand.hold_of}
 use Rattle.verdict.specs.inner.Asked.{Ready}
 use Rattle.verdict.proofs.StringSums.{strings-count}

@@ -6,7 +6,8 @@ use Rattle.base.specs.Count.{up_from, first_of}
 use Rattle.base.proofs.FirstOf.{first_of-end, first_of-here, first_of-later, first_of-front, first_of-rest}
 use Rattle.rules.specs.declared.Plan.{Plan}
 use Rattle.tries.specs.{declared.search.Tried.Tried, declared.search.Tried.TheVariants.{NoneMisses, Misses}, declared.breaks.FirstBreak.FirstBreak, declared.breaks.FirstBreak.TheVariants.{Unbroken, Breaks}, Tries.{Break, Try, by_interval, misses_on}, inner.Openings.{Finds, Points}}
-use Rattle.tries.proofs.{search.Tried.the_type, Places.{after, after_next, after-end}}
+use Rattle.tries.specs.contracts.search.Tried.{the_type}
+use Rattle.tries.proofs.Places.{after, after_next, after-end}
 use Rattle.tries.specs.contracts.breaks.FirstBreak as break-of
 use types.Run.{OneOf, miss}
 
@@ -51,7 +52,8 @@ module _ {A : Type 0} (f : A → Bool) where
     pub row-found : i < n → (x : A) → first_of f (row (i + 1)) ≡ some x → first_of f (flat_map row (after i n)) ≡ some x
     row-found h x is = into-row h ∙ first_of-front f (row (i + 1)) (flat_map row (after (i + 1) n)) x is
 
-    pub row-later : i < n → first_of f (row (i + 1)) ≡ none → first_of f (flat_map row (after i n)) ≡ first_of f (flat_map row (after (i + 1) n))
+    pub row-later : i < n → first_of f (row (i + 1)) ≡ none → first_of f (flat_map row (after i n))
+        ≡ first_of f (flat_map row (after (i + 1) n))
     row-later h e = into-row h ∙ first_of-rest f (row (i + 1)) (flat_map row (after (i + 1) n)) e
 
     pub row-end : n ≤ i → first_of f (flat_map row (after i n)) ≡ none
@@ -81,7 +83,8 @@ points-as t a b e h = subst (Points t) e h
 pub points_none : (t : FirstBreak) (a : Option Break) → t ≡ Unbroken → Points t a → a ≡ none
 points_none t a e h = subst (λ u. Points u a) e h
 
-pub points-row : (f : Break → Bool) (row : ℕ → List Break) (i n : ℕ) → i < n → (t : FirstBreak) → OneOf (1 ∷ []) (tag_of break-of.the_type t)
+pub points-row : (f : Break → Bool) (row : ℕ → List Break) (i n : ℕ) → i < n → (t : FirstBreak)
+    → OneOf (1 ∷ []) (tag_of break-of.the_type t)
     → Points t (first_of f (row (i + 1))) → Points t (first_of f (flat_map row (after i n)))
 points-row f row i n h Unbroken found is = absurd (miss (1 ∷ []) 0 tt found)
 points-row f row i n h (Breaks l b q) found is = row-found f row i n h _ is

@@ -1,5 +1,5 @@
 -- What the first break of the sharp rule means: where there is one the rule breaks at it; where there is none it holds.
-use Rattle.base.proofs.Prelude.{ℕ, ◌+◌, ◌-◌, ◌*◌, ◌≤◌, ◌<◌, ◌≡◌, refl, sym, ap, ◌∙◌, true, false, cond, Option, none, some, arith, dec_le, ℕ_discrete, eq-eqb, ne_eqb, ltb-true, lt-ltb, le-ltb, eqb, ltb, length, zero-le}
+use Rattle.base.proofs.Prelude.{ℕ, ◌+◌, ◌-◌, ◌*◌, ◌≤◌, ◌<◌, ◌≡◌, refl, sym, ◌∙◌, true, false, cond, Option, none, some, arith, dec_le, ℕ_discrete, eq-eqb, ne_eqb, ltb-true, lt-ltb, le-ltb, eqb, ltb, length, zero-le}
 use Rattle.base.specs.Count.{All, first_of, up_from, largest}
 use Rattle.base.proofs.{Lists.{by_bool, all-at, sum_of-le, largest-ge, and_left, and_right, and_both, true-not-false}, Order.{all-flat, all-mapped, all-up_from, each-of-flat, each-of-mapped, each-of-up_from}, FirstOf.{first_of-none, first_of-passes, first_of-in}}
 use Rattle.rules.specs.{declared.BatteryString.BatteryString, declared.Plan.Plan, Plan.{strings_of, string_at, no_string, multiple_of}, Demand.{hold_of, jobs, need, blocker_hold}}

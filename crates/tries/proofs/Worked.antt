@@ -56,7 +56,8 @@ unfolding
     pairs_at all_pairs broken compared judged verdict_over is_pass
     permit with_set
     too_close out_of_order release_lawful unlawful_from first_unlawful
-    chosen late_at new_slot join_from joined holder payer taken next_up given use_of spent morning state_at use_on late_on history days_of miss_day
+    chosen late_at new_slot join_from joined holder payer taken next_up given use_of spent morning state_at use_on late_on history days_of
+    miss_day
     run_of
     count_check run_length_check strings_check multiple_check plan_check releases_check run_check run_answer
     need_but demand_but most_late blocker_release delay_of due_coming comes_in comes_first releases_in others_in

@@ -1,5 +1,7 @@
 // Whether a plan that does not pass can miss a deadline: that it cannot, where the payable plan passes sharply; else releases over which it
 // does, the theorem's list where the sharp rule with free moving breaks, and lists in which a taker pays.
+#![tactic(auto)]
+
 mod asking;
 mod breaks;
 mod free;

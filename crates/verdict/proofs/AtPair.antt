@@ -1,5 +1,5 @@
 -- A pair at which the rule breaks: when it does, and that the plan does not pass then.
-use Rattle.base.proofs.Prelude.{ℕ, ◌≤◌, ◌<◌, ◌≡◌, refl, sym, ap, ◌∙◌, Bool, true, false, ◌&&◌, arith, leb, ltb, leb-true, ltb-true, le-leb, lt-leb}
+use Rattle.base.proofs.Prelude.{ℕ, ◌≤◌, ◌<◌, ◌≡◌, sym, true, false, ◌&&◌, arith, leb, ltb, leb-true, ltb-true, le-leb, lt-leb}
 use Rattle.base.proofs.Lists.{by_bool, true-not-false, and_left, and_right}
 use Rattle.faults.specs.{declared.Fault.Fault, declared.Checked.TheVariants.{Lawful, Refused}, Checks.in_bounds}
 use Rattle.faults.proofs.Checks.{or_refused-lawful, in_bounds-low, in_bounds-yes, in_bounds-not}

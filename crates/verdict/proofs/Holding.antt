@@ -1,6 +1,6 @@
 -- E by place, string after string: the array holds E of the strings passed, and zeros behind them.
 --     holds_to p i           the same where the first i strings are passed
-use Rattle.base.proofs.Prelude.{ℕ, ◌+◌, ◌≤◌, ◌<◌, ◌≡◌, sym, ap, ◌∙◌, List, [], ◌∷◌, ◌++◌, map, map-append, arith, add-one, length, take, get_or, set, length-map, length-take, take-suc, take_all, length-take-le, get_or-take}
+use Rattle.base.proofs.Prelude.{ℕ, ◌+◌, ◌≤◌, ◌<◌, ◌≡◌, sym, ap, ◌∙◌, List, [], ◌∷◌, map, map-append, arith, add-one, length, take, get_or, set, length-map, length-take, take-suc, take_all, length-take-le, get_or-take}
 use Rattle.base.specs.Count.{filled}
 use Rattle.base.proofs.Filling.{filled-set}
 use Rattle.rules.specs.{declared.Plan.Plan, Plan.{strings_of, no_string}, Demand.hold_of, Figures.holds_of}

@@ -48,7 +48,8 @@ pub record Next (p : Plan) (l left b : ℕ) : Type 0 where
 
 -- the code's next blocking is the next to look at
 pub next-looked :
-    (p : Plan) (ok : LawfulPlan p) (l more left m b : ℕ) → 1 ≤ l → more + asked_by p 0 (l - 1) ≡ asked_by p 0 l → left ≤ l + 1 → Mark p left m
+    (p : Plan) (ok : LawfulPlan p) (l more left m b : ℕ) → 1 ≤ l → more + asked_by p 0 (l - 1) ≡ asked_by p 0 l → left ≤ l + 1
+    → Mark p left m
     → b ≡ l + 1 - cond (ltb 0 more) left m → Next p l left b
 next-looked p ok l more left m b pos kept within mark e =
     elim (dec_le 1 more) [

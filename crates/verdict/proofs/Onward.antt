@@ -5,8 +5,8 @@ use Rattle.days.specs.Days.{days}
 use Rattle.rules.specs.{declared.BatteryString.BatteryString, declared.Plan.Plan, declared.Verdict.Verdict, declared.Verdict.TheVariants.{Overload, Fail, Pass}, Plan.{strings_of, no_string, leeway, leeway_min, d_max}, Demand.{jobs, block_limit, demand}, Verdict.Pair}
 use Rattle.rules.specs.contracts.Verdict.{the_type}
 use Rattle.base.specs.Count.{keep, smallest_with}
-use Rattle.base.proofs.Lists.{all_map, all-at, any_at, largest-ge, largest-some, smallest_with-some, smallest-above, smallest-le}
-use Rattle.laws.proofs.{Jobs.{jobs-short, jobs-first}, Lawful.{LawfulString, LawfulPlan}, Demand.block_limit-late}
+use Rattle.base.proofs.Lists.{all_map, all-at, any_at, largest-ge, smallest_with-some, smallest-above, smallest-le}
+use Rattle.laws.proofs.{Lawful.{LawfulString, LawfulPlan}, Demand.block_limit-late}
 use Rattle.demand.proofs.Pairs.{pair, row_from, rows, rows_end, scan_from, scan_from-end}
 use Rattle.demand.specs.Quick.{count_at, grows}
 use Rattle.demand.proofs.Counts.{count_at-taker, count_at-keeper}
@@ -98,7 +98,8 @@ pub record Onto (p : Plan) (l end m : ℕ) (next : List ℕ) : Type 0 where
   pub looked : m < end → grows p (pair m 0) ≡ true
 
 pub onto-soonest :
-    (p : Plan) (ready : Ready p) (l end m : ℕ) (next : List ℕ) → l < end → m ≡ smallest_with (step_after l) end (strings_of p) → Due p l next
+    (p : Plan) (ready : Ready p) (l end m : ℕ) (next : List ℕ) → l < end → m ≡ smallest_with (step_after l) end (strings_of p)
+    → Due p l next
     → Onto p l end m next
 onto-soonest p ready l end m next h e due =
     let past = soonest-past p ready l end h in

@@ -90,10 +90,10 @@ module _ (p : Plan) (x : ℕ) (s : BatteryString) where
     asked-stays l w h k = asked-jobs w ∙ ap (λ j. j * job_of p x s) (step-jobs s ok l w h k) ∙ sym (asked-jobs l)
 
     -- as an interval comes, a string whose step is due asks for one job more
-    pub asked_by :
+    pub asked-more :
         (l due : ℕ) → 1 ≤ l → due ≡ step_after (l - 1) s
         → cond (eqb due l) (job_of p x s) 0 + asked_of p x (l - 1) s ≡ asked_of p x l s
-    asked_by l due pos e =
+    asked-more l due pos e =
         elim (ℕ_discrete due l) [
           | yes here ↦
               let one_more = step-jobs-more s ok (l - 1) l (omega arith) in

@@ -1,5 +1,5 @@
 -- Where the quick verdict on the plan with nobody permitted names a pair with no blocking, no set passes: with any set the work is there.
-use Rattle.base.proofs.Prelude.{ℕ, ◌+◌, ◌<◌, ◌≡◌, sym, ap, ◌∙◌, subst, true, false, Option, none, some, arith, length, eqb-true}
+use Rattle.base.proofs.Prelude.{ℕ, ◌<◌, ◌≡◌, sym, ◌∙◌, subst, true, false, Option, none, some, arith, length, eqb-true}
 use Rattle.days.specs.declared.Length.{Length}
 use Rattle.rules.specs.{declared.Plan.Plan, declared.Verdict.Verdict, declared.Verdict.TheVariants.{Overload, Fail, Pass}, Demand.{demand, overloaded}, Verdict.{Pair, all_pairs, first_broken, compared, judged, verdict_over}, Search.{with_set, set_passes}}
 use Rattle.base.proofs.Lists.{by_bool, true-not-false}

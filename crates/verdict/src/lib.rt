@@ -1,5 +1,7 @@
 // The verdict on a plan, full and quick, the first pair that breaks the rule, whether a given pair does, the search for permissions, the
 // plan with a set, and the plan's figures. No caller is trusted to have checked anything: each entry that judges checks first.
+#![tactic(auto)]
+
 mod asking;
 mod growing;
 mod holds;

@@ -1,6 +1,6 @@
 // Pairs at which the rule broke with sets that were tried. A set fails where the rule breaks at any one pair that its own limit allows,
 // so these are asked first: ten additions each, where a quick verdict costs thousands.
-ghost use Rattle.std.specs.Prelude.{◌<◌, ◌≡◌, false};
+ghost use Rattle.std.specs.Prelude.{◌<◌, ◌≡◌, true, false};
 ghost use Rattle.rules.specs.Plan.{multiple_of, leeway_min, d_max};
 ghost use Rattle.rules.specs.Verdict.{verdict_of, is_pass};
 ghost use Rattle.verdict.specs.Breaks.{breaks_at};
@@ -31,7 +31,8 @@ pub(crate) fn breaks_at(p: Plan, first: u32, last: u32, l: u32, b: u32) -> bool
     requires ready { Ready p }
     requires first_value { first ≡ leeway_min p }
     requires last_value { last ≡ d_max p }
-    ensures { result ≡ breaks_at p l b }
+    ensures exact { result ≡ breaks_at p l b }
+    ensures never { result ≡ true → is_pass (verdict_of p) ≡ false }
 {
     if l == 0 {
         return false;

@@ -1,10 +1,10 @@
 -- Laws of the book: a release is opened in it, and a visit goes into it; no number of another release moves.
-use Rattle.base.proofs.Prelude.{ℕ, zero, suc, ◌+◌, ◌-◌, ◌≤◌, ◌<◌, ◌*◌, ◌≡◌, refl, sym, ap, ◌∙◌, ◌≢◌, subst, List, [], arith, ℕ_discrete, eqb, length, length-set, length-take-le, get_or, set, get_or-set_same, get_or-set_other, mul-zero}
+use Rattle.base.proofs.Prelude.{ℕ, ◌+◌, ◌-◌, ◌≤◌, ◌<◌, ◌*◌, ◌≡◌, refl, sym, ap, ◌∙◌, ◌≢◌, subst, List, [], arith, ℕ_discrete, eqb, length, length-set, length-take-le, set, get_or-set_same, get_or-set_other, mul-zero}
 use Rattle.base.proofs.Lists.{by_bool, all-at}
 use Rattle.base.specs.Count.{sum_of, keep}
-use Rattle.rules.specs.{declared.Plan.Plan, declared.Release.Release, declared.Releases.Releases, Plan.{strings_of, string_at, no_string}, Demand.moving_cost, Release.{releases_of, no_release, released, deadline_of}}
-use Rattle.laws.proofs.{Lawful.{LawfulString, LawfulPlan}, Releases.LawfulRun, ReleaseList.{LawfulRelease, release-lawful}}
-use Rattle.visits.specs.{declared.Visit.Visit, Visits.{days_for, days_asked}, inner.Book.{opens, due, cost, asked_at, had, book_at, Opens, opened_at, BookEntry, Books, asked_again, booked}}
+use Rattle.rules.specs.{declared.Plan.Plan, declared.Release.Release, Plan.{strings_of, string_at, no_string}, Demand.moving_cost, Release.{released, deadline_of}}
+use Rattle.laws.proofs.{Lawful.{LawfulString, LawfulPlan}, ReleaseList.{LawfulRelease}}
+use Rattle.visits.specs.{Visits.{days_for, days_asked}, inner.Book.{opens, due, cost, asked_at, had, book_at, Opens, opened_at, BookEntry, Books, asked_again}}
 
 pub asked_again-le : (sofar more : ℕ) → asked_again sofar more ≤ more
 unfolding asked_again

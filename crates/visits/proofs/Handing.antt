@@ -1,17 +1,16 @@
 -- The visits of a run that are handed out: its stints were listed, and there is room for the visits.
-use Rattle.base.proofs.Prelude.{ℕ, suc, ◌+◌, ◌*◌, ◌≤◌, ◌<◌, ◌≡◌, refl, sym, ap, ◌∙◌, subst, true, false, List, [], ◌∷◌, ◌++◌, map, min, arith, length, get_or, drop}
-use Rattle.base.specs.Count.{All, up_from}
+use Rattle.base.proofs.Prelude.{ℕ, suc, ◌+◌, ◌*◌, ◌≤◌, ◌≡◌, sym, ap, ◌∙◌, List, [], ◌∷◌, ◌++◌, arith, length, get_or, drop}
+use Rattle.base.specs.Count.{All}
 use Rattle.base.proofs.Lists.{by_bool, all_map, all_get_d}
-use Rattle.days.specs.Days.{day, days}
-use Rattle.faults.specs.{declared.Fault.Fault, declared.Checked.TheVariants.{Lawful, Refused}}
+use Rattle.faults.specs.{declared.Fault.Fault, declared.Checked.TheVariants.{Lawful}}
 use Rattle.faults.proofs.Checks.{by-checked}
-use Rattle.rules.specs.{declared.Plan.Plan, declared.Release.Release, declared.Releases.Releases, declared.Use.Use, declared.Use.TheVariants.Idle, declared.Stint.Stint, declared.Stinted.Stinted, Release.releases_of, Run.history, Refusal.run_check, Stints.{same_use, stint, day_ahead, stints_from, days_run, run_stints, stints_numbers, stints_answer, stints_listed}}
+use Rattle.rules.specs.{declared.Plan.Plan, declared.Releases.Releases, declared.Use.Use, declared.Use.TheVariants.Idle, declared.Stint.Stint, Release.releases_of, Run.history, Refusal.run_check, Stints.{same_use, stint, day_ahead, stints_from, days_run, run_stints, stints_numbers, stints_answer, stints_listed}}
 use Rattle.rules.specs.declared.Stinted.TheVariants as stinted
 use Rattle.laws.specs.Lawful.{LawfulRun}
 use Rattle.laws.proofs.{Releases.run_check-lawful, History.history-length}
 use Rattle.run.specs.Numbers.{stint_at}
 use Rattle.run.proofs.{Answering.{few-here, stints-refused, stints-fit}, ReadBack.{read_back, all-read-back}}
-use Rattle.visits.specs.{declared.OwnVisits.OwnVisits, OwnRun.{stints_visits, run_visits, refused_visits, handed_out, own_visits}, inner.Own.{stints_in, end_of_stint, StintsEnd}}
+use Rattle.visits.specs.{OwnRun.{stints_visits, refused_visits, handed_out, own_visits}, inner.Own.{stints_in, end_of_stint, StintsEnd}}
 use Rattle.visits.proofs.OwnStints.{StartAt, stints-start, stints-visits}
 
 -- ---- The stints of a run end with it

@@ -1,11 +1,10 @@
 -- The visits of stints, one stint after the other: what stands at the front of a list grows as the definition says.
 --     last_of vs             the last of vs; no visit where there is none
 --     EndedVisits vs               each has ended by day 1,000,000
-use Rattle.base.proofs.Prelude.{ℕ, zero, suc, ◌+◌, ◌-◌, ◌*◌, ◌/◌, ◌^◌, ◌≤◌, ◌<◌, ◌≡◌, refl, sym, ap, ◌∙◌, Bool, true, false, cond, ◌&&◌, List, [], ◌∷◌, ◌++◌, map, map-append, arith, add-one, ltb, eqb, eqb-true, eq-eqb, ne_eqb, length, get_or, set, length-append, replicate}
+use Rattle.base.proofs.Prelude.{ℕ, zero, suc, ◌+◌, ◌-◌, ◌*◌, ◌/◌, ◌^◌, ◌≤◌, ◌<◌, ◌≡◌, refl, sym, ap, ◌∙◌, true, false, ◌&&◌, List, [], ◌∷◌, ◌++◌, map, map-append, arith, add-one, ltb, eqb, eqb-true, eq-eqb, ne_eqb, length, get_or, set, length-append, replicate}
 use Rattle.base.specs.Count.{All, filled, up_from}
 use Rattle.base.proofs.{Filling.filled-set, Lists.{by_bool, and_left, and_right, and_both, true-not-false}}
-use Rattle.days.specs.Days.{day, days}
-use Rattle.rules.specs.{declared.Stint.Stint, declared.Use.Use, declared.Use.TheVariants.{Idle, Work, Move}, Stints.{stint, stints_from, day_ahead, same_use, release_used}}
+use Rattle.rules.specs.{declared.Stint.Stint}
 use Rattle.run.specs.Numbers.{stint_at}
 use Rattle.visits.specs.{declared.Visit.Visit, declared.own.Placed.Placed, Visits.end_of_visit, Accepted.no_visit, OwnRun.{visit_of, stretch_joined, stint_ahead, stints_visits}, inner.Own.{stints_in, served_by, end_of_stint, follows, longer, visit_alone, with_stint, placed_by}}
 

@@ -1,6 +1,6 @@
 -- Laws of the check of one record by the book, for the code: every test that fails denies it, and all that pass are it.
 --     KeptBy book s v       what the check asks
-use Rattle.base.proofs.Prelude.{ℕ, ◌+◌, ◌≤◌, ◌≡◌, sym, ◌∙◌, true, false, not, ◌&&◌, List, leb-true, le-leb, not-true, leb}
+use Rattle.base.proofs.Prelude.{ℕ, ◌≤◌, ◌≡◌, true, false, not, ◌&&◌, List, leb-true, le-leb, not-true, leb}
 use Rattle.base.proofs.Lists.{by_bool, and_left, and_right}
 use Rattle.faults.specs.Checks.{in_bounds}
 use Rattle.faults.proofs.Checks.{in_bounds-low, in_bounds-high, in_bounds-yes}

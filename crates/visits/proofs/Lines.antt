@@ -1,10 +1,9 @@
 -- The lines of a visit text, taken one after the other: what is decided at each.
-use Rattle.base.proofs.Prelude.{ℕ, suc, ◌+◌, ◌-◌, ◌≤◌, ◌<◌, ◌≡◌, refl, sym, ap, ◌∙◌, subst, true, false, ◌&&◌, List, [], ◌∷◌, map, arith, add-one, lt-ltb, le-ltb, eqb-true, eqb, length, drop, get_or, length-map, drop-drop}
+use Rattle.base.proofs.Prelude.{ℕ, ◌+◌, ◌-◌, ◌≤◌, ◌<◌, ◌≡◌, sym, ap, ◌∙◌, subst, true, false, ◌&&◌, List, ◌∷◌, map, arith, add-one, lt-ltb, le-ltb, eqb-true, eqb, length, drop, get_or, length-map, drop-drop}
 use lib.ListN.{get_or-append}
 use Rattle.base.specs.{Count.{every, filled}, Digits.decimal_in}
 use Rattle.base.proofs.Lists.{and_left, and_right}
-use Rattle.days.specs.Days.{day, days}
-use Rattle.faults.specs.{declared.Fault.Fault, declared.Fault.TheVariants.{TextTooLong, RowMalformed}, declared.Checked.Checked, declared.Checked.TheVariants.{Lawful, Refused}}
+use Rattle.faults.specs.{declared.Fault.Fault, declared.Fault.TheVariants.{TextTooLong, RowMalformed}, declared.Checked.TheVariants.{Lawful, Refused}}
 use Rattle.rules.specs.{declared.Plan.Plan, declared.Releases.Releases, Refusal.run_check, Text.{Line, lines_of, reading_of}}
 use Rattle.register.specs.Table.{plain_number, row_fields, numbers_formed, line_formed}
 use Rattle.visits.specs.{declared.Visit.Visit, declared.book.Standing.Standing, Visits.visits_check, Texts.{visit_said, visit_formed, visit_in, visit_lines_check, visit_text_check, visit_files_check}, inner.{Book.{standing_after, book_after}, Lines.lines_answer}}

@@ -1,6 +1,6 @@
 -- The visits of our own clean run are accepted, where all moving costs are 0 and every deadline lies within the run: each day is for a
 -- release that has joined and is not yet due, and each release has had exactly its need.
-use Rattle.base.proofs.Prelude.{ℕ, zero, suc, ◌+◌, ◌-◌, ◌*◌, ◌≤◌, ◌<◌, ◌≡◌, refl, sym, ap, ◌∙◌, ◌≢◌, subst, Bool, true, false, cond, ◌&&◌, List, [], ◌∷◌, ◌++◌, arith, ℕ_discrete, eqb, length, eqb-true, eqb-false, eq-eqb, ne_eqb, zero-mul, le_refl, min}
+use Rattle.base.proofs.Prelude.{ℕ, zero, suc, ◌+◌, ◌-◌, ◌*◌, ◌≤◌, ◌<◌, ◌≡◌, refl, sym, ap, ◌∙◌, subst, Bool, true, false, cond, ◌&&◌, List, [], ◌∷◌, ◌++◌, arith, ℕ_discrete, eqb, length, eqb-true, eqb-false, eq-eqb, ne_eqb, zero-mul, le_refl, min}
 use Rattle.base.specs.Count.{sum_of, keep, count_of}
 use Rattle.base.proofs.{Lists.{All, by_bool, and_left, and_right, and_both, all_map, all-at}, Order.Rising}
 use Rattle.days.specs.{declared.Length.Length, Days.{day, days}}
@@ -105,7 +105,8 @@ module _ (p : Plan) (rs : List Release) where
                       | no other ↦ omega arith
                     ],
               ),
-              all_map (ClearBefore p rs v) (ClearBefore p rs (one_day k t)) (λ w c. (omega (arith, c.0), λ r. omega (arith, c.0))) vs h.rise.0,
+              all_map (ClearBefore p rs v) (ClearBefore p rs (one_day k t)) (λ w c. (omega (arith, c.0), λ r. omega (arith, c.0))) vs
+                  h.rise.0,
             ),
             h.rise,
           );
@@ -174,7 +175,8 @@ module _ (k : ℕ) (low : 1 ≤ k) where
       (omega (arith, days-other k longer vs (eqb-false _ _ other), days-other k v vs (λ e. eqb-false _ _ other (sym same ∙ e)))))))
       (λ apart. rw apart (days-one (one_day j t) (v ∷ vs) refl))
 
-  days-use : (t : ℕ) (u : Use) (vs : List Visit) → days_for k (day_before t (release_used u) vs) ≡ cond (serves_release k u) 1 0 + days_for k vs
+  days-use : (t : ℕ) (u : Use) (vs : List Visit) → days_for k (day_before t (release_used u) vs)
+      ≡ cond (serves_release k u) 1 0 + days_for k vs
   unfolding day_before
   days-use t u vs =
       by_bool (eqb (release_used u) 0)

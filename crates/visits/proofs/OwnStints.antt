@@ -1,9 +1,8 @@
 -- The visits of a run are its stints of one release that touch, joined, idle ones left out.
-use Rattle.base.proofs.Prelude.{ℕ, zero, suc, ◌+◌, ◌≡◌, refl, sym, ap, ◌∙◌, subst, Bool, true, false, cond, ◌&&◌, List, [], ◌∷◌, arith, eqb, eqb-true, eq-eqb}
+use Rattle.base.proofs.Prelude.{ℕ, suc, ◌+◌, ◌≡◌, refl, sym, ap, ◌∙◌, true, cond, ◌&&◌, List, [], ◌∷◌, arith, eqb, eqb-true, eq-eqb}
 use Rattle.base.proofs.Lists.{by_bool, and_right, true-not-false}
-use Rattle.days.specs.Days.{day, days}
-use Rattle.rules.specs.{declared.Plan.Plan, declared.Release.Release, declared.Use.Use, declared.Use.TheVariants.{Idle, Work, Move}, declared.Stint.Stint, Run.history, Stints.{same_use, stint, day_ahead, stints_from, days_run, run_stints, release_used}}
-use Rattle.visits.specs.{declared.Visit.Visit, OwnRun.{one_day, joined_to, day_before, visits_from, visits_to, run_visits, visit_of, stretch_joined, stint_ahead, stints_visits}}
+use Rattle.rules.specs.{declared.Plan.Plan, declared.Release.Release, declared.Use.Use, declared.Use.TheVariants.{Idle, Work, Move}, declared.Stint.Stint, Run.history, Stints.{same_use, day_ahead, stints_from, days_run, run_stints, release_used}}
+use Rattle.visits.specs.{declared.Visit.Visit, OwnRun.{joined_to, day_before, visits_from, visits_to, run_visits, visit_of, stretch_joined, stint_ahead, stints_visits}}
 
 -- what is the same is for the same release
 same-release : (u w : Use) → same_use u w ≡ true → release_used w ≡ release_used u

@@ -2,18 +2,18 @@
 --     visit_numbers v        the release that v serves, its first day and its length
 --     visit_row v            its line
 --     ShortVisit v               they have at most four, six and seven digits, as those of a run have
-use Rattle.base.proofs.Prelude.{ℕ, suc, ◌+◌, ◌*◌, ◌^◌, ◌≤◌, ◌<◌, ◌≡◌, refl, sym, ap, ◌∙◌, true, false, cond, ◌&&◌, List, [], ◌∷◌, ◌++◌, map, arith, eqb, get_or, length, length-append, length-take, length-map}
+use Rattle.base.proofs.Prelude.{ℕ, suc, ◌+◌, ◌*◌, ◌^◌, ◌≤◌, ◌<◌, ◌≡◌, refl, sym, ap, ◌∙◌, true, ◌&&◌, List, [], ◌∷◌, ◌++◌, map, arith, eqb, get_or, length, length-append, length-take}
 use mathlib.Core.List.{flat_map}
 use Rattle.base.specs.Count.{All}
-use Rattle.base.proofs.Lists.{by_bool, all-by, all_map}
+use Rattle.base.proofs.Lists.{by_bool, all-by}
 use Rattle.days.specs.declared.Length.{Length}
 use Rattle.faults.specs.declared.Checked.TheVariants.{Lawful}
-use Rattle.rules.specs.{declared.Plan.Plan, declared.Releases.Releases, declared.Stint.Stint, declared.Outcome.TheVariants.Clean, declared.AskedOutcome.TheVariants.Given, Plan.strings_of, Demand.moving_cost, Release.{releases_of, released, deadline_of}, Refusal.{run_check, run_answer}, Lines.{bytes_of, decimal, worded_in}, Text.{Line, lines_of}, Stints.{run_stints, release_used}}
+use Rattle.rules.specs.{declared.Plan.Plan, declared.Releases.Releases, declared.Stint.Stint, declared.Outcome.TheVariants.Clean, declared.AskedOutcome.TheVariants.Given, Plan.strings_of, Demand.moving_cost, Release.{releases_of, released, deadline_of}, Refusal.{run_answer}, Lines.{bytes_of, decimal, worded_in}, Text.{Line, lines_of}, Stints.{run_stints, release_used}}
 use Rattle.laws.proofs.{Releases.run_check-lawful, LineTexts.{line_bytes, text_of_lines, EndedLine, NoEnd, lines-said}}
 use Rattle.lines.specs.Visits.{visit_line}
 use Rattle.register.proofs.{Joined.commaed-tail, RowBack.{numbers_line, decimal-said, decimal-long, line-fields-said, line-formed, line-no-end}}
 use Rattle.run.proofs.Answering.{few-here}
-use Rattle.visits.specs.{declared.Visit.Visit, Visits.{end_of_visit, visits_check}, Accepted.{Accepted, no_visit}, OwnRun.{stretch_joined, stint_ahead, stints_visits, run_visits}, Texts.{visit_said, visit_formed, visit_in, visits_in, visits_text, visit_lines_check, visit_text_check}, inner.Lines.lines_answer}
+use Rattle.visits.specs.{declared.Visit.Visit, Visits.{visits_check}, Accepted.{no_visit}, OwnRun.{stretch_joined, stint_ahead, stints_visits, run_visits}, Texts.{visit_said, visit_formed, visit_in, visits_in, visits_text, visit_lines_check, visit_text_check}}
 use Rattle.visits.proofs.{AcceptedExactly.accepted-exactly, OwnRun.clean-run-accepted, OwnStints.stints-visits, Lines.{lines-formed, text-lines}}
 
 -- ---- A visit and its line

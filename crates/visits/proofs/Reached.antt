@@ -4,17 +4,17 @@
 --                           overlaps or touches one of those seen overlaps or touches the last
 --     Going ..              nothing was refused so far; the records of `rest` are to come
 --     Reached ..            that, or the refusal is known
-use Rattle.base.proofs.Prelude.{ℕ, zero, suc, ◌+◌, ◌-◌, ◌*◌, ◌≤◌, ◌<◌, ◌^◌, ◌≡◌, refl, sym, ap, ◌∙◌, ◌≢◌, subst, Bool, true, false, not, cond, ◌&&◌, List, [], ◌∷◌, arith, ℕ_discrete, eqb, ltb, leb, length, eqb-true, eqb-false, eq-eqb, ne_eqb, lt-ltb, le-ltb, add-one, mul-le-mul, mul-zero, le_refl, take, set, length-set}
+use Rattle.base.proofs.Prelude.{ℕ, zero, suc, ◌+◌, ◌-◌, ◌*◌, ◌≤◌, ◌<◌, ◌^◌, ◌≡◌, refl, sym, ap, ◌∙◌, ◌≢◌, subst, Bool, true, false, not, cond, List, [], ◌∷◌, arith, ℕ_discrete, eqb, length, eqb-true, eq-eqb, ne_eqb, lt-ltb, add-one, mul-le-mul, mul-zero, le_refl, set, length-set}
 use lib.ListN.{length-take}
 use native.Mathlib.Nat.{mul-suc}
 use Rattle.base.specs.Count.{sum_of, keep, least_from}
 use Rattle.base.proofs.{Lists.{All, by_bool, true-not-false, and_both, all_map, all-at}, Order.{keep-yes, keep-no}}
-use Rattle.faults.specs.{declared.Fault.Fault, declared.Fault.TheVariants.{VisitUnlawful, SumDiffers}, declared.Checked.TheVariants.{Lawful, Refused}, Checks.refuse_if}
+use Rattle.faults.specs.{declared.Fault.Fault, declared.Fault.TheVariants.{VisitUnlawful}, declared.Checked.TheVariants.{Lawful, Refused}}
 use Rattle.faults.proofs.Checks.{by-checked, then-refused}
-use Rattle.rules.specs.{declared.Plan.Plan, declared.Release.Release, declared.Releases.Releases, Plan.{strings_of, string_at, no_string}, Demand.moving_cost, Release.{releases_of, released, deadline_of, first_unlawful}, Refusal.run_check}
-use Rattle.laws.proofs.{Lawful.{LawfulString, LawfulPlan}, Releases.{LawfulRun, run_check-lawful}, ReleaseList.{LawfulRelease, release-lawful}}
-use Rattle.visits.specs.{declared.Visit.Visit, declared.book.Standing.Standing, Visits.{end_of_visit, visits_for, days_for, days_asked, adds_up, visit_lawful, breaking_from, first_breaking, first_short, visit_list_check, visits_check}, inner.Book.{opens, due, cost, asked_at, had, book_at, BookEntry, Books, meets_last, kept_by, asked_again, booked, refused_with, visited_by, standing_after, book_after, short_in, sums_by, judged_by, Fit, at_start, OpenedBy, Opened}}
-use Rattle.visits.proofs.{Records.{LawfulVisit, Clear, lawful-visit, visit-lawful}, Kept.{KeptBy, kept_by-is, kept_by-yes, standing-kept, standing-broken, book-kept, book-broken, after-lawful, after-refused, judged-lawful, judged-refused}, Booking.{stored_here, stored_other}}
+use Rattle.rules.specs.{declared.Plan.Plan, declared.Release.Release, declared.Releases.Releases, Plan.{strings_of, string_at, no_string}, Demand.moving_cost, Release.{releases_of, released, deadline_of}, Refusal.run_check}
+use Rattle.laws.proofs.{Lawful.{LawfulString}, Releases.{LawfulRun, run_check-lawful}, ReleaseList.{LawfulRelease, release-lawful}}
+use Rattle.visits.specs.{declared.Visit.Visit, declared.book.Standing.Standing, Visits.{end_of_visit, visits_for, days_for, days_asked, adds_up, visit_lawful, breaking_from, first_breaking, first_short, visit_list_check, visits_check}, inner.Book.{opens, due, cost, asked_at, had, book_at, BookEntry, Books, meets_last, kept_by, asked_again, booked, refused_with, visited_by, standing_after, book_after, short_in, sums_by, judged_by, Fit, OpenedBy, Opened}}
+use Rattle.visits.proofs.{Records.{LawfulVisit, Clear, lawful-visit, visit-lawful}, Kept.{KeptBy, kept_by-is, kept_by-yes, standing-kept, standing-broken, book-kept, after-lawful, after-refused, judged-lawful, judged-refused}, Booking.{stored_here, stored_other}}
 
 -- ---- The last visit
 
@@ -446,7 +446,8 @@ module _ (p : Plan) (rs : Releases) (vs : List Visit) where
       first-of-all = unfold first_breaking in refl
 
       check-refused : (f : Fault) (at : ℕ) → run_check p rs ≡ Refused f at → visits_check p rs vs ≡ Refused f at
-      check-refused f at refused = unfold visits_check in then-refused (run_check p rs) (visit_list_check p (releases_of rs) vs) f at refused
+      check-refused f at refused = unfold visits_check in then-refused (run_check p rs)
+          (visit_list_check p (releases_of rs) vs) f at refused
 
   -- one record more
   pub reached-next : (i : ℕ) (v : Visit) (rest : List Visit) (s : Standing) (book : List ℕ) → Reached p rs vs i (v ∷ rest) s book

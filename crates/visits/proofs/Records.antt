@@ -2,13 +2,12 @@
 -- where it serves the same release.
 --     LawfulVisit p rs v    the rules that v keeps or breaks on its own
 --     Clear v q             q, listed before v, has ended by the first day of v, a day earlier where it serves the same release
-use Rattle.base.proofs.Prelude.{ℕ, suc, ◌+◌, ◌≤◌, ◌<◌, ◌≡◌, refl, sym, ◌∙◌, ◌↔◌, Bool, true, false, not, ◌&&◌, List, [], ◌∷◌, arith, leb-true, le-leb, lt-leb, ltb-true, ltb-false, le-ltb, eqb-true, eqb-false, eq-eqb, ne_eqb, not-true, leb, ltb, eqb, length, ℕ_discrete}
+use Rattle.base.proofs.Prelude.{ℕ, suc, ◌≤◌, ◌<◌, ◌≡◌, refl, sym, ◌∙◌, ◌↔◌, Bool, true, false, not, ◌&&◌, List, [], ◌∷◌, arith, leb-true, le-leb, ltb-false, le-ltb, eqb-true, eq-eqb, ne_eqb, not-true, leb, eqb, length, ℕ_discrete}
 use Rattle.base.specs.Count.{any}
 use Rattle.base.proofs.{Lists.{All, by_bool, true-not-false, and_left, and_right, and_both, all_map, any_none}, Order.{Rising, all_both, all_of}}
-use Rattle.faults.specs.Checks.{in_bounds}
 use Rattle.faults.proofs.Checks.{in_bounds-low, in_bounds-high, in_bounds-yes}
 use Rattle.rules.specs.{declared.Plan.Plan, declared.Release.Release, Release.{released, deadline_of}}
-use Rattle.visits.specs.{declared.Visit.Visit, Visits.{end_of_visit, long_enough, starts_inside, names_release, touches, in_its_days, visit_lawful, breaking_from, first_breaking}}
+use Rattle.visits.specs.{declared.Visit.Visit, Visits.{end_of_visit, long_enough, starts_inside, names_release, touches, visit_lawful, breaking_from, first_breaking}}
 
 pub record LawfulVisit (p : Plan) (rs : List Release) (v : Visit) : Type 0 where
   pub long : 1 ≤ v.length.0

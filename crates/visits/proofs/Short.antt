@@ -1,5 +1,5 @@
 -- Laws of the first release of the book that has not had what is asked for, for the loop that looks for it.
-use Rattle.base.proofs.Prelude.{ℕ, zero, suc, ◌+◌, ◌-◌, ◌≤◌, ◌≡◌, refl, sym, ap, ◌∙◌, ◌≢◌, not, List, arith, eq-eqb, ne_eqb, eqb, add-one}
+use Rattle.base.proofs.Prelude.{ℕ, zero, suc, ◌+◌, ◌-◌, ◌≤◌, ◌≡◌, sym, ap, ◌∙◌, ◌≢◌, not, List, arith, eq-eqb, ne_eqb, eqb, add-one}
 use Rattle.base.specs.Count.{least_from}
 use Rattle.base.proofs.Least.{least_from-here, least_from-later}
 use Rattle.visits.specs.inner.Book.{book_at, had, asked_at, short_in}

@@ -74,7 +74,8 @@ table =
 pub worked : map visits_said table ≡ map (λ r. r.said) table
 unfolding
     visit visits_said sampled tenanted table visit_lawful breaking_from first_breaking first_short visit_list_check visits_check
-    sum_of every any keep least_from moving_cost string_lawful common_multiple multiple_of too_close out_of_order release_lawful unlawful_from
+    sum_of every any keep least_from moving_cost string_lawful common_multiple multiple_of too_close out_of_order release_lawful
+    unlawful_from
     first_unlawful count_check run_length_check strings_check multiple_check plan_check releases_check run_check
     string paying opening plan_of plan two tardy release release_due releases
 worked = refl
@@ -88,7 +89,8 @@ sample_run = run_visits (with_set two 1) (release 0 2 5 ∷ release 1 1 3 ∷ []
 
 pub own-visits : sample_run ≡ visit 1 0 1 ∷ visit 2 1 4 ∷ visit 1 5 4 ∷ []
 unfolding
-    visit sample_run joined_to day_before visits_from visits_to run_visits days_run permit with_set least_from chosen late_at new_slot join_from
+    visit sample_run joined_to day_before visits_from visits_to run_visits days_run permit with_set least_from chosen late_at new_slot
+    join_from
     joined holder
     payer taken next_up given use_of spent morning state_at use_on late_on history miss_day moving_cost
     string paying plan_of plan two release
@@ -97,7 +99,8 @@ own-visits = refl
 pub own-refused : checked_says (visits_check (with_set two 1) (releases (release 0 2 5 ∷ release 1 1 3 ∷ [])) sample_run) ≡ refused 15 1
 unfolding
     visit visit_lawful breaking_from first_breaking first_short visit_list_check visits_check permit with_set
-    sum_of every any keep least_from moving_cost string_lawful common_multiple multiple_of too_close out_of_order release_lawful unlawful_from
+    sum_of every any keep least_from moving_cost string_lawful common_multiple multiple_of too_close out_of_order release_lawful
+    unlawful_from
     first_unlawful count_check run_length_check strings_check multiple_check plan_check releases_check run_check
     string paying plan_of plan two release releases
 own-refused = rw own-visits

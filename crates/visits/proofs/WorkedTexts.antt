@@ -58,11 +58,13 @@ unfolding
     text_said listed_as table visit_lawful breaking_from first_breaking first_short visit_list_check visit_said visit_in visit_lines_check
     visit_text_check visit_files_check
     in_front fields_of plain_number row_fields numbers_formed line_formed
-    sum_of every any keep least_from moving_cost string_lawful common_multiple multiple_of too_close out_of_order release_lawful unlawful_from
+    sum_of every any keep least_from moving_cost string_lawful common_multiple multiple_of too_close out_of_order release_lawful
+    unlawful_from
     first_unlawful count_check run_length_check cost_check strings_check multiple_check plan_check releases_check run_check
     before lines_of digit_of well_formed hex_bytes frame_of number_on has_field field_among field_in held_to field_of
     n_in run_in a_in cost_of string_of due_in release_of plan_in list_in frame_check version_check header_check
-    string_line_check string_lines_check release_line_check release_lines_check body_check lines_check text_check lawful_reading reading_in version_of
+    string_line_check string_lines_check release_line_check release_lines_check body_check lines_check text_check lawful_reading
+    reading_in version_of
     reading_of
     bytes_of char hex_of line sample flat_map
 worked = refl

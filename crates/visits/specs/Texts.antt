@@ -19,7 +19,6 @@ use Rattle.faults.specs.declared.Fault.TheVariants.{TextTooLong, RowMalformed}
 use Rattle.faults.specs.Checks.{refuse_if, then}
 use Rattle.rules.specs.declared.Plan.{Plan}
 use Rattle.rules.specs.declared.Releases.{Releases}
-use Rattle.rules.specs.declared.Reading.{Reading}
 use Rattle.rules.specs.Release.{releases_of}
 use Rattle.rules.specs.Refusal.{run_check}
 use Rattle.rules.specs.Text.{Line, lines_of, reading_of}

@@ -1,4 +1,6 @@
 // The contractor's visit list (document 02, W-211): whether it keeps every rule and, where it does not, which record or release breaks one.
+#![tactic(auto)]
+
 mod book; // book.rt: what the records so far leave to be remembered
 mod own; // own.rt: the visits of our own run
 mod texts; // texts.rt: a list as a text
@@ -32,7 +34,7 @@ pub struct OwnVisits {
 // Whether a list of visits keeps every rule: 4 to 8 on the plan and its releases; then 14 with the number of the first record that breaks a
 // rule, on its own or against those before it; then 15 with the first release that does not add up. The list is lent and stays as it is.
 pub fn check_visits(p: Plan, rs: Releases, visits: &[Visit]) -> Checked
-    ensures exact { (result ≡ visits_check p rs visits.now) × (visits.now ≡ visits.now) }
+    ensures exact { (result ≡ visits_check p rs visits.now) × (visits.exit.now ≡ visits.entry.now) }
 {
     let mut book = blank_book();
     let mut standing = opened(p, rs, &mut book);

@@ -50,7 +50,7 @@ fn lines_checked(p: Plan, rs: Releases, text: &[u8]) -> Checked
 // line that is not three numbers; then 14 and 15. The text is lent and keeps its bytes.
 pub fn check_visit_text(p: Plan, rs: Releases, text: &[u8]) -> Checked
     ensures exact { result ≡ visit_text_check p rs text.now }
-    ensures kept { text.now ≡ text.now }
+    ensures kept { text.exit.now ≡ text.entry.now }
 {
     let checked = bounds::run_check(p, rs);
     match checked {
@@ -70,7 +70,7 @@ pub fn check_visit_text(p: Plan, rs: Releases, text: &[u8]) -> Checked
 // The same for a plan file: 1 to 8 as in reading it come first. Both texts are lent and keep their bytes.
 pub fn check_visit_files(plan: &[u8], visits: &[u8]) -> Checked
     ensures exact { result ≡ visit_files_check plan.now visits.now }
-    ensures kept { (plan.now ≡ plan.now) × (visits.now ≡ visits.now) }
+    ensures kept { (plan.exit.now ≡ plan.entry.now) × (visits.exit.now ≡ visits.entry.now) }
 {
     let reading = reading::read(plan);
     let checked = reading.checked;

@@ -1,5 +1,5 @@
 -- The blockings of an interval, one after the other: the largest demand so far, and whether some demand grows.
-use Rattle.base.proofs.Prelude.{ℕ, suc, ◌+◌, ◌-◌, ◌≤◌, ◌<◌, max, ◌≡◌, refl, sym, ap, ◌∙◌, Bool, true, false, ◌||◌, cond, [], ◌∷◌, arith, add-one}
+use Rattle.base.proofs.Prelude.{ℕ, suc, ◌+◌, ◌-◌, ◌≤◌, ◌<◌, max, ◌≡◌, refl, Bool, true, false, ◌||◌, cond, [], ◌∷◌, arith, add-one}
 use Rattle.base.specs.Count.{largest, any, up_from}
 
 pub blockings-next : (limit b : ℕ) → b ≤ limit → up_from b (suc limit - b) ≡ b ∷ up_from (b + 1) (suc limit - (b + 1))

@@ -1,5 +1,5 @@
 -- Lines that stand only for some numbers: a line where the number is one of them, an empty text elsewhere.
-use Rattle.base.proofs.Prelude.{ℕ, ◌≤◌, ◌≡◌, sym, ap, ◌∙◌, Bool, true, false, cond, ◌&&◌, List, [], arith, length}
+use Rattle.base.proofs.Prelude.{ℕ, ◌≤◌, ◌≡◌, sym, ap, ◌∙◌, Bool, true, false, cond, ◌&&◌, List, [], length}
 use Rattle.base.proofs.Lists.{by_bool}
 use Rattle.faults.specs.Checks.{in_bounds}
 use Rattle.faults.proofs.Checks.{in_bounds-yes, in_bounds-not}

@@ -1,7 +1,7 @@
 -- Who fits an interval, who blocks it for longest, and the blocking limit without the largest D.
-use Rattle.base.proofs.Prelude.{ℕ, suc, ◌+◌, ◌-◌, ◌≤◌, ◌<◌, min, max, ◌≡◌, sym, ap, ◌∙◌, Bool, true, false, List, [], ◌∷◌, arith, dec_le, eq-eqb, ne_eqb, le-leb, eqb, length, get_or, get_or-take}
+use Rattle.base.proofs.Prelude.{ℕ, suc, ◌+◌, ◌-◌, ◌≤◌, ◌<◌, min, ◌≡◌, sym, ap, ◌∙◌, Bool, false, List, [], ◌∷◌, arith, dec_le, eq-eqb, ne_eqb, eqb, length, get_or, get_or-take}
 use Rattle.base.specs.Count.{largest, smallest, least_from}
-use Rattle.base.proofs.{Lists.{All, Some, all-at, all-by, all_map, largest-ge, largest-le, smallest-le, smallest-above, true-not-false}, Least.{least_from-low, least_from-before, least_from-unique, least_from-none}}
+use Rattle.base.proofs.{Lists.{Some, all-at, all-by, all_map, largest-ge, largest-le, smallest-le, smallest-above, true-not-false}, Least.{least_from-low, least_from-before, least_from-unique, least_from-none}}
 use Rattle.rules.specs.{declared.BatteryString.BatteryString, declared.Plan.Plan, Plan.{strings_of, string_at, no_string, leeway, leeway_min, d_max}, Demand.{hold_of, blocker_hold, block_limit}}
 use Rattle.laws.proofs.Demand.{block_limit-late, block_limit-between, blocker_hold-late}
 use Rattle.verdict.specs.inner.Asked.{Ready}
@@ -76,7 +76,8 @@ module _ (p : Plan) (ready : Ready p) where
     unfolding blocker_place
     place_found i h here before =
         let back : i + 1 - 1 ≡ i = omega arith in
-        let same : blocker_hold p l (string_at p (i + 1)) ≡ most = place-hold (i + 1) (omega arith) (omega arith) ∙ ap hold_at back ∙ here in
+        let same : blocker_hold p l (string_at p (i + 1)) ≡ most = place-hold (i + 1) (omega arith) (omega arith) ∙ ap hold_at back
+        ∙ here in
         sym (least_from-unique (λ k. eqb (blocker_hold p l (string_at p k)) most) 1 p.n (i + 1) (omega arith) (omega arith)
         (eq-eqb _ _ same) (λ k low high. others i (omega arith) before k low (omega arith)))
 

@@ -1,6 +1,6 @@
 -- The numbers of a pair add up: the blocking and what each string asks, its jobs times its E, are the demand. Over H days with no blocking
 -- they are the load.
-use Rattle.base.proofs.Prelude.{ℕ, ◌+◌, ◌-◌, ◌*◌, ◌≤◌, ◌≡◌, sym, ap, ◌∙◌, arith, ℕ_discrete, mul-le-mul, eq-eqb, ne_eqb}
+use Rattle.base.proofs.Prelude.{ℕ, ◌+◌, ◌*◌, ◌≤◌, ◌≡◌, sym, ap, arith, ℕ_discrete, mul-le-mul, eq-eqb, ne_eqb}
 use Rattle.base.specs.Count.{sum_of}
 use Rattle.base.proofs.Lists.{all_map, sum_of-eq}
 use Rattle.rules.specs.{declared.BatteryString.BatteryString, declared.Plan.Plan, Plan.{strings_of, multiple_of}, Demand.{hold_of, jobs, need, demand, load}}

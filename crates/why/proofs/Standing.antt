@@ -1,5 +1,5 @@
 -- The line of the string at a place, as the code finds the string.
-use Rattle.base.proofs.Prelude.{ℕ, ◌-◌, ◌≤◌, ◌≡◌, sym, ap, ◌∙◌, [], arith, length, get_or, get_or-take}
+use Rattle.base.proofs.Prelude.{ℕ, ◌-◌, ◌≤◌, ◌≡◌, sym, ap, [], arith, get_or, get_or-take}
 use Rattle.faults.proofs.Checks.{in_bounds-yes, in_bounds-not}
 use Rattle.rules.specs.{declared.Plan.Plan, Plan.{no_string, string_at}, Demand.{hold_of, jobs}}
 use Rattle.lines.specs.Why.{share_line}

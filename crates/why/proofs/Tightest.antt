@@ -1,5 +1,5 @@
 -- The walk over all pairs that keeps the first with the least to spare ends with the tightest pair.
-use Rattle.base.proofs.Prelude.{ℕ, suc, ◌+◌, ◌-◌, ◌≤◌, ◌<◌, min, zero-le, ◌≡◌, refl, sym, ap, ◌∙◌, Bool, true, false, cond, List, [], ◌∷◌, ◌++◌, some, arith, add-one, dec_le, ℕ_discrete, ltb, eqb, lt-ltb, le-ltb, eq-eqb, ne_eqb}
+use Rattle.base.proofs.Prelude.{ℕ, suc, ◌+◌, ◌-◌, ◌≤◌, ◌<◌, min, zero-le, ◌≡◌, refl, sym, ap, ◌∙◌, Bool, cond, List, [], ◌∷◌, ◌++◌, some, arith, add-one, dec_le, ℕ_discrete, ltb, eqb, lt-ltb, le-ltb, eq-eqb, ne_eqb}
 use Rattle.base.specs.Count.{smallest, smallest_with, first_of}
 use Rattle.base.proofs.{Lists.{by_bool, smallest_with-le}, FirstOf.{first_of-here, first_of-later}}
 use Rattle.rules.specs.{declared.Plan.Plan, Plan.{multiple_of, d_max}, Demand.block_limit, Verdict.{Pair, all_pairs}}

@@ -1,5 +1,7 @@
 // Where a verdict comes from: the pair that it names, string by string, and the demand of every interval. No caller is trusted to have
 // checked anything: a refused plan gives the refusal, or its line.
+#![tactic(auto)]
+
 mod asking;
 mod limits;
 mod rows;

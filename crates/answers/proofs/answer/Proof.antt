@@ -34,29 +34,29 @@ refused : (text : List ℕ) (r : Reading) (f : Fault) (at : ℕ) → r ≡ readi
 unfolding answered
 refused text r f at e told = ap (λ k. answered k r) (sym told) ∙ whole text r e
 
-returns : tie.Need-returns
+returns : tie.Need-returns-in-Lawful
 returns c =
     let ran = c.before in
     let searched = ran.before in
     let judged = searched.before in
     let told = judged.before in
-    let found = told.before.before.before.before in
-    let text = found.before.before.args.text.now in
-    let r = found.read.result in
-    let reads = found.read.ensures.0 in
-    let run_ok = let_through text r reads told.enum_told.given.1 in
+    let found = told.before.before.before in
+    let text = found.args.text.now in
+    let r = found.read-reading.result in
+    let reads = found.read-reading.ensures.0 in
+    let run_ok = let_through text r reads told.in-Lawful.is in
     let plan-ok = plan-let-through r.plan r.releases run_ok in (
-      c.three-given.ensures _ _ _ (judged.verdict.ensures ∙ verdict-lawful _ plan-ok)
+      c.three_given.ensures _ _ _ (judged.verdict.ensures ∙ verdict-lawful _ plan-ok)
           (searched.search.ensures ∙ search-lawful _ plan-ok) (ran.run.ensures ∙ run-lawful _ _ run_ok)
-          ∙ lawful text r reads told.enum_told.given.1,
+          ∙ lawful text r reads told.in-Lawful.is,
       refl,
     )
 
-returns-2 : tie.Need-returns-2
+returns-2 : tie.Need-returns-in-Refused
 returns-2 c =
-    let told = c.before in
-    let found = told.before.before.before.before in
-    (refused found.before.before.args.text.now found.read.result _ _ found.read.ensures.0 told.checked.given.1, refl)
+    let told = c in
+    let found = told.before.before.before in
+    (refused found.args.text.now found.read-reading.result _ _ found.read-reading.ensures.0 told.in-Refused.is, refl)
 
 pub answer_spec : {M : Type 1} → statement M
 answer_spec =

@@ -4,29 +4,29 @@ use Rattle.rules.specs.declared.AskedAssign.TheVariants.{Given}
 use Rattle.assigning.proofs.{AsWritten.{assigned-refused, assigned-nobody, assigned-taken}, put.Statement.statement}
 use Rattle.assigning.proofs.put.Tie as tie
 
-returns : tie.Need-returns
+returns : tie.Need-returns-in-Refused
 returns c =
-    let found = c.before.before.before in
-    let g = found.before.before.args in
-    assigned-refused g.p g.rs g.page.now g.at found.search.result found.search.ensures _ _ c.before.asked.given.1
+    let found = c.before in
+    let g = found.args in
+    assigned-refused g.p g.rs g.page.now g.at found.search-asked.result found.search-asked.ensures _ _ c.in-Refused.is
 
-returns-2 : tie.Need-returns-2
+returns-2 : tie.Need-returns-in-Nobody
 returns-2 c =
-    let given = c.before.before.before in
-    let found = given.before.before in
-    let g = found.before.before.args in
-    assigned-nobody g.p g.rs g.page.now g.at found.search.result found.search.ensures
-    (given.asked2.given.1 ∙ ap Given c.enum_told.given.1)
+    let given = c.before in
+    let found = given.before in
+    let g = found.args in
+    assigned-nobody g.p g.rs g.page.now g.at found.search-asked.result found.search-asked.ensures
+    (given.in-Given.is ∙ ap Given c.in-Nobody.is)
 
-returns-3 : tie.Need-returns-3
+returns-3 : tie.Need-returns-in-Takers
 returns-3 c =
     let wrote = c.before.before in
-    let told = wrote.before.before.before in
-    let given = told.before.before.before in
-    let found = given.before.before in
-    let g = found.before.before.args in
-    assigned-taken g.p g.rs g.page.now g.at found.search.result found.search.ensures _ _ _
-    (given.asked2.given.1 ∙ ap Given told.assign.given.1) wrote.write-with.ensures.0 wrote.write-with.ensures.1
+    let told = wrote.before.before in
+    let given = told.before in
+    let found = given.before in
+    let g = found.args in
+    assigned-taken g.p g.rs g.page.now g.at found.search-asked.result found.search-asked.ensures _ _ _
+    (given.in-Given.is ∙ ap Given told.in-Takers.is) wrote.write_with.ensures.0 wrote.write_with.ensures.1
 
 pub put_spec : {M : Type 1} → statement M
 put_spec =

@@ -3,37 +3,37 @@ use Rattle.base.proofs.Prelude.{◌≡◌, sym, ap, ◌∙◌, rules}
 use Rattle.faults.specs.declared.Checked.TheVariants.{Lawful}
 use Rattle.rules.specs.{Release.releases_of, Refusal.run_check}
 use Rattle.lines.specs.Pages.{page_of}
-use Rattle.bars.specs.{Bars.{cut_behind, cut_words, drawn, end_day, cut_shown}, inner.Drawing.SheetOf}
+use Rattle.bars.specs.{Bars.{cut_behind, cut_words, drawn, cut_shown}}
 use Rattle.bars.proofs.Told.{told-lawful, told-refused}
 use Rattle.bars.proofs.cut_shown.Statement.{statement}
 use Rattle.bars.proofs.cut_shown.Tie as tie
 
 -- the run is lawful, and the sheet says it
-module _ (c : tie.After-enum-told) where
-  abbrev asked : tie.After-listed
-  asked = c.before.before.before.before
+module _ (c : tie.In-Lawful) where
+  abbrev asked : tie.After-listed-sheet
+  asked = c.before.before.before
 
-  lawful : run_check asked.before.before.args.p asked.before.before.args.rs ≡ Lawful
-  lawful = sym asked.listed.ensures.0 ∙ c.enum_told.given.1
+  lawful : run_check asked.args.p asked.args.rs ≡ Lawful
+  lawful = sym asked.listed-sheet.ensures.0 ∙ c.in-Lawful.is
 
-cut-in-requires : tie.Need-cut-in-requires
-cut-in-requires c κs = ((asked c).listed.ensures.1 (lawful c)).fits
+cut-in-requires : tie.Need-cut_in-requires
+cut-in-requires c κs = ((asked c).listed-sheet.ensures.1 (lawful c)).fits
 
-returns : tie.Need-returns
+returns : tie.Need-returns-in-Lawful
 unfolding cut_shown cut_words
 returns c =
     let told = c.before in
-    let g = (asked told).before.before.args in
-    let sheet = (asked told).listed.ensures.1 (lawful told) in
-    let words = ap (λ cs. cut_behind cs (asked told).listed.result.end) sheet.are
+    let g = (asked told).args in
+    let sheet = (asked told).listed-sheet.ensures.1 (lawful told) in
+    let words = ap (λ cs. cut_behind cs (asked told).listed-sheet.result.end) sheet.are
     ∙ ap (cut_behind (drawn g.p (releases_of g.rs))) sheet.end in
     (c.cut_in.ensures.0 ∙ ap page_of (words ∙ told-lawful _ _ (lawful told)), c.cut_in.ensures.1)
 
-returns-2 : tie.Need-returns-2
+returns-2 : tie.Need-returns-in-Refused
 unfolding cut_shown
 returns-2 c =
-    let at = c.before.before.before.before.before.before in
-    let refused = sym at.listed.ensures.0 ∙ c.before.before.checked.given.1 in
+    let at = c.before.before.before.before in
+    let refused = sym at.listed-sheet.ensures.0 ∙ c.in-Refused.is in
     (c.refused.ensures.0 ∙ ap page_of (told-refused _ _ _ _ refused), c.refused.ensures.1)
 
 pub cut_shown_spec : {M : Type 1} → statement M

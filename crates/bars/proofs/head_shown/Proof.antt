@@ -10,29 +10,29 @@ use Rattle.bars.proofs.head_shown.Statement.{statement}
 use Rattle.bars.proofs.head_shown.Tie as tie
 
 -- the run is lawful, and the sheet says it
-module _ (c : tie.After-enum-told) where
-  abbrev asked : tie.After-listed
-  asked = c.before.before.before.before
+module _ (c : tie.In-Lawful) where
+  abbrev asked : tie.After-listed-sheet
+  asked = c.before.before.before
 
-  lawful : run_check asked.before.before.args.p asked.before.before.args.rs ≡ Lawful
-  lawful = sym asked.listed.ensures.0 ∙ c.enum_told.given.1
+  lawful : run_check asked.args.p asked.args.rs ≡ Lawful
+  lawful = sym asked.listed-sheet.ensures.0 ∙ c.in-Lawful.is
 
-day-marks-requires : tie.Need-day-marks-requires
-day-marks-requires c κs = ((asked c).listed.ensures.1 (lawful c)).fits
+day-marks-requires : tie.Need-day_marks-requires
+day-marks-requires c κs = ((asked c).listed-sheet.ensures.1 (lawful c)).fits
 
-returns : tie.Need-returns
+returns : tie.Need-returns-in-Lawful
 unfolding head_shown
 returns c =
     let told = c.before.before in
-    let sheet = (asked told).listed.ensures.1 (lawful told) in
-    let words = ap days_row (c.before.day-marks.ensures ∙ ap (map day_mark) sheet.are) in
-    (c.day-row.ensures.0 ∙ ap page_of (words ∙ told-lawful _ _ (lawful told)), c.day-row.ensures.1)
+    let sheet = (asked told).listed-sheet.ensures.1 (lawful told) in
+    let words = ap days_row (c.day_marks.ensures ∙ ap (map day_mark) sheet.are) in
+    (c.day_row.ensures.0 ∙ ap page_of (words ∙ told-lawful _ _ (lawful told)), c.day_row.ensures.1)
 
-returns-2 : tie.Need-returns-2
+returns-2 : tie.Need-returns-in-Refused
 unfolding head_shown
 returns-2 c =
-    let at = c.before.before.before.before.before.before in
-    let refused = sym at.listed.ensures.0 ∙ c.before.before.checked.given.1 in
+    let at = c.before.before.before.before in
+    let refused = sym at.listed-sheet.ensures.0 ∙ c.in-Refused.is in
     (c.refused.ensures.0 ∙ ap page_of (told-refused _ _ _ _ refused), c.refused.ensures.1)
 
 pub head_shown_spec : {M : Type 1} → statement M

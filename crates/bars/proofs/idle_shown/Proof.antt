@@ -10,30 +10,30 @@ use Rattle.bars.proofs.idle_shown.Statement.{statement}
 use Rattle.bars.proofs.idle_shown.Tie as tie
 
 -- the run is lawful, and the sheet says it
-module _ (c : tie.After-enum-told) where
-  abbrev asked : tie.After-listed
-  asked = c.before.before.before.before
+module _ (c : tie.In-Lawful) where
+  abbrev asked : tie.After-listed-sheet
+  asked = c.before.before.before
 
-  lawful : run_check asked.before.before.args.p asked.before.before.args.rs ≡ Lawful
-  lawful = sym asked.listed.ensures.0 ∙ c.enum_told.given.1
+  lawful : run_check asked.args.p asked.args.rs ≡ Lawful
+  lawful = sym asked.listed-sheet.ensures.0 ∙ c.in-Lawful.is
 
-idle-in-requires : tie.Need-idle-in-requires
-idle-in-requires c κs = ((asked c).listed.ensures.1 (lawful c)).fits
+idle-in-requires : tie.Need-idle_in-requires
+idle-in-requires c κs = ((asked c).listed-sheet.ensures.1 (lawful c)).fits
 
-returns : tie.Need-returns
+returns : tie.Need-returns-in-Lawful
 unfolding idle_shown
 returns c =
     let told = c.before in
-    let g = (asked told).before.before.args in
-    let sheet = (asked told).listed.ensures.1 (lawful told) in
+    let g = (asked told).args in
+    let sheet = (asked told).listed-sheet.ensures.1 (lawful told) in
     let words = ap (λ cs. in_place (λ i x. idle_words x) no_column cs g.k) sheet.are in
-    (c.idle-in.ensures.0 ∙ ap page_of (words ∙ told-lawful _ _ (lawful told)), c.idle-in.ensures.1)
+    (c.idle_in.ensures.0 ∙ ap page_of (words ∙ told-lawful _ _ (lawful told)), c.idle_in.ensures.1)
 
-returns-2 : tie.Need-returns-2
+returns-2 : tie.Need-returns-in-Refused
 unfolding idle_shown
 returns-2 c =
-    let at = c.before.before.before.before.before.before in
-    let refused = sym at.listed.ensures.0 ∙ c.before.before.checked.given.1 in
+    let at = c.before.before.before.before in
+    let refused = sym at.listed-sheet.ensures.0 ∙ c.in-Refused.is in
     (c.refused.ensures.0 ∙ ap page_of (told-refused _ _ _ _ refused), c.refused.ensures.1)
 
 pub idle_shown_spec : {M : Type 1} → statement M

@@ -9,27 +9,27 @@ use Rattle.bars.proofs.row_shown.Statement.{statement}
 use Rattle.bars.proofs.row_shown.Tie as tie
 
 -- the run is lawful, and the sheet says it
-module _ (c : tie.After-enum-told) where
-  abbrev asked : tie.After-listed
-  asked = c.before.before.before
+module _ (c : tie.In-Lawful) where
+  abbrev asked : tie.After-listed-sheet
+  asked = c.before.before
 
-  lawful : run_check asked.before.before.args.p asked.before.before.args.rs ≡ Lawful
-  lawful = sym asked.listed.ensures.0 ∙ c.enum_told.given.1
+  lawful : run_check asked.args.p asked.args.rs ≡ Lawful
+  lawful = sym asked.listed-sheet.ensures.0 ∙ c.in-Lawful.is
 
-row-in-requires : tie.Need-row-in-requires
-row-in-requires c κs = (lawful c.before, (asked c.before).listed.ensures.1 (lawful c.before))
+row-in-requires : tie.Need-row_in-requires
+row-in-requires c κs = (lawful c.before, (asked c.before).listed-sheet.ensures.1 (lawful c.before))
 
-returns : tie.Need-returns
+returns : tie.Need-returns-in-Lawful
 unfolding row_shown
 returns c =
     let told = c.before.before in
     (c.row_in.ensures.0 ∙ ap page_of (told-lawful _ _ (lawful told)), c.row_in.ensures.1)
 
-returns-2 : tie.Need-returns-2
+returns-2 : tie.Need-returns-in-Refused
 unfolding row_shown
 returns-2 c =
-    let at = c.before.before.before.before.before in
-    let refused = sym at.listed.ensures.0 ∙ c.before.before.checked.given.1 in
+    let at = c.before.before.before in
+    let refused = sym at.listed-sheet.ensures.0 ∙ c.in-Refused.is in
     (c.refused.ensures.0 ∙ ap page_of (told-refused _ _ _ _ refused), c.refused.ensures.1)
 
 pub row_shown_spec : {M : Type 1} → statement M

@@ -3,22 +3,22 @@ use Rattle.base.proofs.Prelude.{refl, rules}
 use Rattle.missed.proofs.{AsFound.{put-when-refused, put-when-lawful}, miss.Statement.statement}
 use Rattle.missed.proofs.miss.Tie as tie
 
-returns : tie.Need-returns
+returns : tie.Need-returns-in-Lawful
 returns c =
     let put = c.before.before in
     let told = put.before.before in
-    let found = told.before.before.before in
-    let g = found.before.before.before.args in
-    let said = put-when-lawful g.text.now g.page.now g.at found.read.result found.read.ensures.0 _ _
-    told.enum_told.given.1 put.put.ensures.0 put.put.ensures.1 in
+    let found = told.before.before in
+    let g = found.args in
+    let said = put-when-lawful g.text.now g.page.now g.at found.read-reading.result found.read-reading.ensures.0 _ _
+    told.in-Lawful.is put.put.ensures.0 put.put.ensures.1 in
     (said.0, (said.1, refl))
 
-returns-2 : tie.Need-returns-2
+returns-2 : tie.Need-returns-in-Refused
 returns-2 c =
-    let found = c.before.before.before.before in
-    let g = found.before.before.before.args in
-    let said = put-when-refused g.text.now g.page.now g.at found.read.result found.read.ensures.0 _ _
-    c.before.checked.given.1 in
+    let found = c.before.before in
+    let g = found.args in
+    let said = put-when-refused g.text.now g.page.now g.at found.read-reading.result found.read-reading.ensures.0 _ _
+    c.in-Refused.is in
     (said.0, (said.1, refl))
 
 pub miss_spec : {M : Type 1} → statement M

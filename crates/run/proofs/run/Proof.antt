@@ -6,16 +6,16 @@ use Rattle.laws.proofs.Releases.{run_check-lawful}
 use Rattle.run.proofs.run.Statement.{statement}
 use Rattle.run.proofs.run.Tie as tie
 
-lawful : (c : tie.After-enum-told) → run_check c.before.before.before.args.p c.before.before.before.args.rs ≡ Lawful
-lawful c = sym c.before.before.run-check.ensures ∙ c.enum_told.given.1
+lawful : (c : tie.In-Lawful) → run_check c.args.p c.args.rs ≡ Lawful
+lawful c = sym c.run_check-checked.ensures ∙ c.in-Lawful.is
 
-returns : tie.Need-returns
+returns : tie.Need-returns-in-Lawful
 unfolding run_answer
-returns c = rw (lawful c.before) (ap Given c.walk-alone.ensures.outcome)
+returns c = rw (lawful c.before) (ap Given c.walk_alone-alone.ensures.outcome)
 
-returns-2 : tie.Need-returns-2
+returns-2 : tie.Need-returns-in-Refused
 unfolding run_answer
-returns-2 c = rw (sym c.before.before.before.run-check.ensures ∙ c.before.checked.given.1)
+returns-2 c = rw (sym c.run_check-checked.ensures ∙ c.in-Refused.is)
 
 pub run_spec : {M : Type 1} → statement M
 run_spec =

@@ -2,7 +2,8 @@
 --     Writable b            the numbers of the book fit the code's words
 --     stored_at k s list     the list with the five numbers of s at the place of the stint with index k, where there is room for them
 --     closed_count b, closed_list b list      how many stints there are, and the list, once the last is finished; it counts if it has a day
---     noted_book b s, noted_list b s list     the book and the list once the stretch s has come: the last stint goes on, or s begins another
+--     noted_book b s, noted_list b s list     the book and the list once the stretch s has come: the last stint goes on, or s
+--                           begins another
 use Rattle.std.specs.Prelude.{ℕ, ◌+◌, ◌*◌, ◌≤◌, ◌<◌, ◌^◌, cond, List, eqb, leb, length}
 use Rattle.base.specs.Count.{put_at}
 use Rattle.rules.specs.declared.Stint.{Stint}

@@ -9,29 +9,29 @@ use Rattle.sets.proofs.miss_note.Tie as tie
 told : (shown : Shown) (found : Shown) (m : Missing) → shown ≡ found → shown.missing ≡ m → miss_note m ≡ miss_note found.missing
 told shown found m is says = ap miss_note (sym says ∙ ap (λ (s : Shown). s.missing) is)
 
-returns : tie.Need-returns
+returns : tie.Need-returns-in-Refused
 unfolding miss_note
-returns c = told _ _ _ c.before.before.releases-that-miss.ensures c.enum_told.given.1
+returns c = told _ _ _ c.releases_that_miss-shown.ensures c.in-Refused.is
 
-returns-2 : tie.Need-returns-2
+returns-2 : tie.Need-returns-in-Passes
 unfolding miss_note
-returns-2 c = told _ _ _ c.before.before.releases-that-miss.ensures c.enum-told2.given.1
+returns-2 c = told _ _ _ c.releases_that_miss-shown.ensures c.in-Passes.is
 
-returns-3 : tie.Need-returns-3
+returns-3 : tie.Need-returns-in-Never
 unfolding miss_note
-returns-3 c = told _ _ _ c.before.before.releases-that-miss.ensures c.enum-told3.given.1
+returns-3 c = told _ _ _ c.releases_that_miss-shown.ensures c.in-Never.is
 
-returns-4 : tie.Need-returns-4
+returns-4 : tie.Need-returns-in-NoneFound
 unfolding miss_note
-returns-4 c = told _ _ _ c.before.before.releases-that-miss.ensures c.enum-told4.given.1
+returns-4 c = told _ _ _ c.releases_that_miss-shown.ensures c.in-NoneFound.is
 
-returns-5 : tie.Need-returns-5
+returns-5 : tie.Need-returns-in-TooMany
 unfolding miss_note
-returns-5 c = told _ _ _ c.before.before.releases-that-miss.ensures c.enum-told5.given.1
+returns-5 c = told _ _ _ c.releases_that_miss-shown.ensures c.in-TooMany.is
 
-returns-6 : tie.Need-returns-6
+returns-6 : tie.Need-returns-in-Found
 unfolding miss_note
-returns-6 c = told _ _ _ c.before.before.releases-that-miss.ensures c.enum-told6.given.1
+returns-6 c = told _ _ _ c.releases_that_miss-shown.ensures c.in-Found.is
 
 pub miss_note_spec : {M : Type 1} → statement M
 miss_note_spec =

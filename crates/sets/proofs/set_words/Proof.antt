@@ -16,23 +16,23 @@ worded-given p a m page q v e answers is notes line =
     ∙ ap (λ x. page_of (set_line m v x)) notes
     ∙ ap (λ x. page_of (asked_words p a m x)) (sym is ∙ answers)
 
-returns : tie.Need-returns
+returns : tie.Need-returns-in-Given
 returns c =
     let noted = c.before in
-    let known = noted.before.before in
-    let asked = known.before.before in
-    let g = asked.before.args in (
-      worded-given g.p g.found g.set _ _ _ _ asked.quick-with.ensures known.asked.given.1 noted.note-of.ensures
+    let known = noted.before in
+    let asked = known.before in
+    let g = asked.args in (
+      worded-given g.p g.found g.set _ _ _ _ asked.quick_with-asked.ensures known.in-Given.is noted.note_of.ensures
           c.set_line.ensures.0,
       c.set_line.ensures.1,
     )
 
-returns-2 : tie.Need-returns-2
+returns-2 : tie.Need-returns-in-Refused
 unfolding set_words asked_words
 returns-2 c =
-    let known = c.before.before in
-    let asked = known.before.before in
-    (rw (sym asked.quick-with.ensures ∙ known.asked2.given.1) c.refused.ensures.0, c.refused.ensures.1)
+    let known = c.before in
+    let asked = known.before in
+    (rw (sym asked.quick_with-asked.ensures ∙ known.in-Refused.is) c.refused.ensures.0, c.refused.ensures.1)
 
 pub set_words_spec : {M : Type 1} → statement M
 set_words_spec =

@@ -10,6 +10,6 @@ plan_shown_spec =
     tie.close (tie.spec
     (λ c κs. search rules) (λ c. search rules) (λ c κs. search rules) (λ c. search rules) (λ c κs. search rules)
     (λ c. let told = c.before in
-    (rw (sym told.before.before.plan-check.ensures ∙ told.enum_told.given.1) c.plan-line.ensures.0, c.plan-line.ensures.1))
-    λ c. let known = c.before.before in
-    (rw (sym known.before.before.plan-check.ensures ∙ known.checked.given.1) c.refused.ensures.0, c.refused.ensures.1))
+    (rw (sym told.plan_check-checked.ensures ∙ told.in-Lawful.is) c.plan_line.ensures.0, c.plan_line.ensures.1))
+    λ c. let known = c.before in
+    (rw (sym known.plan_check-checked.ensures ∙ known.in-Refused.is) c.refused.ensures.0, c.refused.ensures.1))

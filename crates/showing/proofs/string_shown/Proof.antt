@@ -5,27 +5,27 @@ use Rattle.showing.specs.Shown.{string_shown}
 use Rattle.showing.proofs.{Figured.{checked-is, holds-are}, string_shown.Statement.statement}
 use Rattle.showing.proofs.string_shown.Tie as tie
 
-string-in-requires : tie.Need-string-in-requires
+string-in-requires : tie.Need-string_in-requires
 string-in-requires c κs =
-    let found = c.before.before.before in
-    let p = found.before.args.p in
-    let said = c.enum_told.given.1 in
-    (checked-is p _ found.figures.ensures Lawful said, holds-are p _ found.figures.ensures said)
+    let found = c.before.before in
+    let p = found.args.p in
+    let said = c.in-Lawful.is in
+    (checked-is p _ found.figures-found.ensures Lawful said, holds-are p _ found.figures-found.ensures said)
 
-returns : tie.Need-returns
+returns : tie.Need-returns-in-Lawful
 unfolding string_shown
 returns c =
     let told = c.before in
-    let found = told.before.before.before in
-    let is = checked-is found.before.args.p _ found.figures.ensures Lawful told.enum_told.given.1 in
-    (rw is c.string-in.ensures.0, c.string-in.ensures.1)
+    let found = told.before.before in
+    let is = checked-is found.args.p _ found.figures-found.ensures Lawful told.in-Lawful.is in
+    (rw is c.string_in.ensures.0, c.string_in.ensures.1)
 
-returns-2 : tie.Need-returns-2
+returns-2 : tie.Need-returns-in-Refused
 unfolding string_shown
 returns-2 c =
-    let known = c.before.before in
-    let found = known.before.before.before in
-    let is = checked-is found.before.args.p _ found.figures.ensures _ known.checked.given.1 in
+    let known = c.before in
+    let found = known.before.before in
+    let is = checked-is found.args.p _ found.figures-found.ensures _ known.in-Refused.is in
     (rw is c.refused.ensures.0, c.refused.ensures.1)
 
 pub string_shown_spec : {M : Type 1} → statement M

@@ -13,13 +13,13 @@ few c = (plan_check-lawful c.args.p c.requires.0).n_max
 placed : (c : tie.Start) → 1 ≤ c.args.place → c.args.place ≤ c.args.p.n → HasPlace c.args.p c.args.place
 placed c low high = record { low = low; high = high; few = few c; ten = c.requires.1 }
 
-returns : tie.Need-returns
+returns : tie.Need-returns-then-place-lt1
 returns c = sym (limit-out _ _ _ (λ low high. omega arith))
 
-returns-2 : tie.Need-returns-2
+returns-2 : tie.Need-returns-then-p-place
 returns-2 c = sym (limit-out _ _ _ (λ low high. omega arith))
 
-lawful-values-requires : tie.Need-lawful-values-requires
+lawful-values-requires : tie.Need-lawful_values-values-requires
 lawful-values-requires c κs =
     let start = c.before.before.before in
     (placed start (omega arith) (omega arith), start.requires.0)
@@ -29,18 +29,18 @@ halved-requires c κs =
     let gaps = c.before in
     let values = gaps.before.before.before in
     let start = values.before.before.before.before in
-    (placed start (omega arith) (omega arith), (sym gaps.is-gapless.ensures ∙ c.if3.true, values.lawful-values.ensures))
+    (placed start (omega arith) (omega arith), (sym gaps.is_gapless.ensures ∙ c.if-is_gapless.true, values.lawful_values-values.ensures))
 
-returns-3 : tie.Need-returns-3
+returns-3 : tie.Need-returns-then-is_gapless
 returns-3 c = c.halved.ensures ∙ limit-lawful _ _ _ (omega arith) (omega arith)
 
 walked-requires : tie.Need-walked-requires
 walked-requires c κs =
     let values = c.before.before.before.before in
     let start = values.before.before.before.before in
-    (placed start (omega arith) (omega arith), values.lawful-values.ensures)
+    (placed start (omega arith) (omega arith), values.lawful_values-values.ensures)
 
-returns-4 : tie.Need-returns-4
+returns-4 : tie.Need-returns
 returns-4 c = c.walked.ensures ∙ limit-lawful _ _ _ (omega arith) (omega arith)
 
 pub limit_of_spec : {M : Type 1} → statement M

@@ -4,15 +4,15 @@ use Rattle.tries.specs.{Tries.{free_break, unfound}, inner.Openings.Points}
 use Rattle.tries.proofs.{Searching.points_none, not_shown.Statement.statement}
 use Rattle.tries.proofs.not_shown.Tie as tie
 
-returns : tie.Need-returns
+returns : tie.Need-returns-in_default
 returns c =
-    let ask = c.before.before in
-    sym (ap unfound (points_none ask.free-break.result _ c.enum-told2.given.1 ask.free-break.ensures))
+    let ask = c.before in
+    sym (ap unfound (points_none ask.free_break-found.result _ c.in_default.is ask.free_break-found.ensures))
 
-returns-2 : tie.Need-returns-2
+returns-2 : tie.Need-returns
 returns-2 c =
-    let ask = c.before.before in
-    let there = subst (λ t. Points t (free_break ask.before.args.p)) c.enum_told.given.1 ask.free-break.ensures in
+    let ask = c.before in
+    let there = subst (λ t. Points t (free_break ask.args.p)) c.in-Breaks.is ask.free_break-found.ensures in
     sym (ap unfound there)
 
 pub not_shown_spec : {M : Type 1} → statement M

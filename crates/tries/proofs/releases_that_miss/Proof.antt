@@ -1,5 +1,5 @@
 -- `tries::releases_that_miss` meets its contract: the check decides, then what is shown for a lawful plan.
-use Rattle.base.proofs.Prelude.{ℕ, ◌≡◌, sym, ◌∙◌, rules, length-map}
+use Rattle.base.proofs.Prelude.{ℕ, ◌≡◌, sym, ◌∙◌, rules}
 use Rattle.faults.specs.declared.Fault.{Fault}
 use Rattle.rules.specs.{declared.Plan.Plan, Refusal.plan_check}
 use Rattle.verdict.proofs.Readiness.{ready-plan}
@@ -17,25 +17,25 @@ unfolding missing_answer
 missing-refused p f at h = rw h
 
 -- what the check said
-lawful : (c : tie.After-enum-told) → plan_check c.before.before.before.args.p ≡ checked.Lawful
-lawful c = sym c.before.before.plan-check.ensures ∙ c.enum_told.given.1
+lawful : (c : tie.In-Lawful) → plan_check c.args.p ≡ checked.Lawful
+lawful c = sym c.plan_check-checked.ensures ∙ c.in-Lawful.is
 
-shown-for-requires : tie.Need-shown-for-requires
+shown-for-requires : tie.Need-shown_for-requires
 shown-for-requires c κs =
-    let start = c.before.before.before in
-    ready-plan start.args.p (lawful c) (simp length-map at start.well-formed.0.1.1.1.1.0.1.0.1)
+    let start = c.before.before in
+    ready-plan start.args.p (lawful c) (start.well_formed.0.1.1.1.1.0.1.0.1)
 
-returns : tie.Need-returns
+returns : tie.Need-returns-in-Lawful
 returns c =
     let told = c.before in
-    c.shown-for.ensures ∙ sym (missing-lawful told.before.before.before.args.p (lawful told))
+    c.shown_for.ensures ∙ sym (missing-lawful told.args.p (lawful told))
 
-returns-2 : tie.Need-returns-2
+returns-2 : tie.Need-returns-in-Refused
 returns-2 c =
-    let known = c.before.before in
-    let check = known.before.before in
-    c.without-list.ensures
-    ∙ sym (missing-refused check.before.args.p _ _ (sym check.plan-check.ensures ∙ known.checked.given.1))
+    let known = c.before in
+    let check = known.before in
+    c.without_list.ensures
+    ∙ sym (missing-refused check.args.p _ _ (sym check.plan_check-checked.ensures ∙ known.in-Refused.is))
 
 pub releases_that_miss_spec : {M : Type 1} → statement M
 releases_that_miss_spec =

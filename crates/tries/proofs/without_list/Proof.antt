@@ -5,8 +5,8 @@ use Rattle.tries.proofs.without_list.Tie as tie
 
 returns : tie.Need-returns
 returns c =
-    ap (λ r. record { missing = c.before.args.missing; releases = record { count = 0; list = replicate 1000 r } })
-    c.no-release.ensures
+    ap (λ r. record { missing = c.args.missing; releases = record { count = 0; list = replicate 1000 r } })
+    c.no_release-none.ensures
 
 pub without_list_spec : {M : Type 1} → statement M
 without_list_spec = tie.close (tie.spec (λ c κs. search rules) returns)

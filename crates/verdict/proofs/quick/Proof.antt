@@ -1,5 +1,5 @@
 -- `verdict::quick` meets its contract: the check decides, then the quick verdict.
-use Rattle.base.proofs.Prelude.{◌≡◌, sym, ap, ◌∙◌, rules, length-map}
+use Rattle.base.proofs.Prelude.{◌≡◌, sym, ap, ◌∙◌, rules}
 use Rattle.faults.specs.declared.Checked.TheVariants.{Lawful}
 use Rattle.rules.specs.{declared.AskedVerdict.TheVariants.Given, Refusal.plan_check}
 use Rattle.demand.proofs.Answers.{quick-lawful, quick-refused}
@@ -7,25 +7,25 @@ use Rattle.verdict.proofs.{Readiness.ready-plan, quick.Statement.statement}
 use Rattle.verdict.proofs.quick.Tie as tie
 
 -- what the check said
-lawful : (c : tie.After-enum-told) → plan_check c.before.before.before.args.p ≡ Lawful
-lawful c = sym c.before.before.plan-check.ensures ∙ c.enum_told.given.1
+lawful : (c : tie.In-Lawful) → plan_check c.args.p ≡ Lawful
+lawful c = sym c.plan_check-checked.ensures ∙ c.in-Lawful.is
 
-quickly-judged-requires : tie.Need-quickly-judged-requires
+quickly-judged-requires : tie.Need-quickly_judged-requires
 quickly-judged-requires c κs =
     let told = c.before in
-    let start = told.before.before.before in
-    (ready-plan start.args.p (lawful told) (simp length-map at start.well-formed.0.1.1.1.1.0.1.0.1), c.multiple.ensures)
+    let start = told.before.before in
+    (ready-plan start.args.p (lawful told) (start.well_formed.0.1.1.1.1.0.1.0.1), c.multiple.ensures)
 
-returns : tie.Need-returns
+returns : tie.Need-returns-in-Lawful
 returns c =
     let told = c.before.before in
-    ap Given c.quickly-judged.ensures ∙ sym (quick-lawful told.before.before.before.args.p (lawful told))
+    ap Given c.quickly_judged.ensures ∙ sym (quick-lawful told.args.p (lawful told))
 
-returns-2 : tie.Need-returns-2
+returns-2 : tie.Need-returns-in-Refused
 returns-2 c =
-    let known = c.before in
-    let check = known.before.before in
-    sym (quick-refused check.before.args.p _ _ (sym check.plan-check.ensures ∙ known.checked.given.1))
+    let known = c in
+    let check = known.before in
+    sym (quick-refused check.args.p _ _ (sym check.plan_check-checked.ensures ∙ known.in-Refused.is))
 
 pub quick_spec : {M : Type 1} → statement M
 quick_spec =

@@ -1,5 +1,5 @@
 -- `verdict::verdict` meets its contract: the check decides, then the rules.
-use Rattle.base.proofs.Prelude.{◌≡◌, sym, ap, ◌∙◌, rules, length-map}
+use Rattle.base.proofs.Prelude.{◌≡◌, sym, ap, ◌∙◌, rules}
 use Rattle.faults.specs.declared.Checked.TheVariants.{Lawful}
 use Rattle.rules.specs.{declared.AskedVerdict.TheVariants.Given, Refusal.plan_check}
 use Rattle.laws.proofs.Answers.{verdict-lawful, verdict-refused}
@@ -7,25 +7,25 @@ use Rattle.verdict.proofs.{Readiness.ready-plan, verdict.Statement.statement}
 use Rattle.verdict.proofs.verdict.Tie as tie
 
 -- what the check said
-lawful : (c : tie.After-enum-told) → plan_check c.before.before.before.args.p ≡ Lawful
-lawful c = sym c.before.before.plan-check.ensures ∙ c.enum_told.given.1
+lawful : (c : tie.In-Lawful) → plan_check c.args.p ≡ Lawful
+lawful c = sym c.plan_check-checked.ensures ∙ c.in-Lawful.is
 
 judged-requires : tie.Need-judged-requires
 judged-requires c κs =
     let told = c.before in
-    let start = told.before.before.before in
-    (ready-plan start.args.p (lawful told) (simp length-map at start.well-formed.0.1.1.1.1.0.1.0.1), c.multiple.ensures)
+    let start = told.before.before in
+    (ready-plan start.args.p (lawful told) (start.well_formed.0.1.1.1.1.0.1.0.1), c.multiple.ensures)
 
-returns : tie.Need-returns
+returns : tie.Need-returns-in-Lawful
 returns c =
     let told = c.before.before in
-    ap Given c.judged.ensures ∙ sym (verdict-lawful told.before.before.before.args.p (lawful told))
+    ap Given c.judged.ensures ∙ sym (verdict-lawful told.args.p (lawful told))
 
-returns-2 : tie.Need-returns-2
+returns-2 : tie.Need-returns-in-Refused
 returns-2 c =
-    let known = c.before in
-    let check = known.before.before in
-    sym (verdict-refused check.before.args.p _ _ (sym check.plan-check.ensures ∙ known.checked.given.1))
+    let known = c in
+    let check = known.before in
+    sym (verdict-refused check.args.p _ _ (sym check.plan_check-checked.ensures ∙ known.in-Refused.is))
 
 pub verdict_spec : {M : Type 1} → statement M
 verdict_spec =

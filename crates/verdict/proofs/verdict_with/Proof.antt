@@ -1,5 +1,5 @@
 -- `verdict::verdict_with` meets its contract: the check decides, then the rules.
-use Rattle.base.proofs.Prelude.{◌≡◌, sym, ap, ◌∙◌, subst, rules, length-map}
+use Rattle.base.proofs.Prelude.{◌≡◌, sym, ap, ◌∙◌, subst, rules}
 use Rattle.faults.specs.declared.Checked.TheVariants.{Lawful}
 use Rattle.rules.specs.{declared.AskedVerdict.TheVariants.Given, Plan.multiple_of, Verdict.verdict_of, Refusal.set_check}
 use Rattle.demand.proofs.Sets.{with_set-multiple}
@@ -9,37 +9,37 @@ use Rattle.laws.proofs.Answers.{set-lawful, set-refused, set-plan}
 use Rattle.verdict.proofs.verdict_with.Tie as tie
 
 -- what the check said
-lawful : (c : tie.After-enum-told) → set_check c.before.before.before.args.p c.before.before.before.args.set ≡ Lawful
-lawful c = sym c.before.before.set-check.ensures ∙ c.enum_told.given.1
+lawful : (c : tie.In-Lawful) → set_check c.args.p c.args.set ≡ Lawful
+lawful c = sym c.set_check-checked.ensures ∙ c.in-Lawful.is
 
 -- the plan is ready
-ready : (c : tie.After-enum-told) → Ready c.before.before.before.args.p
+ready : (c : tie.In-Lawful) → Ready c.args.p
 ready c =
-    let start = c.before.before.before in
+    let start = c.before.before in
     ready-plan start.args.p (set-plan start.args.p start.args.set (lawful c))
-    (simp length-map at start.well-formed.0.1.1.1.1.0.1.0.1)
+    (start.well_formed.0.1.1.1.1.0.1.0.1)
 
 judged-requires : tie.Need-judged-requires
 judged-requires c κs =
     let made = c.before in
-    let start = made.before.before.before.before in (
-      subst Ready (sym made.with-set.ensures) (ready_with start.args.p start.args.set (ready made.before)),
-      c.multiple.ensures ∙ sym (ap multiple_of made.with-set.ensures ∙ with_set-multiple start.args.p start.args.set),
+    let start = made.before.before.before in (
+      subst Ready (sym made.with_set.ensures) (ready_with start.args.p start.args.set (ready made.before)),
+      c.multiple.ensures ∙ sym (ap multiple_of made.with_set.ensures ∙ with_set-multiple start.args.p start.args.set),
     )
 
-returns : tie.Need-returns
+returns : tie.Need-returns-in-Lawful
 returns c =
     let made = c.before.before in
     let told = made.before in
-    let start = told.before.before.before in
-    ap Given (c.judged.ensures ∙ ap verdict_of made.with-set.ensures)
+    let start = told.before.before in
+    ap Given (c.judged.ensures ∙ ap verdict_of made.with_set.ensures)
     ∙ sym (set-lawful start.args.p start.args.set (lawful told))
 
-returns-2 : tie.Need-returns-2
+returns-2 : tie.Need-returns-in-Refused
 returns-2 c =
-    let known = c.before in
-    let check = known.before.before in
-    sym (set-refused check.before.args.p check.before.args.set _ _ (sym check.set-check.ensures ∙ known.checked.given.1))
+    let known = c in
+    let check = known.before in
+    sym (set-refused check.args.p check.args.set _ _ (sym check.set_check-checked.ensures ∙ known.in-Refused.is))
 
 pub verdict_with_spec : {M : Type 1} → statement M
 verdict_with_spec =

@@ -16,7 +16,7 @@
 --     sums_by book count     15 with that release
 --     judged_by book s       the answer, at the end of the list
 --     Fit s book            the numbers leave room for one visit more
-use Rattle.std.specs.Prelude.{ℕ, ◌+◌, ◌-◌, ◌≤◌, ◌<◌, ◌^◌, ◌≡◌, Bool, not, cond, ◌&&◌, List, [], leb, ltb, eqb, length, get_or, set}
+use Rattle.std.specs.Prelude.{ℕ, ◌+◌, ◌-◌, ◌≤◌, ◌<◌, ◌^◌, ◌≡◌, Bool, not, cond, ◌&&◌, List, [], leb, eqb, length, get_or, set}
 use Rattle.days.specs.Days.{day}
 use Rattle.base.specs.Count.{least_from}
 use Rattle.faults.specs.declared.Fault.{Fault}

@@ -1,5 +1,5 @@
 -- `why::blocker_shown` meets its contract: the check decides between the line and the refusal's.
-use Rattle.base.proofs.Prelude.{◌≡◌, sym, ◌∙◌, rules, length-map}
+use Rattle.base.proofs.Prelude.{◌≡◌, sym, ◌∙◌, rules}
 use Rattle.faults.specs.declared.Checked.TheVariants.{Lawful}
 use Rattle.rules.specs.Refusal.{plan_check}
 use Rattle.verdict.specs.inner.Asked.{Ready}
@@ -9,24 +9,24 @@ use Rattle.why.proofs.blocker_shown.Statement.{statement}
 use Rattle.why.proofs.blocker_shown.Tie as tie
 
 -- what the check said
-lawful : (c : tie.After-enum-told) → plan_check c.before.before.before.args.p ≡ Lawful
-lawful c = sym c.before.before.plan-check.ensures ∙ c.enum_told.given.1
+lawful : (c : tie.In-Lawful) → plan_check c.args.p ≡ Lawful
+lawful c = sym c.plan_check-checked.ensures ∙ c.in-Lawful.is
 
-ready : (c : tie.After-enum-told) → Ready c.before.before.before.args.p
+ready : (c : tie.In-Lawful) → Ready c.args.p
 ready c =
-    let start = c.before.before.before in
-    ready-plan start.args.p (lawful c) (simp length-map at start.well-formed.0.1.1.1.1.0.1.0.1)
+    let start = c.before.before in
+    ready-plan start.args.p (lawful c) (start.well_formed.0.1.1.1.1.0.1.0.1)
 
-returns : tie.Need-returns
+returns : tie.Need-returns-in-Lawful
 unfolding blocker_shown
-returns c = (rw (lawful c.before) c.blocker-of.ensures.0, c.blocker-of.ensures.1)
+returns c = (rw (lawful c.before) c.blocker_of.ensures.0, c.blocker_of.ensures.1)
 
-returns-2 : tie.Need-returns-2
+returns-2 : tie.Need-returns-in-Refused
 unfolding blocker_shown
 returns-2 c =
-    let known = c.before.before in
-    let check = known.before.before in
-    (rw (sym check.plan-check.ensures ∙ known.checked.given.1) c.refused.ensures.0, c.refused.ensures.1)
+    let known = c.before in
+    let check = known.before in
+    (rw (sym check.plan_check-checked.ensures ∙ known.in-Refused.is) c.refused.ensures.0, c.refused.ensures.1)
 
 pub blocker_shown_spec : {M : Type 1} → statement M
 blocker_shown_spec =

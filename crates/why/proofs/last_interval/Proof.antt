@@ -1,5 +1,5 @@
 -- `why::last_interval` meets its contract: the check decides.
-use Rattle.base.proofs.Prelude.{◌≡◌, sym, ◌∙◌, rules, length-map}
+use Rattle.base.proofs.Prelude.{◌≡◌, sym, ◌∙◌, rules}
 use Rattle.faults.specs.declared.Checked.TheVariants.{Lawful}
 use Rattle.rules.specs.Refusal.{plan_check}
 use Rattle.verdict.proofs.Readiness.{ready-plan}
@@ -8,21 +8,21 @@ use Rattle.why.proofs.last_interval.Statement.{statement}
 use Rattle.why.proofs.last_interval.Tie as tie
 
 -- what the check said
-lawful : (c : tie.After-enum-told) → plan_check c.before.before.before.args.p ≡ Lawful
-lawful c = sym c.before.before.plan-check.ensures ∙ c.enum_told.given.1
+lawful : (c : tie.In-Lawful) → plan_check c.args.p ≡ Lawful
+lawful c = sym c.plan_check-checked.ensures ∙ c.in-Lawful.is
 
-last-of-requires : tie.Need-last-of-requires
+last-of-requires : tie.Need-last_of-requires
 last-of-requires c κs =
-    let start = c.before.before.before in
-    ready-plan start.args.p (lawful c) (simp length-map at start.well-formed.0.1.1.1.1.0.1.0.1)
+    let start = c.before.before in
+    ready-plan start.args.p (lawful c) (start.well_formed.0.1.1.1.1.0.1.0.1)
 
-returns : tie.Need-returns
+returns : tie.Need-returns-in-Lawful
 unfolding last_answer
 returns c = rw (lawful c.before) c.last_of.ensures
 
-returns-2 : tie.Need-returns-2
+returns-2 : tie.Need-returns-in-Refused
 unfolding last_answer
-returns-2 c = rw (sym c.before.before.plan-check.ensures ∙ c.enum-told2.given.1)
+returns-2 c = rw (sym c.plan_check-checked.ensures ∙ c.in-Refused.is)
 
 pub last_interval_spec : {M : Type 1} → statement M
 last_interval_spec = tie.close (tie.spec (λ c κs. search rules) (λ c. search rules) last-of-requires (λ c. search rules) returns returns-2)

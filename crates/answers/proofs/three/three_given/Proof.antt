@@ -6,29 +6,29 @@ use Rattle.answers.proofs.three.three_given.Tie as tie
 never : ◌≡◌ {A = ℕ} 0 1 → ⊥
 never z = omega arith
 
-returns : tie.Need-returns
+returns : tie.Need-returns-in-Refused
 returns c x y z ev ea eo =
-    let said = c.before.v.given.1 in
+    let said = c.in-Refused.is in
     absurd (never (cc))
 
-returns-2 : tie.Need-returns-2
+returns-2 : tie.Need-returns-in-Refused-a
 returns-2 c x y z ev ea eo =
-    let said = c.before.a.given.1 in
+    let said = c.in-Refused-a.is in
     absurd (never (cc))
 
-returns-3 : tie.Need-returns-3
+returns-3 : tie.Need-returns-in-Refused-o
 returns-3 c x y z ev ea eo =
-    let said = c.before.o.given.1 in
+    let said = c.in-Refused-o.is in
     absurd (never (cc))
 
-returns-4 : tie.Need-returns-4
+returns-4 : tie.Need-returns-in-Given-o
 returns-4 c x y z ev ea eo =
-    let third = c.before in
-    let second = third.before.before.before in
-    let first = second.before.before.before in
-    let verdict = first.v2.given.1 in
-    let assign = second.a2.given.1 in
-    let outcome = third.o2.given.1 in
+    let third = c in
+    let second = third.before in
+    let first = second.before in
+    let verdict = first.in-Given.is in
+    let assign = second.in-Given-a.is in
+    let outcome = third.in-Given-o.is in
     cc
 
 pub three_given_spec : {M : Type 1} → statement M

@@ -3,11 +3,11 @@ use Rattle.base.proofs.Prelude.{rules, eq-eqb, ne_eqb}
 use Rattle.bars.proofs.cells.share.Statement.{statement}
 use Rattle.bars.proofs.cells.share.Tie as tie
 
-returns : tie.Need-returns
-returns c = rw (c.before.before.used.given.1, eq-eqb _ _ c.if1.true)
+returns : tie.Need-returns-then-serves-k
+returns c = rw (c.in-Work.is, eq-eqb _ _ c.if-serves-k.true)
 
-returns-3 : tie.Need-returns-3
-returns-3 c = rw (c.before.before.used.given.1, ne_eqb _ _ c.if1.false)
+returns-3 : tie.Need-returns-else-serves-k
+returns-3 c = rw (c.in-Work.is, ne_eqb _ _ c.if-serves-k.false)
 
 pub share_spec : {M : Type 1} → statement M
 share_spec =

@@ -8,7 +8,7 @@ use Rattle.bars.specs.inner.Drawing.{uses_told}
 use Rattle.bars.proofs.{Spelling.{stints_left, stints-all, stints-none, stints-next, count-stretch, count-nothing, share-most}, cells.worked_before.Statement.statement}
 use Rattle.bars.proofs.cells.worked_before.Tie as tie
 
-abbrev invariant-loop : tie.invariant-loop
+abbrev invariant-loop : tie.invariant-loop-passed
 invariant-loop list stints k t left₀ work₀ passed₀ left work passed =
     record {
       upto : passed ≤ stints;
@@ -17,58 +17,58 @@ invariant-loop list stints k t left₀ work₀ passed₀ left work passed =
           ≡ count_of (works_for k) (take t (uses_told list stints));
     }
 
-abbrev decreases-loop : tie.decreases-loop
+abbrev decreases-loop : tie.decreases-loop-passed
 decreases-loop list stints k t left₀ work₀ passed₀ left work passed = stints - passed
 
-loop-holds : tie.Need-loop-init invariant-loop decreases-loop
+loop-holds : tie.Need-loop-passed-init invariant-loop decreases-loop
 loop-holds c =
-    let g = c.before.args in
+    let g = c.args in
     let all = ap (λ ss. count_of (works_for g.k) (take g.t (spelled ss))) (stints-all g.list.now g.stints) in
     record { upto = omega arith; small = omega arith; same = omega (arith, all) }
 
-add-work : tie.Need-overflow-add-work invariant-loop decreases-loop
+add-work : tie.Need-overflow_add-work invariant-loop decreases-loop
 add-work c =
     let read = c.before.before in
     let at = read.before.before in
-    let most = share-most (works_for at.before.before.args.k read.stint-at.result.used) c.before.smaller.result in
-    omega (arith, at.before.before.ranges.t, at.loop.invariant.small, c.share.ensures, most, c.before.smaller.ensures)
+    let most = share-most (works_for at.args.k read.stint_at-stint.result.used) c.smaller-days.result in
+    omega (arith, at.ranges.t, at.loop-passed.invariant.small, c.share-work.ensures, most, c.smaller-days.ensures)
 
-loop-again : tie.Need-loop-preserved invariant-loop decreases-loop
+loop-again : tie.Need-loop-passed-preserved invariant-loop decreases-loop
 loop-again c =
     let short = c.before in
     let read = short.before in
     let at = read.before.before in
-    let g = at.before.before.args in
-    let i = at.loop.passed in
-    let left = at.loop.left in
+    let g = at.args in
+    let i = at.loop-passed.passed in
+    let left = at.loop-passed.left in
     let s = stint_at g.list.now i in
     let f = works_for g.k in
-    let is = read.stint-at.ensures.0 in
+    let is = read.stint_at-stint.ensures.0 in
     let rest = spelled (stints_left g.list.now g.stints (i + 1)) in
-    let days : short.smaller.result ≡ min left s.length.0 = short.smaller.ensures ∙ ap (λ x. min left x.length.0) is in
-    let own : c.share.result ≡ cond (f s.used) (min left s.length.0) 0 =
-    c.share.ensures ∙ ap (λ x. cond (f x.used) short.smaller.result 0) is ∙ ap (λ n. cond (f s.used) n 0) days in
+    let days : short.smaller-days.result ≡ min left s.length.0 = short.smaller-days.ensures ∙ ap (λ x. min left x.length.0) is in
+    let own : c.share-work.result ≡ cond (f s.used) (min left s.length.0) 0 =
+    c.share-work.ensures ∙ ap (λ x. cond (f x.used) short.smaller-days.result 0) is ∙ ap (λ n. cond (f s.used) n 0) days in
     let step = ap (λ us. count_of f (take left us)) (stints-next g.list.now g.stints i (omega arith))
     ∙ count-stretch f s.length.0 left s.used rest in
     let later = ap (λ n. count_of f (take (left - n) rest)) days in
     let most = share-most (f s.used) (min left s.length.0) in
     record {
       upto = omega arith;
-      small = omega (arith, at.loop.invariant.small, own, days, most);
-      same = omega (arith, at.loop.invariant.same, step, own, later);
+      small = omega (arith, at.loop-passed.invariant.small, own, days, most);
+      same = omega (arith, at.loop-passed.invariant.same, step, own, later);
     }
 
 returns : tie.Need-returns invariant-loop decreases-loop
 returns c =
     let at = c.before in
-    let g = at.before.before.args in
+    let g = at.args in
     let f = works_for g.k in
-    let none = ap (λ us. count_of f (take at.loop.left us)) (stints-none g.list.now g.stints at.loop.passed (omega arith))
-    ∙ count-nothing f at.loop.left in
-    omega (arith, at.loop.invariant.same, none)
+    let none = ap (λ us. count_of f (take at.loop-passed.left us)) (stints-none g.list.now g.stints at.loop-passed.passed (omega arith))
+    ∙ count-nothing f at.loop-passed.left in
+    omega (arith, at.loop-passed.invariant.same, none)
 
 pub worked_before_spec : {M : Type 1} → statement M
 worked_before_spec =
     tie.close (tie.spec
     invariant-loop decreases-loop loop-holds (λ c κs. search rules) (λ c κs. search rules) (λ c κs. search rules) add-work
-    (λ c. omega (arith, c.before.smaller.ensures)) (λ c. omega arith) (λ c. omega arith) loop-again returns)
+    (λ c. omega (arith, c.smaller-days.ensures)) (λ c. omega arith) (λ c. omega arith) loop-again returns)

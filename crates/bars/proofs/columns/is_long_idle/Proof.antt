@@ -6,4 +6,4 @@ use Rattle.bars.proofs.columns.is_long_idle.Tie as tie
 pub is_long_idle_spec : {M : Type 1} → statement M
 is_long_idle_spec =
     tie.close (tie.spec
-    (λ c. search rules) (λ c. search rules) (λ c. search rules) (λ c. rw c.enum_told.given.1) (λ c. search rules) λ c. search rules)
+    (λ c. search rules) (λ c. search rules) (λ c. search rules) (λ c. rw c.in-Idle.is) (λ c. search rules) λ c. search rules)

@@ -19,18 +19,18 @@ never d e f at h =
     (let z : ◌≡◌ {A = ℕ} 0 1 = cc in
     omega arith)
 
-returns : tie.Need-returns
+returns : tie.Need-returns-in-Is
 returns c =
-    let asked = c.before.before.before in
-    let k = asked.before.args.day in
-    same _ (date_of k) (sym c.before.which.given.1 ∙ asked.from-day.ensures ∙ answered k asked.before.requires)
+    let asked = c.before in
+    let k = asked.args.day in
+    same _ (date_of k) (sym c.in-Is.is ∙ asked.from_day-which.ensures ∙ answered k asked.requires)
 
-returns-2 : tie.Need-returns-2
+returns-2 : tie.Need-returns-in-Refused
 returns-2 c =
-    let asked = c.before.before.before in
-    let k = asked.before.args.day in
+    let asked = c.before.before in
+    let k = asked.args.day in
     never (date_of k) c.first.result _ _
-    (sym (answered k asked.before.requires) ∙ sym asked.from-day.ensures ∙ c.before.enum_told.given.1)
+    (sym (answered k asked.requires) ∙ sym asked.from_day-which.ensures ∙ c.in-Refused.is)
 
 pub date_on_spec : {M : Type 1} → statement M
 date_on_spec =

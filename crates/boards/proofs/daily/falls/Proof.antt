@@ -6,4 +6,4 @@ use Rattle.boards.proofs.daily.falls.Tie as tie
 
 pub falls_spec : {M : Type 1} → statement M
 unfolding falls_by
-falls_spec = tie.close (tie.spec (λ c κs. search rules) λ c. c.falls-on.ensures)
+falls_spec = tie.close (tie.spec (λ c κs. search rules) λ c. c.falls_on.ensures)

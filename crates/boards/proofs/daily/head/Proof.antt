@@ -20,19 +20,19 @@ returns c =
     let one = two.before.before in
     rw (
       one.figure.ensures,
-      two.figure2.ensures,
-      three.figure3.ensures,
-      four.figure4.ensures,
-      five.figure5.ensures,
-      six.figure6.ensures,
-      seven.figure7.ensures,
-      eight.figure8.ensures,
-      ← letters (one.before.before.before.args.day % 7) (omega arith),
+      two.figure-2.ensures,
+      three.figure-3.ensures,
+      four.figure-4.ensures,
+      five.figure-5.ensures,
+      six.figure-6.ensures,
+      seven.figure-7.ensures,
+      eight.figure-8.ensures,
+      ← letters (one.args.day % 7) (omega arith),
     )
 
 pub head_spec : {M : Type 1} → statement M
 head_spec =
     tie.close (tie.spec
-    (λ c. search rules) (λ c. search rules) (λ c. search rules) (λ c κs. search rules) (λ c κs. search rules) (λ c κs. search rules)
+    (λ c. search rules) (λ c. search rules) (λ c κs. search rules) (λ c κs. search rules) (λ c κs. search rules)
     (λ c κs. search rules) (λ c κs. search rules) (λ c κs. search rules) (λ c κs. search rules) (λ c κs. search rules)
     (λ c. search rules) (λ c. search rules) (λ c. search rules) (λ c. search rules) (λ c. search rules) returns)

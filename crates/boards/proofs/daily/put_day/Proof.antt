@@ -18,35 +18,35 @@ module _ (s : tie.Start) where
 
   room : s.args.at + length line + length lines ≤ length page
   unfolding day_text
-  room = omega (arith, s.pre, length-append line lines)
+  room = omega (arith, s.requires, length-append line lines)
 
 -- the line stands
-module _ (p : tie.After-put-line) where
+module _ (p : tie.After-put_line-next) where
   abbrev start : tie.Start
   start = p.before.before.before.before
 
-  size : length p.put-line.last.0 ≡ length (page start)
+  size : length p.put_line-next.new.page ≡ length (page start)
   size =
-      ap length p.put-line.ensures.1
+      ap length p.put_line-next.ensures.1
       ∙ put_at-length start.args.at (line start) (page start) (omega (arith, room start))
 
-module _ (q : tie.After-put-tests) where
-  abbrev first : tie.After-put-line
+module _ (q : tie.After-put_tests) where
+  abbrev first : tie.After-put_line-next
   first = q.before.before.before.before
 
-  stored : q.put-tests.last.0 ≡ put_at (start first).args.at (line (start first) ++ lines (start first)) (page (start first))
+  stored : q.put_tests.new.page ≡ put_at (start first).args.at (line (start first) ++ lines (start first)) (page (start first))
   stored =
       let s = start first in
-      q.put-tests.ensures.1
-      ∙ ap₂ (λ at page. put_at at (lines s) page) first.put-line.ensures.0 first.put-line.ensures.1
+      q.put_tests.ensures.1
+      ∙ ap₂ (λ at page. put_at at (lines s) page) first.put_line-next.ensures.0 first.put_line-next.ensures.1
       ∙ put_at-next s.args.at (line s) (page s) (omega (arith, room s)) (lines s) (room s)
 
-  next : q.put-tests.result ≡ (start first).args.at + length (line (start first) ++ lines (start first))
+  next : q.put_tests.result ≡ (start first).args.at + length (line (start first) ++ lines (start first))
   next =
       let s = start first in
-      omega (arith, q.put-tests.ensures.0, first.put-line.ensures.0, length-append (line s) (lines s))
+      omega (arith, q.put_tests.ensures.0, first.put_line-next.ensures.0, length-append (line s) (lines s))
 
-  same : length q.put-tests.last.0 ≡ length (page (start first))
+  same : length q.put_tests.new.page ≡ length (page (start first))
   same =
       let s = start first in
       ap length stored ∙ put_at-length s.args.at (line s ++ lines s) (page s) (omega (arith, room s, length-append (line s) (lines s)))
@@ -58,5 +58,5 @@ put_day_spec =
     (λ c κs. omega (arith, room c.before.before.before))
     (λ c κs.
     let p = c.before.before.before in
-    omega (arith, p.put-line.ensures.0, size p, room (start p)))
+    omega (arith, p.put_line-next.ensures.0, size p, room (start p)))
     (λ c. same c.before.before) λ c. (next c.before.before, stored c.before.before))

@@ -10,47 +10,47 @@ module _ (s : tie.Start) where
   page = s.args.page.now
 
   abbrev head : List ℕ
-  head = s.args.t3
+  head = s.args.head
 
   abbrev tail : List ℕ
   tail = s.args.tail.now
 
   room : s.args.at + length head + length tail ≤ length page
-  room = omega (arith, s.pre, length-append head tail)
+  room = omega (arith, s.requires, length-append head tail)
 
 -- the head stands
-module _ (p : tie.After-put) where
+module _ (p : tie.After-put-next) where
   abbrev start : tie.Start
   start = p.before.before.before.before.before
 
-  size : length p.put.last.0 ≡ length (page start)
+  size : length p.put-next.new.page ≡ length (page start)
   size =
-      ap length p.put.ensures.1
+      ap length p.put-next.ensures.1
       ∙ put_at-length start.args.at (head start) (page start) (omega (arith, room start))
 
-  room-left : p.put.result + length (tail start) ≤ length p.put.last.0
-  room-left = omega (arith, p.put.ensures.0, size, room start)
+  room-left : p.put-next.result + length (tail start) ≤ length p.put-next.new.page
+  room-left = omega (arith, p.put-next.ensures.0, size, room start)
 
-module _ (q : tie.After-put2) where
-  abbrev first : tie.After-put
+module _ (q : tie.After-put) where
+  abbrev first : tie.After-put-next
   first = q.before.before.before.before
 
-  stored : q.put2.last.0 ≡ put_at (start first).args.at (head (start first) ++ tail (start first)) (page (start first))
+  stored : q.put.new.page ≡ put_at (start first).args.at (head (start first) ++ tail (start first)) (page (start first))
   stored =
       let s = start first in
-      q.put2.ensures.1
-      ∙ ap₂ (λ at page. put_at at (tail s) page) first.put.ensures.0 first.put.ensures.1
+      q.put.ensures.1
+      ∙ ap₂ (λ at page. put_at at (tail s) page) first.put-next.ensures.0 first.put-next.ensures.1
       ∙ put_at-next s.args.at (head s) (page s) (omega (arith, room s)) (tail s) (room s)
 
-  next : q.put2.result ≡ (start first).args.at + length (head (start first) ++ tail (start first))
+  next : q.put.result ≡ (start first).args.at + length (head (start first) ++ tail (start first))
   next =
       let s = start first in
-      omega (arith, q.put2.ensures.0, first.put.ensures.0, length-append (head s) (tail s))
+      omega (arith, q.put.ensures.0, first.put-next.ensures.0, length-append (head s) (tail s))
 
-  same : length q.put2.last.0 ≡ length (page (start first))
+  same : length q.put.new.page ≡ length (page (start first))
   same =
       let s = start first in
-      ap length stored ∙ put_at-length s.args.at (head s ++ tail s) (page s) s.pre
+      ap length stored ∙ put_at-length s.args.at (head s ++ tail s) (page s) s.requires
 
 pub put_line_spec : {M : Type 1} → statement M
 put_line_spec =

@@ -1,12 +1,12 @@
 -- `put_tests` meets its contract. Invariant: the lines of the tests so far stand in the page, and those of the tests that are left follow.
-use Rattle.base.proofs.Prelude.{ℕ, ◌+◌, ◌-◌, ◌≤◌, ◌<◌, ◌≡◌, refl, sym, ap, ◌∙◌, List, [], ◌∷◌, ◌++◌, arith, rules, length, take, drop, get_or, get_or-take, length-map, length-take, length-append, drop_of_length-le, append-nil, append_assoc}
+use Rattle.base.proofs.Prelude.{ℕ, ◌+◌, ◌-◌, ◌≤◌, ◌<◌, ◌≡◌, refl, sym, ap, ◌∙◌, List, [], ◌∷◌, ◌++◌, arith, rules, length, take, drop, get_or, get_or-take, length-take, length-append, drop_of_length-le, append-nil, append_assoc}
 use mathlib.Core.Path.{ap₂}
 use Rattle.base.specs.Count.{put_at}
 use Rattle.boards.specs.{declared.Test.Test, Input.no_test, Board.tests_of, inner.Daily.tests_text}
 use Rattle.boards.proofs.{InPlace.{put_at-length, put_at-next, put_at-none}, Days.{test-next, tests-next, tests-none, first-twenty}, daily.put_tests.Statement.statement}
 use Rattle.boards.proofs.daily.put_tests.Tie as tie
 
-abbrev invariant-loop : tie.invariant-loop
+abbrev invariant-loop : tie.invariant-loop-i
 invariant-loop page₀ at head d n tests place₀ i₀ page place i =
     record {
       upto : i ≤ n;
@@ -19,18 +19,18 @@ invariant-loop page₀ at head d n tests place₀ i₀ page place i =
       stored : page ≡ put_at at text page₀;
     }
 
-abbrev decreases-loop : tie.decreases-loop
+abbrev decreases-loop : tie.decreases-loop-i
 decreases-loop page₀ at head d n tests place₀ i₀ page place i = n - i
 
 twenty : (s : tie.Start invariant-loop decreases-loop) → length s.args.diary.tests ≡ 20
-twenty s = simp length-map at s.well-formed.1.1.1.0.1.1.1.0.1.0.1
+twenty s = s.well_formed.1.1.1.0.1.1.1.0.1.0.1
 
-module _ (o : tie.At-loop invariant-loop decreases-loop) where
+module _ (o : tie.At-loop-i invariant-loop decreases-loop) where
   abbrev start : tie.Start invariant-loop decreases-loop
   start = o.before.before.before.before
 
   abbrev n : ℕ
-  n = o.before.before.counted.result
+  n = o.counted-n.result
 
   abbrev tests : List Test
   tests = take n start.args.diary.tests
@@ -39,63 +39,63 @@ module _ (o : tie.At-loop invariant-loop decreases-loop) where
   text ts = tests_text start.args.head start.args.d ts
 
   -- what stands so far is no longer than all
-  so_far : start.args.at + length o.loop.inv.text ≤ length start.args.page.now
+  so_far : start.args.at + length o.loop-i.invariant.text ≤ length start.args.page.now
   so_far =
       omega (
         arith,
-        o.loop.inv.room,
-        ap length o.loop.inv.front,
-        length-append o.loop.inv.text (text (drop o.loop.i tests)),
+        o.loop-i.invariant.room,
+        ap length o.loop-i.invariant.front,
+        length-append o.loop-i.invariant.text (text (drop o.loop-i.i tests)),
       )
 
-  size : length o.loop.page ≡ length start.args.page.now
-  size = ap length o.loop.inv.stored ∙ put_at-length start.args.at o.loop.inv.text start.args.page.now so_far
+  size : length o.loop-i.page ≡ length start.args.page.now
+  size = ap length o.loop-i.invariant.stored ∙ put_at-length start.args.at o.loop-i.invariant.text start.args.page.now so_far
 
-  module _ (more : o.loop.i < n) where
-    inside : o.loop.i < length tests
-    inside = omega (arith, length-take n start.args.diary.tests, o.loop.inv.twenty, o.loop.inv.few)
+  module _ (more : o.loop-i.i < n) where
+    inside : o.loop-i.i < length tests
+    inside = omega (arith, length-take n start.args.diary.tests, o.loop-i.invariant.twenty, o.loop-i.invariant.few)
 
     abbrev test : Test
-    test = get_or start.args.diary.tests o.loop.i no_test
+    test = get_or start.args.diary.tests o.loop-i.i no_test
 
     -- the next test, and those behind it
-    here : text (drop o.loop.i tests) ≡ text (test ∷ []) ++ text (drop (o.loop.i + 1) tests)
+    here : text (drop o.loop-i.i tests) ≡ text (test ∷ []) ++ text (drop (o.loop-i.i + 1) tests)
     here =
         ap text
-        (test-next tests no_test o.loop.i inside
-        ∙ ap (λ t. t ∷ drop (o.loop.i + 1) tests) (get_or-take n start.args.diary.tests o.loop.i no_test more))
-        ∙ tests-next start.args.head start.args.d test (drop (o.loop.i + 1) tests)
+        (test-next tests no_test o.loop-i.i inside
+        ∙ ap (λ t. t ∷ drop (o.loop-i.i + 1) tests) (get_or-take n start.args.diary.tests o.loop-i.i no_test more))
+        ∙ tests-next start.args.head start.args.d test (drop (o.loop-i.i + 1) tests)
 
-    room_for : start.args.at + length o.loop.inv.text + length (text (test ∷ [])) ≤ length start.args.page.now
+    room_for : start.args.at + length o.loop-i.invariant.text + length (text (test ∷ [])) ≤ length start.args.page.now
     room_for =
         omega (
           arith,
-          o.loop.inv.room,
-          ap length o.loop.inv.front,
-          length-append o.loop.inv.text (text (drop o.loop.i tests)),
+          o.loop-i.invariant.room,
+          ap length o.loop-i.invariant.front,
+          length-append o.loop-i.invariant.text (text (drop o.loop-i.i tests)),
           ap length here,
-          length-append (text (test ∷ [])) (text (drop (o.loop.i + 1) tests)),
+          length-append (text (test ∷ [])) (text (drop (o.loop-i.i + 1) tests)),
         )
 
-loop-again : tie.Need-loop-preserved invariant-loop decreases-loop
+loop-again : tie.Need-loop-i-preserved invariant-loop decreases-loop
 loop-again c =
     let put = c.before.before in
     let o = put.before.before.before.before in
     let s = start o in
-    let more = put.before.before.before.loop-test.true in
+    let more = put.loop-i-test.true in
     let line = text o (test o more ∷ []) in
-    let so = o.loop.invariant.text in
-    let left = text o (drop (o.loop.i + 1) (tests o)) in
+    let so = o.loop-i.invariant.text in
+    let left = text o (drop (o.loop-i.i + 1) (tests o)) in
     record {
       upto = omega arith;
-      few = o.loop.invariant.few;
-      twenty = o.loop.invariant.twenty;
-      room = o.loop.invariant.room;
+      few = o.loop-i.invariant.few;
+      twenty = o.loop-i.invariant.twenty;
+      room = o.loop-i.invariant.room;
       text = so ++ line;
-      front = append_assoc so line left ∙ ap (λ l. so ++ l) (sym (here o more)) ∙ o.loop.invariant.front;
-      next = omega (arith, put.put-test.ensures.0, o.loop.invariant.next, length-append so line);
-      stored = put.put-test.ensures.1
-          ∙ ap₂ (λ at page. put_at at line page) o.loop.invariant.next o.loop.invariant.stored
+      front = append_assoc so line left ∙ ap (λ l. so ++ l) (sym (here o more)) ∙ o.loop-i.invariant.front;
+      next = omega (arith, put.put_test-place.ensures.0, o.loop-i.invariant.next, length-append so line);
+      stored = put.put_test-place.ensures.1
+          ∙ ap₂ (λ at page. put_at at line page) o.loop-i.invariant.next o.loop-i.invariant.stored
           ∙ put_at-next s.args.at so s.args.page.now (so_far o) line (room_for o more);
     }
 
@@ -103,26 +103,27 @@ returns : tie.Need-returns invariant-loop decreases-loop
 returns c =
     let o = c.before in
     let s = start o in
-    let over : length (tests o) ≤ o.loop.i = omega (arith, length-take (n o) s.args.diary.tests, c.loop-test.false) in
+    let over : length (tests o) ≤ o.loop-i.i = omega (arith, length-take (n o) s.args.diary.tests, c.loop-i-test.false) in
     let none = ap (text o) (drop_of_length-le (tests o) over) ∙ tests-none s.args.head s.args.d in
-    let whole : tests o ≡ tests_of s.args.diary = ap (λ k. take k s.args.diary.tests) o.before.before.counted.ensures
+    let whole : tests o ≡ tests_of s.args.diary = ap (λ k. take k s.args.diary.tests) o.counted-n.ensures
     ∙ first-twenty s.args.diary.count s.args.diary.tests (twenty s) in
-    let is : o.loop.invariant.text ≡ text o (tests_of s.args.diary) =
-    sym (append-nil o.loop.invariant.text) ∙ ap (λ l. o.loop.invariant.text ++ l) (sym none) ∙ o.loop.invariant.front ∙ ap (text o) whole in (
-      o.loop.invariant.next ∙ ap (λ l. s.args.at + length l) is,
-      o.loop.invariant.stored ∙ ap (λ l. put_at s.args.at l s.args.page.now) is,
+    let is : o.loop-i.invariant.text ≡ text o (tests_of s.args.diary) =
+    sym (append-nil o.loop-i.invariant.text) ∙ ap (λ l. o.loop-i.invariant.text ++ l) (sym none) ∙ o.loop-i.invariant.front
+    ∙ ap (text o) whole in (
+      o.loop-i.invariant.next ∙ ap (λ l. s.args.at + length l) is,
+      o.loop-i.invariant.stored ∙ ap (λ l. put_at s.args.at l s.args.page.now) is,
     )
 
-loop-holds : tie.Need-loop-init invariant-loop decreases-loop
+loop-holds : tie.Need-loop-i-init invariant-loop decreases-loop
 loop-holds c =
     let s = c.before.before.before in
-    let k = c.before.counted.result in
+    let k = c.counted-n.result in
     let whole : take k s.args.diary.tests ≡ tests_of s.args.diary =
-    ap (λ k. take k s.args.diary.tests) c.before.counted.ensures
+    ap (λ k. take k s.args.diary.tests) c.counted-n.ensures
     ∙ first-twenty s.args.diary.count s.args.diary.tests (twenty s) in
     record {
       upto = omega arith;
-      few = omega (arith, c.before.counted.ensures);
+      few = omega (arith, c.counted-n.ensures);
       twenty = twenty s;
       room = rw whole s.requires;
       text = [];
@@ -135,9 +136,9 @@ pub put_tests_spec : {M : Type 1} → statement M
 put_tests_spec =
     tie.close (tie.spec
     invariant-loop decreases-loop (λ c κs. search rules) loop-holds
-    (λ c. search rules) (λ c. omega (arith, c.before.before.loop.invariant.few, c.before.before.loop.invariant.twenty))
+    (λ c. search rules) (λ c. omega (arith, c.loop-i.invariant.few, c.loop-i.invariant.twenty))
     (λ c κs.
     let o = c.before.before.before in
-    omega (arith, room_for o c.before.before.loop-test.true, size o, o.loop.invariant.next))
-    (λ c. omega (arith, c.before.before.before.before.before.before.loop.invariant.few)) (λ c. omega arith) loop-again
+    omega (arith, room_for o c.loop-i-test.true, size o, o.loop-i.invariant.next))
+    (λ c. omega (arith, c.loop-i.invariant.few)) (λ c. omega arith) loop-again
     (λ c. size c.before) returns)

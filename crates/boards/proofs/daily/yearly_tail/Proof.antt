@@ -12,7 +12,7 @@ unfolding yearly_tail bytes_of worded_in yearly_text digits places_of
 returns c =
     let three = c.before in
     let two = three.before.before in
-    rw (two.before.figure.ensures, two.figure2.ensures, three.figure3.ensures, c.figure4.ensures)
+    rw (two.figure.ensures, two.figure-2.ensures, three.figure-3.ensures, c.figure-4.ensures)
 
 pub yearly_tail_spec : {M : Type 1} → statement M
 yearly_tail_spec =

@@ -5,4 +5,4 @@ use Rattle.boards.proofs.entered.behind.Tie as tie
 
 pub behind_spec : {M : Type 1} → statement M
 behind_spec =
-    tie.close (tie.spec (λ c. search rules) (λ c. rw (lt-ltb _ _ c.if1.true)) (λ c. rw (le-ltb _ _ c.if1.false)))
+    tie.close (tie.spec (λ c. search rules) (λ c. rw (lt-ltb _ _ c.if-end-length.true)) (λ c. rw (le-ltb _ _ c.if-end-length.false)))

@@ -16,45 +16,45 @@ unfolding noted_from
 early (which-yearly.Is d) ended j f at = refl
 early (which-yearly.Refused g to) ended j f at = refl
 
-returns : tie.Need-returns
+returns : tie.Need-returns-then-not-ended
 unfolding noted_from
 returns c =
-    let dated = c.before.before in
-    let said = dated.before.before.before in
-    rw (dated.on2.given.1, said.said2.given.1, not-true said.before.before.args.ended c.if1.true)
+    let dated = c.before in
+    let said = dated.before in
+    rw (dated.in-Is-on.is, said.in-Is.is, not-true said.args.ended c.if-not-ended.true-raw)
 
-returns-2 : tie.Need-returns-2
+returns-2 : tie.Need-returns-then-place-gt20
 unfolding noted_from
 returns-2 c =
-    let dated = c.before.before.before in
-    let said = dated.before.before.before in
+    let dated = c.before.before in
+    let said = dated.before in
     rw (
-      dated.on2.given.1,
-      said.said2.given.1,
-      not-false said.before.before.args.ended c.before.if1.false,
-      lt-leb _ _ c.if2.true,
+      dated.in-Is-on.is,
+      said.in-Is.is,
+      not-false said.args.ended c.if-not-ended.false-raw,
+      lt-leb _ _ c.if-place-gt20.true,
     )
 
-returns-3 : tie.Need-returns-3
+returns-3 : tie.Need-returns-in-Refused
 unfolding noted_from
 returns-3 c =
-    let g = c.before.before.before.args in
-    rw c.before.said.given.1 (early g.on g.ended g.place _ _)
+    let g = c.args in
+    rw c.in-Refused.is (early g.on g.ended g.place _ _)
 
-returns-4 : tie.Need-returns-4
+returns-4 : tie.Need-returns-in-Refused-on
 unfolding noted_from
-returns-4 c = rw (c.before.on.given.1, c.before.before.before.before.said2.given.1)
+returns-4 c = rw (c.in-Refused-on.is, c.in-Is.is)
 
-returns-5 : tie.Need-returns-5
+returns-5 : tie.Need-returns-else-place-gt20
 unfolding noted_from
 returns-5 c =
-    let dated = c.before.before.before in
-    let said = dated.before.before.before in
+    let dated = c.before.before in
+    let said = dated.before in
     rw (
-      dated.on2.given.1,
-      said.said2.given.1,
-      not-false said.before.before.args.ended c.before.if1.false,
-      le-leb _ _ c.if2.false,
+      dated.in-Is-on.is,
+      said.in-Is.is,
+      not-false said.args.ended c.if-not-ended.false-raw,
+      le-leb _ _ c.if-place-gt20.false,
     )
 
 pub formed_spec : {M : Type 1} → statement M

@@ -10,7 +10,7 @@ use Rattle.boards.specs.{declared.Test.Test, declared.Filled.Filled, Board.tests
 use Rattle.boards.proofs.{InPlace.{put_at-length, put_at-next, put_at-none}, Fitting.fitted-within, FromStints.{none_left, numbers-end, stint-next, passed_over, no-days, uses-none, cut_short, stint-passed, fits-calendar, days-are, run-most, days-most}, paging.board_page.Statement.statement}
 use Rattle.boards.proofs.paging.board_page.Tie as tie
 
-abbrev invariant-loop : tie.invariant-loop
+abbrev invariant-loop : tie.invariant-loop-i
 invariant-loop list page₀ start stints diary day₀ skip₀ at₀ days₀ i₀ page day skip at days i =
     record {
       upto : i ≤ stints;
@@ -25,7 +25,7 @@ invariant-loop list page₀ start stints diary day₀ skip₀ at₀ days₀ i₀
       stored : page ≡ put_at 0 text page₀;
     }
 
-abbrev decreases-loop : tie.decreases-loop
+abbrev decreases-loop : tie.decreases-loop-i
 decreases-loop list page₀ start stints diary day₀ skip₀ at₀ days₀ i₀ page day skip at days i = stints - i
 
 -- ---- What was asked for
@@ -78,36 +78,36 @@ module _ (s : tie.Start invariant-loop decreases-loop) where
 
 -- ---- So far
 
-module _ (o : tie.At-loop invariant-loop decreases-loop) where
+module _ (o : tie.At-loop-i invariant-loop decreases-loop) where
   abbrev start : tie.Start invariant-loop decreases-loop
   start = o.before.before.before.before.before.before.before.before
 
   abbrev left : List Use
-  left = uses_in (list start) o.loop.i (start.args.b.stints - o.loop.i)
+  left = uses_in (list start) o.loop-i.i (start.args.b.stints - o.loop-i.i)
 
-  size : length o.loop.page ≡ length (page₀ start)
-  size = ap length o.loop.inv.stored ∙ put_at-length 0 o.loop.inv.text (page₀ start) o.loop.inv.room
+  size : length o.loop-i.page ≡ length (page₀ start)
+  size = ap length o.loop-i.invariant.stored ∙ put_at-length 0 o.loop-i.invariant.text (page₀ start) o.loop-i.invariant.room
 
   -- no stint is left
   closed : left ≡ []
-      → Given start (record { days = o.loop.days; length = o.loop.at }) o.loop.page
+      → Given start (record { days = o.loop-i.days; length = o.loop-i.at }) o.loop-i.page
   closed none =
-      let none-fit = uses-none (tests start) (length (page₀ start) - o.loop.at) o.loop.day o.loop.skip left none in
-      ended start o.loop.inv.text o.loop.page o.loop.days o.loop.at
-      (sym (append-nil o.loop.inv.text) ∙ ap (λ l. o.loop.inv.text ++ l) (sym none-fit.0) ∙ o.loop.inv.front)
-      (omega (arith, none-fit.1, o.loop.inv.so_far)) o.loop.inv.next o.loop.inv.stored
+      let none-fit = uses-none (tests start) (length (page₀ start) - o.loop-i.at) o.loop-i.day o.loop-i.skip left none in
+      ended start o.loop-i.invariant.text o.loop-i.page o.loop-i.days o.loop-i.at
+      (sym (append-nil o.loop-i.invariant.text) ∙ ap (λ l. o.loop-i.invariant.text ++ l) (sym none-fit.0) ∙ o.loop-i.invariant.front)
+      (omega (arith, none-fit.1, o.loop-i.invariant.so_far)) o.loop-i.invariant.next o.loop-i.invariant.stored
 
 -- ---- The next stint
 
-module _ (p : tie.After-put-days invariant-loop decreases-loop) where
-  abbrev at : tie.At-loop invariant-loop decreases-loop
+module _ (p : tie.After-put_days-filled invariant-loop decreases-loop) where
+  abbrev at : tie.At-loop-i invariant-loop decreases-loop
   at = p.before.before.before.before.before.before.before
 
   abbrev s : tie.Start invariant-loop decreases-loop
   s = start at
 
   abbrev i : ℕ
-  i = at.loop.i
+  i = at.loop-i.i
 
   abbrev found : Stint
   found = stint_at (list s) i
@@ -119,176 +119,176 @@ module _ (p : tie.After-put-days invariant-loop decreases-loop) where
   used = found.used
 
   abbrev stay : ℕ
-  stay = long - at.loop.skip
+  stay = long - at.loop-i.skip
 
   abbrev rest : List Use
-  rest = drop (at.loop.skip - long) (uses_in (list s) (i + 1) (s.args.b.stints - (i + 1)))
+  rest = drop (at.loop-i.skip - long) (uses_in (list s) (i + 1) (s.args.b.stints - (i + 1)))
 
   abbrev room : ℕ
-  room = length (page₀ s) - at.loop.at
+  room = length (page₀ s) - at.loop-i.at
 
   abbrev run : List Use
-  run = replicate (min stay (last_day + 1 - at.loop.day)) used
+  run = replicate (min stay (last_day + 1 - at.loop-i.day)) used
 
   more : i < s.args.b.stints
-  more = p.before.before.before.before.before.before.loop-test.taken
+  more = p.loop-i-test.true
 
-  here : drop at.loop.skip (left at) ≡ replicate stay used ++ rest
+  here : drop at.loop-i.skip (left at) ≡ replicate stay used ++ rest
   here =
-      ap (drop at.loop.skip)
+      ap (drop at.loop-i.skip)
       (stint-next (list s) s.args.b.stints i more)
-      ∙ passed_over long at.loop.skip used _
+      ∙ passed_over long at.loop-i.skip used _
 
-  stint-is : p.before.before.before.before.stint-at.result ≡ found
-  stint-is = p.before.before.before.before.stint-at.ensures.0
+  stint-is : p.stint_at-stint.result ≡ found
+  stint-is = p.stint_at-stint.ensures.0
 
-  left_is : p.before.before.before.less.result ≡ stay
-  left_is = p.before.before.before.less.ensures ∙ ap (λ (f : Stint). f.length.0 - at.loop.skip) stint-is
+  left_is : p.less-left.result ≡ stay
+  left_is = p.less-left.ensures ∙ ap (λ (f : Stint). f.length.0 - at.loop-i.skip) stint-is
 
-  asked : replicate p.before.smaller.result p.before.before.before.before.stint-at.result.used ≡ run
+  asked : replicate p.smaller.result p.stint_at-stint.result.used ≡ run
   asked =
-      ap₂ replicate (p.before.smaller.ensures ∙ ap (λ n. min n (last_day + 1 - at.loop.day)) left_is)
+      ap₂ replicate (p.smaller.ensures ∙ ap (λ n. min n (last_day + 1 - at.loop-i.day)) left_is)
       (ap (λ (f : Stint). f.used) stint-is)
 
-  days-said : p.put-days.result.days ≡ days_fitted room at.loop.day (tests s) run
+  days-said : p.put_days-filled.result.days ≡ days_fitted room at.loop-i.day (tests s) run
   days-said =
-      p.put-days.ensures.0
-      ∙ ap₂ (λ n us. days_fitted (n - at.loop.at) at.loop.day (tests s) us) (size at) asked
+      p.put_days-filled.ensures.0
+      ∙ ap₂ (λ n us. days_fitted (n - at.loop-i.at) at.loop-i.day (tests s) us) (size at) asked
 
-  text-said : fitted (length at.loop.page - at.loop.at) at.loop.day (tests s)
-      (replicate p.before.smaller.result p.before.before.before.before.stint-at.result.used)
-      ≡ fitted room at.loop.day (tests s) run
-  text-said = ap₂ (λ n us. fitted (n - at.loop.at) at.loop.day (tests s) us) (size at) asked
+  text-said : fitted (length at.loop-i.page - at.loop-i.at) at.loop-i.day (tests s)
+      (replicate p.smaller.result p.stint_at-stint.result.used)
+      ≡ fitted room at.loop-i.day (tests s) run
+  text-said = ap₂ (λ n us. fitted (n - at.loop-i.at) at.loop-i.day (tests s) us) (size at) asked
 
   abbrev text : List ℕ
-  text = fitted room at.loop.day (tests s) run
+  text = fitted room at.loop-i.day (tests s) run
 
-  long-said : p.put-days.result.length ≡ length text
-  long-said = p.put-days.ensures.1.0 ∙ ap length text-said
+  long-said : p.put_days-filled.result.length ≡ length text
+  long-said = p.put_days-filled.ensures.1.0 ∙ ap length text-said
 
-  text-fits : 0 + length at.loop.inv.text + length text ≤ length (page₀ s)
-  text-fits = omega (arith, fitted-within (tests s) room at.loop.day run, at.loop.inv.room, at.loop.inv.next)
+  text-fits : 0 + length at.loop-i.invariant.text + length text ≤ length (page₀ s)
+  text-fits = omega (arith, fitted-within (tests s) room at.loop-i.day run, at.loop-i.invariant.room, at.loop-i.invariant.next)
 
-  put : p.put-days.last.0 ≡ put_at 0 (at.loop.inv.text ++ text) (page₀ s)
+  put : p.put_days-filled.new.page ≡ put_at 0 (at.loop-i.invariant.text ++ text) (page₀ s)
   put =
-      let place : at.loop.at ≡ 0 + length at.loop.inv.text = omega (arith, at.loop.inv.next) in
-      p.put-days.ensures.1.1
-      ∙ ap (λ t. put_at at.loop.at t at.loop.page) text-said
-      ∙ ap₂ (λ n page. put_at n text page) place at.loop.inv.stored
-      ∙ put_at-next 0 at.loop.inv.text (page₀ s) at.loop.inv.room text text-fits
+      let place : at.loop-i.at ≡ 0 + length at.loop-i.invariant.text = omega (arith, at.loop-i.invariant.next) in
+      p.put_days-filled.ensures.1.1
+      ∙ ap (λ t. put_at at.loop-i.at t at.loop-i.page) text-said
+      ∙ ap₂ (λ n page. put_at n text page) place at.loop-i.invariant.stored
+      ∙ put_at-next 0 at.loop-i.invariant.text (page₀ s) at.loop-i.invariant.room text text-fits
 
-  put-size : length p.put-days.last.0 ≡ length (page₀ s)
+  put-size : length p.put_days-filled.new.page ≡ length (page₀ s)
   put-size =
       ap length put
-      ∙ put_at-length 0 (at.loop.inv.text ++ text) (page₀ s) (omega (arith, text-fits, length-append at.loop.inv.text text))
+      ∙ put_at-length 0 (at.loop-i.invariant.text ++ text) (page₀ s) (omega (arith, text-fits, length-append at.loop-i.invariant.text text))
 
-  long-next : at.loop.at + p.put-days.result.length ≡ length (at.loop.inv.text ++ text)
-  long-next = omega (arith, at.loop.inv.next, long-said, length-append at.loop.inv.text text)
+  long-next : at.loop-i.at + p.put_days-filled.result.length ≡ length (at.loop-i.invariant.text ++ text)
+  long-next = omega (arith, at.loop-i.invariant.next, long-said, length-append at.loop-i.invariant.text text)
 
   -- no number is too large
-  days-fit : at.loop.days + p.put-days.result.days ≤ 292194
+  days-fit : at.loop-i.days + p.put_days-filled.result.days ≤ 292194
   days-fit =
       omega (
         arith,
         days-said,
-        run-most (tests s) room at.loop.day stay (last_day + 1 - at.loop.day) used,
-        at.loop.inv.so_far,
+        run-most (tests s) room at.loop-i.day stay (last_day + 1 - at.loop-i.day) used,
+        at.loop-i.invariant.so_far,
         days-most (tests s) (length (page₀ s)) (first s) (drop s.args.from.0 (uses_in (list s) 0 s.args.b.stints)),
       )
 
   abbrev ahead : List Use
-  ahead = in_calendar at.loop.day (drop at.loop.skip (left at))
+  ahead = in_calendar at.loop-i.day (drop at.loop-i.skip (left at))
 
   -- not all of its days were put
-  module _ (less : p.put-days.result.days < p.before.before.before.less.result) where
-    some : (fitted room at.loop.day (tests s) ahead ≡ text)
-        × (days_fitted room at.loop.day (tests s) ahead ≡ p.put-days.result.days)
+  module _ (less : p.put_days-filled.result.days < p.less-left.result) where
+    some : (fitted room at.loop-i.day (tests s) ahead ≡ text)
+        × (days_fitted room at.loop-i.day (tests s) ahead ≡ p.put_days-filled.result.days)
     some =
-        let cut = cut_short (tests s) room at.loop.day stay used rest at.loop.inv.there
+        let cut = cut_short (tests s) room at.loop-i.day stay used rest at.loop-i.invariant.there
         (omega (arith, days-said, less, left_is)) in (
-          ap (λ us. fitted room at.loop.day (tests s) (in_calendar at.loop.day us)) here ∙ cut.0,
-          ap (λ us. days_fitted room at.loop.day (tests s) (in_calendar at.loop.day us)) here ∙ cut.1 ∙ sym days-said,
+          ap (λ us. fitted room at.loop-i.day (tests s) (in_calendar at.loop-i.day us)) here ∙ cut.0,
+          ap (λ us. days_fitted room at.loop-i.day (tests s) (in_calendar at.loop-i.day us)) here ∙ cut.1 ∙ sym days-said,
         )
 
     stopped :
-        Given s (record { days = at.loop.days + p.put-days.result.days; length = at.loop.at + p.put-days.result.length })
-        p.put-days.last.0
+        Given s (record { days = at.loop-i.days + p.put_days-filled.result.days; length = at.loop-i.at + p.put_days-filled.result.length })
+        p.put_days-filled.new.page
     stopped =
-        ended s (at.loop.inv.text ++ text) p.put-days.last.0 (at.loop.days + p.put-days.result.days)
-        (at.loop.at + p.put-days.result.length)
-        (ap (λ t. at.loop.inv.text ++ t) (sym some.0) ∙ at.loop.inv.front)
-        (omega (arith, some.1, at.loop.inv.so_far)) long-next put
+        ended s (at.loop-i.invariant.text ++ text) p.put_days-filled.new.page (at.loop-i.days + p.put_days-filled.result.days)
+        (at.loop-i.at + p.put_days-filled.result.length)
+        (ap (λ t. at.loop-i.invariant.text ++ t) (sym some.0) ∙ at.loop-i.invariant.front)
+        (omega (arith, some.1, at.loop-i.invariant.so_far)) long-next put
 
   -- all were
-  module _ (all : p.before.before.before.less.result ≤ p.put-days.result.days) where
-    every-day : stay ≤ days_fitted room at.loop.day (tests s) run
+  module _ (all : p.less-left.result ≤ p.put_days-filled.result.days) where
+    every-day : stay ≤ days_fitted room at.loop-i.day (tests s) run
     every-day = omega (arith, days-said, all, left_is)
 
-    still : at.loop.day + p.before.before.before.less.result ≤ last_day + 1
+    still : at.loop-i.day + p.less-left.result ≤ last_day + 1
     still =
         omega (
           arith,
-          fits-calendar (tests s) room at.loop.day stay used rest at.loop.inv.there every-day,
+          fits-calendar (tests s) room at.loop-i.day stay used rest at.loop-i.invariant.there every-day,
           left_is,
-          at.loop.inv.there,
+          at.loop-i.invariant.there,
         )
 
-    days-is : p.put-days.result.days ≡ stay
-    days-is = days-said ∙ days-are (tests s) room at.loop.day stay used rest at.loop.inv.there every-day
+    days-is : p.put_days-filled.result.days ≡ stay
+    days-is = days-said ∙ days-are (tests s) room at.loop-i.day stay used rest at.loop-i.invariant.there every-day
 
 -- the list has a place for it, so its number is small
-small : (e : tie.Else3 invariant-loop decreases-loop) → e.before.before.loop.i + 1 ≤ 18446744073709551615
-small e = omega (arith, e.if3.false)
+small : (e : tie.Else-list-i invariant-loop decreases-loop) → e.loop-i.i + 1 ≤ 18446744073709551615
+small e = omega (arith, e.if-list-i.false)
 
 -- where the part of the page is lent
-abbrev standing : tie.After-put-days-arg invariant-loop decreases-loop → tie.At-loop invariant-loop decreases-loop
+abbrev standing : tie.After-put_days-arg-1 invariant-loop decreases-loop → tie.At-loop-i invariant-loop decreases-loop
 standing a = a.before.before.before.before.before
 
-ready : tie.Need-put-days-requires invariant-loop decreases-loop
+ready : tie.Need-put_days-filled-requires invariant-loop decreases-loop
 ready c κs =
     let o = standing c.before in
-    (omega (arith, size o, o.loop.inv.room, o.loop.inv.next), omega (arith, c.smaller.ensures, o.loop.inv.there))
+    (omega (arith, size o, o.loop-i.invariant.room, o.loop-i.invariant.next), omega (arith, c.smaller.ensures, o.loop-i.invariant.there))
 
-loop-again : tie.Need-loop-preserved invariant-loop decreases-loop
+loop-again : tie.Need-loop-i-preserved invariant-loop decreases-loop
 loop-again c =
     let p = c.before.before.before.before.before.before.before in
     let o = at p in
-    let all : p.before.before.before.less.result ≤ p.put-days.result.days = omega (arith, c.before.if4.false) in
-    let onward = stint-passed (tests (s p)) (room p) o.loop.day (stay p) (used p) (rest p) o.loop.inv.there (every-day p all) in
-    let so = o.loop.inv.text in
-    let new = (at p).loop.at + p.put-days.result.length in
-    let day = o.loop.day + p.before.before.before.less.result in
-    let day-is : o.loop.day + stay p ≡ day = omega (arith, left_is p) in
+    let all : p.less-left.result ≤ p.put_days-filled.result.days = omega (arith, c.if-filled-left.false) in
+    let onward = stint-passed (tests (s p)) (room p) o.loop-i.day (stay p) (used p) (rest p) o.loop-i.invariant.there (every-day p all) in
+    let so = o.loop-i.invariant.text in
+    let new = (at p).loop-i.at + p.put_days-filled.result.length in
+    let day = o.loop-i.day + p.less-left.result in
+    let day-is : o.loop-i.day + stay p ≡ day = omega (arith, left_is p) in
     let room-is : room p - length (text p) ≡ length (page₀ (s p)) - new = omega (arith, long-said p) in
-    let skip_is : o.loop.skip - long p ≡ c.less2.result =
-    sym (c.less2.ensures ∙ ap (λ (f : Stint). o.loop.skip - f.length.0) (stint-is p)) in
-    let after = in_calendar day (drop c.less2.result (uses_in (list (s p)) (i p + 1) ((s p).args.b.stints - (i p + 1)))) in
+    let skip_is : o.loop-i.skip - long p ≡ c.less-skip.result =
+    sym (c.less-skip.ensures ∙ ap (λ (f : Stint). o.loop-i.skip - f.length.0) (stint-is p)) in
+    let after = in_calendar day (drop c.less-skip.result (uses_in (list (s p)) (i p + 1) ((s p).args.b.stints - (i p + 1)))) in
     let left = length (page₀ (s p)) - new in
-    let text-more : fitted (room p) o.loop.day (tests (s p)) (ahead p) ≡ text p ++ fitted left day (tests (s p)) after =
-    ap (λ us. fitted (room p) o.loop.day (tests (s p)) (in_calendar o.loop.day us)) (here p) ∙ onward.0
+    let text-more : fitted (room p) o.loop-i.day (tests (s p)) (ahead p) ≡ text p ++ fitted left day (tests (s p)) after =
+    ap (λ us. fitted (room p) o.loop-i.day (tests (s p)) (in_calendar o.loop-i.day us)) (here p) ∙ onward.0
     ∙ rw (room-is, day-is, skip_is) in
-    let days-more : days_fitted (room p) o.loop.day (tests (s p)) (ahead p) ≡ stay p + days_fitted left day (tests (s p)) after =
-    ap (λ us. days_fitted (room p) o.loop.day (tests (s p)) (in_calendar o.loop.day us)) (here p) ∙ onward.1
+    let days-more : days_fitted (room p) o.loop-i.day (tests (s p)) (ahead p) ≡ stay p + days_fitted left day (tests (s p)) after =
+    ap (λ us. days_fitted (room p) o.loop-i.day (tests (s p)) (in_calendar o.loop-i.day us)) (here p) ∙ onward.1
     ∙ rw (room-is, day-is, skip_is) in
     record {
       upto = omega (arith, more p);
       there = still p all;
       text = so ++ text p;
       room = omega (arith, text-fits p, length-append so (text p));
-      front = append_assoc so (text p) _ ∙ ap (λ l. so ++ l) (sym text-more) ∙ o.loop.inv.front;
-      so_far = omega (arith, days-more, days-is p all, o.loop.inv.so_far);
+      front = append_assoc so (text p) _ ∙ ap (λ l. so ++ l) (sym text-more) ∙ o.loop-i.invariant.front;
+      so_far = omega (arith, days-more, days-is p all, o.loop-i.invariant.so_far);
       next = long-next p;
       stored = put p;
     }
 
-loop-holds : tie.Need-loop-init invariant-loop decreases-loop
+loop-holds : tie.Need-loop-i-init invariant-loop decreases-loop
 loop-holds c =
     let s = c.before.before.before.before.before.before.before in
     let none : length (page₀ s) - 0 ≡ length (page₀ s) = omega arith in
     let all : s.args.b.stints - 0 ≡ s.args.b.stints = omega arith in
     record {
       upto = omega arith;
-      there = omega (arith, c.before.if2.false, c.before.before.before.if1.false);
+      there = omega (arith, c.if-start-from.false, c.if-start-gt-LAST_DAY.false);
       text = [];
       room = omega arith;
       front = rw (none, all);
@@ -301,26 +301,26 @@ pub board_page_spec : {M : Type 1} → statement M
 board_page_spec =
     tie.close (tie.spec
     invariant-loop decreases-loop
-    (λ c. nothing c.before.before.before.before (omega (arith, c.if1.true)))
-    (λ c. nothing c.before.before.before.before.before.before (omega (arith, c.if2.true, c.before.before.if1.false)))
-    (λ c. omega (arith, c.before.if2.false)) loop-holds (λ c. size c.before.before)
-    (λ c. closed c.before.before (numbers-end (list (start c.before.before)) c.before.before.loop.i _ c.if3.true))
+    (λ c. nothing c.before.before.before.before (omega (arith, c.if-start-gt-LAST_DAY.true)))
+    (λ c. nothing c.before.before.before.before.before.before (omega (arith, c.if-start-from.true, c.if-start-gt-LAST_DAY.false)))
+    (λ c. omega (arith, c.if-start-from.false)) loop-holds (λ c. size c.before.before)
+    (λ c. closed c.before.before (numbers-end (list (start c.before.before)) c.loop-i.i _ c.if-list-i.true))
     (λ c κs. search rules) (λ c κs. search rules)
-    (λ c. search rules) (λ c. omega (arith, (standing c).loop.invariant.there)) (λ c κs. search rules) ready
+    (λ c. search rules) (λ c. omega (arith, (standing c).loop-i.invariant.there)) (λ c κs. search rules) ready
     (λ c. omega (
       arith,
       long-next c.before.before.before,
       text-fits c.before.before.before,
-      length-append (at c.before.before.before).loop.inv.text (text c.before.before.before),
-      (start (at c.before.before.before)).good,
+      length-append (at c.before.before.before).loop-i.invariant.text (text c.before.before.before),
+      (start (at c.before.before.before)).well_formed,
     ))
     (λ c. omega (arith, days-fit c.before.before.before.before)) (λ c. search rules)
     (λ c. put-size c.before.before.before.before.before.before)
-    (λ c. stopped c.before.before.before.before.before.before c.if4.true)
-    (λ c. omega (arith, still c.before.before.before.before.before.before (omega (arith, c.if4.false)))) (λ c κs. search rules)
+    (λ c. stopped c.before.before.before.before.before.before c.if-filled-left.true)
+    (λ c. omega (arith, still c.before.before.before.before.before.before (omega (arith, c.if-filled-left.false)))) (λ c κs. search rules)
     (λ c. omega (arith, small c.before.before.before.before.before.before.before.before.before.before.before.before))
     (λ c. omega (arith, more c.before.before.before.before.before.before.before)) loop-again (λ c. size c.before)
-    (λ c. closed c.before (none_left (list (start c.before)) (start c.before).args.b.stints c.before.loop.i (omega (
+    (λ c. closed c.before (none_left (list (start c.before)) (start c.before).args.b.stints c.loop-i.i (omega (
       arith,
-      c.loop-test.false,
+      c.loop-i-test.false,
     )))))

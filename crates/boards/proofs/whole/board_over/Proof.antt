@@ -3,24 +3,24 @@ use Rattle.base.proofs.Prelude.{◌∙◌, rules}
 use Rattle.boards.proofs.{Deciding.{over-refused, over-lawful}, whole.board_over.Statement.statement}
 use Rattle.boards.proofs.whole.board_over.Tie as tie
 
-returns : tie.Need-returns
+returns : tie.Need-returns-in-Refused
 returns c =
-    let found = c.before.before in
-    let i = found.before.before.before in
-    let g = i.before.before.before.args in
-    let both = over-refused g.p g.rs g.input.now g.list.now i.input-read.result i.input-read.ensures.0 _ _
-    found.checked.given.1 in
-    (c.refused-board.ensures ∙ both.0, both.1)
+    let found = c.before in
+    let i = found.before.before in
+    let g = i.args in
+    let both = over-refused g.p g.rs g.input.now g.list.now i.input_read-read.result i.input_read-read.ensures.0 _ _
+    found.in-Refused.is in
+    (c.refused_board.ensures ∙ both.0, both.1)
 
-returns-2 : tie.Need-returns-2
+returns-2 : tie.Need-returns-in-Lawful
 returns-2 c =
     let w = c.before.before in
     let told = w.before.before in
-    let i = told.before.before.before in
-    let g = i.before.before.before.args in
-    let both = over-lawful g.p g.rs g.input.now g.list.now i.input-read.result i.input-read.ensures.0
-    told.enum_told.given.1 in
-    (w.board-with.ensures.0 ∙ both.0, w.board-with.ensures.1 ∙ both.1)
+    let i = told.before.before in
+    let g = i.args in
+    let both = over-lawful g.p g.rs g.input.now g.list.now i.input_read-read.result i.input_read-read.ensures.0
+    told.in-Lawful.is in
+    (w.board_with.ensures.0 ∙ both.0, w.board_with.ensures.1 ∙ both.1)
 
 pub board_over_spec : {M : Type 1} → statement M
 board_over_spec =

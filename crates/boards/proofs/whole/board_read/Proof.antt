@@ -3,24 +3,24 @@ use Rattle.base.proofs.Prelude.{refl, ◌∙◌, rules}
 use Rattle.boards.proofs.{Deciding.{file-refused, file-lawful}, whole.board_read.Statement.statement}
 use Rattle.boards.proofs.whole.board_read.Tie as tie
 
-returns : tie.Need-returns
+returns : tie.Need-returns-in-Refused
 returns c =
-    let found = c.before.before in
-    let r = found.before.before.before.before in
-    let g = r.before.before.before.before.args in
-    let both = file-refused g.plan.now g.input.now g.list.now r.read.result r.read.ensures.0 _ _
-    found.checked.given.1 in
-    (c.refused-board.ensures ∙ both.0, (both.1, (refl, refl)))
+    let found = c.before in
+    let r = found.before.before.before in
+    let g = r.args in
+    let both = file-refused g.plan.now g.input.now g.list.now r.read-reading.result r.read-reading.ensures.0 _ _
+    found.in-Refused.is in
+    (c.refused_board.ensures ∙ both.0, (both.1, (refl, refl)))
 
-returns-2 : tie.Need-returns-2
+returns-2 : tie.Need-returns-in-Lawful
 returns-2 c =
     let w = c.before.before in
     let told = w.before.before in
-    let r = told.before.before.before.before in
-    let g = r.before.before.before.before.args in
-    let both = file-lawful g.plan.now g.input.now g.list.now r.read.result r.read.ensures.0
-    told.enum_told.given.1 in
-    (w.board-over.ensures.0 ∙ both.0, (w.board-over.ensures.1 ∙ both.1, (refl, refl)))
+    let r = told.before.before.before in
+    let g = r.args in
+    let both = file-lawful g.plan.now g.input.now g.list.now r.read-reading.result r.read-reading.ensures.0
+    told.in-Lawful.is in
+    (w.board_over.ensures.0 ∙ both.0, (w.board_over.ensures.1 ∙ both.1, (refl, refl)))
 
 pub board_read_spec : {M : Type 1} → statement M
 board_read_spec =

@@ -4,24 +4,24 @@ use Rattle.boards.specs.inner.Walk.{board_ended}
 use Rattle.boards.proofs.{Deciding.{with-refused, with-listed}, whole.board_with.Statement.statement}
 use Rattle.boards.proofs.whole.board_with.Tie as tie
 
-returns : tie.Need-returns
+returns : tie.Need-returns-in-Refused
 returns c =
-    let q = c.before.before.before.before.before.before in
-    let g = q.before.before.before.args in (
-      c.refused-board.ensures
-          ∙ with-refused g.p g.rs g.start g.diary _ _ _ (sym q.stints.ensures.0 ∙ c.before.before.counted.given.1),
-      q.stints.ensures.1,
+    let q = c.before.before.before.before in
+    let g = q.args in (
+      c.refused_board.ensures
+          ∙ with-refused g.p g.rs g.start g.diary _ _ _ (sym q.stints-counted.ensures.0 ∙ c.in-Refused.is),
+      q.stints-counted.ensures.1,
     )
 
-returns-2 : tie.Need-returns-2
+returns-2 : tie.Need-returns-in-Listed
 returns-2 c =
-    let told = c.before.before.before in
-    let q = told.before.before.before.before in
-    let g = q.before.before.before.args in (
+    let told = c.before.before in
+    let q = told.before.before.before in
+    let g = q.args in (
       c.ended.ensures
-          ∙ ap (board_ended g.start g.diary _) c.before.run.ensures
-          ∙ with-listed g.p g.rs g.start g.diary _ _ (sym q.stints.ensures.0 ∙ told.counted2.given.1),
-      q.stints.ensures.1,
+          ∙ ap (board_ended g.start g.diary _) c.run.ensures
+          ∙ with-listed g.p g.rs g.start g.diary _ _ (sym q.stints-counted.ensures.0 ∙ told.in-Listed.is),
+      q.stints-counted.ensures.1,
     )
 
 pub board_with_spec : {M : Type 1} → statement M

@@ -7,7 +7,7 @@ use Rattle.matching.proofs.likes.are_alike.Statement.{statement}
 use Rattle.matching.proofs.likes.are_alike.Tie as tie
 
 -- where all tests are passed, the first lies far back
-abbrev first : tie.Else6 → tie.Else1
+abbrev first : tie.Else-s-u-6 → tie.Else-s-u
 first c = c.before.before.before.before.before.before.before.before.before.before.before.before.before.before.before
 
 pub are_alike_spec : {M : Type 1} → statement M
@@ -19,4 +19,4 @@ are_alike_spec =
     (λ c. sym (alike-not _ _ (λ same. omega (arith, ap (λ (s : BatteryString). s.x) same))))
     (λ c. sym (alike-not _ _ (λ same. omega (arith, ap (λ (s : BatteryString). s.a.0) same))))
     (λ c. sym (alike-not _ _ (λ same. omega (arith, ap (λ (s : BatteryString). s.j.0) same))))
-    (λ c. sym (like-yes _ _ (omega (arith, (first c).if1.false)) (omega arith) (omega arith) (omega arith) (omega arith) (omega arith))))
+    (λ c. sym (like-yes _ _ (omega (arith, (first c).if-s-u.false)) (omega arith) (omega arith) (omega arith) (omega arith) (omega arith))))

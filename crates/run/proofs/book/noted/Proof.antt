@@ -3,16 +3,16 @@ use Rattle.base.proofs.Prelude.{sym, ◌∙◌, rules}
 use Rattle.run.proofs.{Booking.{noted-on, noted-anew}, book.noted.Statement.statement}
 use Rattle.run.proofs.book.noted.Tie as tie
 
-returns : tie.Need-returns
+returns : tie.Need-returns-then-same_use
 returns c =
     let o = c.before.before.before in
-    noted-on _ _ _ (sym o.before.same-use.ensures ∙ o.if1.true)
+    noted-on _ _ _ (sym o.same_use.ensures ∙ o.if-same_use.true)
 
-returns-2 : tie.Need-returns-2
+returns-2 : tie.Need-returns
 returns-2 c =
     let k = c.before.before in
     let o = k.before.before in
-    noted-anew _ _ _ (sym o.before.same-use.ensures ∙ o.if1.false) _ _ k.close.ensures.0 k.close.ensures.1
+    noted-anew _ _ _ (sym o.same_use.ensures ∙ o.if-same_use.false) _ _ k.close-finished.ensures.0 k.close-finished.ensures.1
 
 pub noted_spec : {M : Type 1} → statement M
 noted_spec =

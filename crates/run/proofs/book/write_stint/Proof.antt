@@ -6,11 +6,11 @@ use Rattle.run.proofs.book.write_stint.Tie as tie
 pub write_stint_spec : {M : Type 1} → statement M
 write_stint_spec =
     tie.close (tie.spec
-    (λ c. search rules) (λ c. search rules) (λ c. stint-not-stored _ _ _ c.if1.true) (λ c. search rules)
+    (λ c. search rules) (λ c. search rules) (λ c. stint-not-stored _ _ _ c.if-list-at.true) (λ c. search rules)
     (λ c. search rules) (λ c. search rules) (λ c. search rules) (λ c. simp length-set (omega arith)) (λ c κs. search rules)
     (λ c. search rules) (λ c. search rules) (λ c. simp length-set (omega arith)) (λ c κs. search rules)
     (λ c. search rules) (λ c. search rules) (λ c. search rules) (λ c. simp length-set (omega arith)) (λ c κs. search rules)
     (λ c. search rules) (λ c. search rules) (λ c. search rules) (λ c. simp length-set (omega arith)) (λ c. search rules)
     (λ c.
-    stint-stored _ _ _ _ _ _ c.before.before.kind.ensures c.before.place_of.ensures c.release-of.ensures
-    c.before.before.before.if1.false))
+    stint-stored _ _ _ _ _ _ c.kind.ensures c.place_of.ensures c.release_of.ensures
+    c.if-list-at.false))

@@ -4,10 +4,10 @@ use Rattle.run.proofs.change.charge_at.Statement.{statement}
 use Rattle.run.proofs.change.charge_at.Tie as tie
 
 returns : tie.Need-returns
-returns c = rw c.before.before.moving-cost.ensures at (rw c.before.charged-job.ensures at c.with-job.ensures)
+returns c = rw c.moving_cost.ensures at (rw c.charged_job.ensures at c.with_job.ensures)
 
 pub charge_at_spec : {M : Type 1} → statement M
 charge_at_spec =
     tie.close (tie.spec
     (λ c. search rules) (λ c. search rules) (λ c. search rules) (λ c κs. search rules)
-    (λ c κs. rw c.moving-cost.ensures c.before.before.before.requires.1) (λ c κs. search rules) returns)
+    (λ c κs. rw c.moving_cost.ensures c.requires.1) (λ c κs. search rules) returns)

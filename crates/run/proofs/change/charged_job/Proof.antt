@@ -7,7 +7,7 @@ use Rattle.run.proofs.change.charged_job.Tie as tie
 pub charged_job_spec : {M : Type 1} → statement M
 charged_job_spec =
     tie.close (tie.spec
-    (λ c. search rules) (λ c. search rules) (λ c. omega (arith, ap moving_of c.before.before.before.job.given.1))
-    (λ c. search rules) (λ c. omega (arith, ap moving_of c.before.before.before.job2.given.1))
-    (λ c. search rules) (λ c. rw c.before.before.before.job.given.1)
-    (λ c. rw c.before.before.before.job2.given.1))
+    (λ c. search rules) (λ c. search rules) (λ c. omega (arith, ap moving_of c.in-Waiting.is))
+    (λ c. search rules) (λ c. omega (arith, ap moving_of c.in-OnBank.is))
+    (λ c. search rules) (λ c. rw c.in-Waiting.is)
+    (λ c. rw c.in-OnBank.is))

@@ -4,14 +4,14 @@ use Rattle.days.specs.Days.{days}
 use Rattle.run.proofs.day.day_at_least.Statement.{statement}
 use Rattle.run.proofs.day.day_at_least.Tie as tie
 
-returns : tie.Need-returns
+returns : tie.Need-returns-then-length-eq0
 returns c =
-    let one : 1 ≡ max 1 c.before.before.args.length.0 = omega arith in
+    let one : 1 ≡ max 1 c.args.length.0 = omega arith in
     ap days one
 
-returns-2 : tie.Need-returns-2
+returns-2 : tie.Need-returns
 returns-2 c =
-    let same : c.before.before.args.length.0 ≡ max 1 c.before.before.args.length.0 = omega arith in
+    let same : c.args.length.0 ≡ max 1 c.args.length.0 = omega arith in
     ap days same
 
 pub day_at_least_spec : {M : Type 1} → statement M

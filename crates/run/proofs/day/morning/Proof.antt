@@ -4,13 +4,13 @@ use Rattle.rules.specs.Run.{given}
 use Rattle.run.proofs.day.morning.Statement.{statement}
 use Rattle.run.proofs.day.morning.Tie as tie
 
-returns-2 : tie.Need-returns-2
+returns-2 : tie.Need-returns
 returns-2 c =
     let o = c.before in
-    c.give-bank2.ensures ∙ sym (ap given (o.before.requires.1 o.if1.false))
+    c.give_bank-2.ensures ∙ sym (ap given (o.requires.1 o.if-came.false))
 
 pub morning_spec : {M : Type 1} → statement M
 morning_spec =
     tie.close (tie.spec
-    (λ c κs. search rules) (λ c κs. search rules) (λ c. c.give-bank.ensures ∙ ap given c.before.take-bank.ensures)
+    (λ c κs. search rules) (λ c κs. search rules) (λ c. c.give_bank.ensures ∙ ap given c.take_bank-taken.ensures)
     (λ c κs. search rules) returns-2)

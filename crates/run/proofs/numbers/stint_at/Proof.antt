@@ -4,13 +4,13 @@ use Rattle.run.specs.Numbers.{stint_at}
 use Rattle.run.proofs.numbers.stint_at.Statement.{statement}
 use Rattle.run.proofs.numbers.stint_at.Tie as tie
 
-returns : tie.Need-returns
+returns : tie.Need-returns-then-numbers-k
 unfolding stint_at
-returns c = (rw (le-ltb _ _ c.if1.true), refl)
+returns c = (rw (le-ltb _ _ c.if-numbers-k.true), refl)
 
-returns-2 : tie.Need-returns-2
+returns-2 : tie.Need-returns
 unfolding stint_at
-returns-2 c = (rw (c.use-in.ensures, lt-ltb _ _ c.before.before.before.before.before.before.if1.false), refl)
+returns-2 c = (rw (c.use_in-used.ensures, lt-ltb _ _ c.if-numbers-k.false), refl)
 
 pub stint_at_spec : {M : Type 1} → statement M
 stint_at_spec =

@@ -4,14 +4,14 @@ use Rattle.days.proofs.Days.{later_of-fits}
 use Rattle.run.proofs.release.day_after.Statement.{statement}
 use Rattle.run.proofs.release.day_after.Tie as tie
 
-returns : tie.Need-returns
+returns : tie.Need-returns-in-On
 returns c =
-    let told = later_of-fits _ _ c.before.before.before.before.requires in
-    cc (c.before.before.before.plus.ensures, c.before.later.given.1)
+    let told = later_of-fits _ _ c.requires in
+    cc (c.plus.ensures, c.in-On.is)
 
-returns-2 : tie.Need-returns-2
-returns-2 c = let told = later_of-fits _ _ c.before.before.before.requires in
-    let never : ◌≡◌ {A = ℕ} 0 1 = cc (c.before.before.plus.ensures, c.enum_told.given.1) in
+returns-2 : tie.Need-returns-in-Beyond
+returns-2 c = let told = later_of-fits _ _ c.requires in
+    let never : ◌≡◌ {A = ℕ} 0 1 = cc (c.plus.ensures, c.in-Beyond.is) in
     absurd (omega arith)
 
 pub day_after_spec : {M : Type 1} → statement M

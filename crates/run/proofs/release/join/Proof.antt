@@ -7,14 +7,14 @@ use Rattle.run.proofs.release.join.Tie as tie
 string-is : (c : tie.Start) → string_at c.args.p c.args.r.place ≡ get_or c.args.p.strings (c.args.r.place - 1) no_string
 string-is c = get_or-take c.args.p.n c.args.p.strings (c.args.r.place - 1) no_string (omega (arith, c.requires.low, c.requires.high))
 
-day-after-requires : tie.Need-day-after-requires
+day-after-requires : tie.Need-day_after-deadline-requires
 day-after-requires c κs = let o = c.before.before.before.before.before.before in
     rw (← string-is o) o.requires.due
 
 returns : tie.Need-returns
 unfolding new_slot
 returns c = let o = c.before.before.before.before.before.before.before in
-    rw (string-is o, c.day-after.ensures)
+    rw (string-is o, c.day_after-deadline.ensures)
 
 pub join_spec : {M : Type 1} → statement M
 join_spec =

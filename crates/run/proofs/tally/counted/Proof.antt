@@ -7,5 +7,5 @@ pub counted_spec : {M : Type 1} → statement M
 counted_spec =
     tie.close (tie.spec
     (λ c. search rules) (λ c. search rules) (λ c. search rules) (λ c. search rules) (λ c. search rules)
-    (λ c. search rules) (λ c. rw c.before.before.enum_told.given.1) (λ c. rw c.before.before.enum-told2.given.1)
-    (λ c. rw c.before.before.enum-told3.given.1))
+    (λ c. search rules) (λ c. rw c.in-Idle.is) (λ c. rw c.in-Work.is)
+    (λ c. rw c.in-Move.is))

@@ -3,18 +3,18 @@ use Rattle.base.proofs.Prelude.{◌∙◌, rules}
 use Rattle.slack.proofs.{Easier.quick-says, changing.passes_with.Statement.statement}
 use Rattle.slack.proofs.changing.passes_with.Tie as tie
 
-returns : tie.Need-returns
+returns : tie.Need-returns-in-Refused
 returns c =
-    let asked = c.before.before in
+    let asked = c.before in
     let plan = asked.before in
-    rw c.enum_told.given.1 at (quick-says _ _ _ _ _ _ plan.plan-with.ensures asked.quick.ensures)
+    rw c.in-Refused.is at (quick-says _ _ _ _ _ _ plan.plan_with.ensures asked.quick-asked.ensures)
 
-returns-2 : tie.Need-returns-2
+returns-2 : tie.Need-returns-in-Given
 returns-2 c =
-    let known = c.before.before in
-    let asked = known.before.before in
+    let known = c.before in
+    let asked = known.before in
     let plan = asked.before in
-    c.passes.ensures ∙ (rw known.asked.given.1 at (quick-says _ _ _ _ _ _ plan.plan-with.ensures asked.quick.ensures))
+    c.passes.ensures ∙ (rw known.in-Given.is at (quick-says _ _ _ _ _ _ plan.plan_with.ensures asked.quick-asked.ensures))
 
 pub passes_with_spec : {M : Type 1} → statement M
 passes_with_spec =

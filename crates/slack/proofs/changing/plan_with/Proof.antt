@@ -7,8 +7,8 @@ use Rattle.slack.proofs.changing.plan_with.Tie as tie
 returns : tie.Need-returns
 unfolding plan_with
 returns c =
-    let g = c.before.before.before.before.args in
-    ap (λ s. record { n = g.p.n; run = g.p.run; strings = set g.p.strings (g.place - 1) s }) c.string-with.ensures
+    let g = c.args in
+    ap (λ s. record { n = g.p.n; run = g.p.run; strings = set g.p.strings (g.place - 1) s }) c.string_with.ensures
 
 pub plan_with_spec : {M : Type 1} → statement M
 plan_with_spec =

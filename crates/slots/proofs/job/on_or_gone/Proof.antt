@@ -3,14 +3,14 @@ use Rattle.base.proofs.Prelude.{◌+◌, ◌≡◌, sym, ◌∙◌, arith, ltb-t
 use Rattle.slots.proofs.job.on_or_gone.Statement.{statement}
 use Rattle.slots.proofs.job.on_or_gone.Tie as tie
 
-returns : tie.Need-returns
-returns c = let g = c.before.before.args in
-    let some = ltb-true 0 (g.work.0 + g.moving.0) (sym c.before.some_left.ensures ∙ c.if1.true) in
+returns : tie.Need-returns-then-some_left
+returns c = let g = c.args in
+    let some = ltb-true 0 (g.work.0 + g.moving.0) (sym c.some_left.ensures ∙ c.if-some_left.true) in
     rw (ne_eqb (g.work.0 + g.moving.0) 0 (λ none. omega arith))
 
-returns-2 : tie.Need-returns-2
-returns-2 c = let g = c.before.before.args in
-    let none = ltb-false 0 (g.work.0 + g.moving.0) (sym c.before.some_left.ensures ∙ c.if1.false) in
+returns-2 : tie.Need-returns
+returns-2 c = let g = c.args in
+    let none = ltb-false 0 (g.work.0 + g.moving.0) (sym c.some_left.ensures ∙ c.if-some_left.false) in
     let zero : g.work.0 + g.moving.0 ≡ 0 = omega arith in
     rw (eq-eqb _ 0 zero)
 

@@ -7,5 +7,5 @@ pub part_left_spec : {M : Type 1} → statement M
 part_left_spec =
     tie.close (tie.spec
     (λ c. search rules) (λ c. search rules) (λ c. search rules)
-    (λ c. rw (c.before.before.before.job.given.1, lt-ltb _ _ c.if1.true)) (λ c. rw c.enum_told.given.1)
-    (λ c. rw c.enum-told2.given.1) (λ c. rw (c.before.before.before.job.given.1, le-ltb _ _ c.if1.false)))
+    (λ c. rw (c.in-OnBank.is, lt-ltb _ _ c.if-moving-gt0.true)) (λ c. rw c.in-Empty.is)
+    (λ c. rw c.in-Waiting.is) (λ c. rw (c.in-OnBank.is, le-ltb _ _ c.if-moving-gt0.false)))

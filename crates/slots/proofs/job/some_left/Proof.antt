@@ -3,13 +3,13 @@ use Rattle.base.proofs.Prelude.{◌≡◌, sym, ap, ◌+◌, ◌<◌, ltb, arith
 use Rattle.slots.proofs.job.some_left.Statement.{statement}
 use Rattle.slots.proofs.job.some_left.Tie as tie
 
-returns : tie.Need-returns
-returns c = let g = c.before.before.before.args in
+returns : tie.Need-returns-then-work-eq0
+returns c = let g = c.args in
     let same : g.moving.0 ≡ g.work.0 + g.moving.0 = omega arith in
     ap (ltb 0) same
 
-returns-2 : tie.Need-returns-2
-returns-2 c = let g = c.before.before.args in
+returns-2 : tie.Need-returns
+returns-2 c = let g = c.args in
     let some : 0 < g.work.0 + g.moving.0 = omega arith in
     sym (lt-ltb _ _ some)
 

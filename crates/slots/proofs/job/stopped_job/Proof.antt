@@ -6,5 +6,5 @@ use Rattle.slots.proofs.job.stopped_job.Tie as tie
 pub stopped_job_spec : {M : Type 1} → statement M
 stopped_job_spec =
     tie.close (tie.spec
-    (λ c. search rules) (λ c. search rules) (λ c. search rules) (λ c. search rules) (λ c. rw c.before.job.given.1)
-    (λ c. rw c.before.job2.given.1))
+    (λ c. search rules) (λ c. search rules) (λ c. search rules) (λ c. search rules) (λ c. rw c.in-Waiting.is)
+    (λ c. rw c.in-OnBank.is))

@@ -7,5 +7,5 @@ pub unfinished_spec : {M : Type 1} → statement M
 unfinished_spec =
     tie.close (tie.spec
     (λ c. search rules) (λ c. search rules) (λ c κs. search rules) (λ c. search rules) (λ c κs. search rules)
-    (λ c. rw c.enum_told.given.1) (λ c. rw c.before.before.job.given.1 c.some_left.ensures)
-    (λ c. rw c.before.before.job2.given.1 c.some-left2.ensures))
+    (λ c. rw c.in-Empty.is) (λ c. rw c.in-Waiting.is c.some_left.ensures)
+    (λ c. rw c.in-OnBank.is c.some_left-in-OnBank.ensures))

@@ -7,5 +7,5 @@ pub use_for_spec : {M : Type 1} → statement M
 use_for_spec =
     tie.close (tie.spec
     (λ c. search rules) (λ c. search rules) (λ c. search rules)
-    (λ c. rw (c.before.before.before.job.given.1, lt-ltb _ _ c.if1.true)) (λ c. search rules)
-    (λ c. search rules) (λ c. rw (c.before.before.before.job.given.1, le-ltb _ _ c.if1.false)))
+    (λ c. rw (c.in-OnBank.is, lt-ltb _ _ c.if-moving-gt0.true)) (λ c. search rules)
+    (λ c. search rules) (λ c. rw (c.in-OnBank.is, le-ltb _ _ c.if-moving-gt0.false)))

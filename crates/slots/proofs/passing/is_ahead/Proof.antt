@@ -7,7 +7,7 @@ pub is_ahead_spec : {M : Type 1} → statement M
 is_ahead_spec =
     tie.close (tie.spec
     (λ c. search rules) (λ c. search rules) (λ c. search rules) (λ c κs. search rules) (λ c. search rules)
-    (λ c κs. search rules) (λ c. search rules) (λ c κs. search rules) (λ c. rw c.enum_told.given.1) (λ c. rw c.enum-told2.given.1)
-    (λ c. rw c.before.enum-told3.given.1 c.before2.ensures)
-    (λ c. rw c.before.enum-told4.given.1 c.goes_first.ensures)
-    (λ c. rw c.before.enum-told5.given.1 c.before3.ensures))
+    (λ c κs. search rules) (λ c. search rules) (λ c κs. search rules) (λ c. rw c.in-Late.is) (λ c. rw c.in-Holding.is)
+    (λ c. rw c.in-Taker.is c.before-in-Taker.ensures)
+    (λ c. rw c.in-Next.is c.goes_first.ensures)
+    (λ c. rw c.in-Due.is c.before-in-Due.ensures))

@@ -7,5 +7,5 @@ pub is_due_after_spec : {M : Type 1} → statement M
 is_due_after_spec =
     tie.close (tie.spec
     (λ c κs. search rules) (λ c κs. search rules)
-    (λ c. rw (sym c.before.before.before2.ensures ∙ c.before.if1.true) c.unfinished.ensures)
-    (λ c. rw (sym c.before.before2.ensures ∙ c.if1.false)))
+    (λ c. rw (sym c.before-2.ensures ∙ c.if-before.true) c.unfinished.ensures)
+    (λ c. rw (sym c.before-2.ensures ∙ c.if-before.false)))

@@ -6,5 +6,5 @@ use Rattle.slots.proofs.passing.is_late.Tie as tie
 pub is_late_spec : {M : Type 1} → statement M
 is_late_spec =
     tie.close (tie.spec
-    (λ c κs. search rules) (λ c. rw (eq-eqb _ _ c.before.if1.true) c.unfinished.ensures)
-    (λ c. rw (ne_eqb _ _ c.if1.false)))
+    (λ c κs. search rules) (λ c. rw (eq-eqb _ _ c.if-s-day.true) c.unfinished.ensures)
+    (λ c. rw (ne_eqb _ _ c.if-s-day.false)))

@@ -8,6 +8,6 @@ passes_spec =
     tie.close (tie.spec
     (λ c. search rules) (λ c κs. search rules) (λ c. search rules) (λ c κs. search rules) (λ c. search rules)
     (λ c κs. search rules) (λ c. search rules) (λ c κs. search rules) (λ c. search rules) (λ c κs. search rules)
-    (λ c. rw c.before.before.q.given.1 c.is-late.ensures) (λ c. search rules)
-    (λ c. rw c.before.before.q2.given.1 c.may-take.ensures) (λ c. search rules)
-    (λ c. rw c.before.before.q3.given.1 c.is-due-after.ensures))
+    (λ c. rw c.in-Late.is c.is_late.ensures) (λ c. search rules)
+    (λ c. rw c.in-Taker.is c.may_take.ensures) (λ c. search rules)
+    (λ c. rw c.in-Due.is c.is_due_after.ensures))

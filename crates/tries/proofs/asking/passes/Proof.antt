@@ -8,24 +8,24 @@ use Rattle.tries.proofs.asking.passes.Statement.{statement}
 use Rattle.tries.proofs.asking.passes.Tie as tie
 
 -- what the entry answers
-given : (c : tie.After-quick) → c.quick.result ≡ Given (quick_of c.before.args.p)
-given c = c.quick.ensures ∙ quick-lawful _ (lawful-checked _ c.before.requires.lawful)
+given : (c : tie.After-quick-asked) → c.quick-asked.result ≡ Given (quick_of c.args.p)
+given c = c.quick-asked.ensures ∙ quick-lawful _ (lawful-checked _ c.requires.lawful)
 
-returns : tie.Need-returns
+returns : tie.Need-returns-in-Refused
 returns c =
-    let answered = given c.before.before in
-    let said = c.enum_told.given.1 in
+    let answered = given c.before in
+    let said = c.in-Refused.is in
     let z : ◌≡◌ {A = ℕ} 0 1 = cc in
     absurd (omega arith)
 
-returns-2 : tie.Need-returns-2
+returns-2 : tie.Need-returns-in-Given
 returns-2 c =
-    let told = c.before.before in
-    let asked = told.before.before in
+    let told = c.before in
+    let asked = told.before in
     let start = asked.before in
     let answered = given asked in
-    let said = told.asked.given.1 in
-    let is : told.asked.given.0.0 ≡ quick_of start.args.p = cc in
+    let said = told.in-Given.is in
+    let is : told.in-Given.verdict ≡ quick_of start.args.p = cc in
     c.passes.ensures ∙ ap is_pass is ∙ quick-passes start.args.p start.requires.lawful.each
 
 pub passes_spec : {M : Type 1} → statement M

@@ -7,21 +7,21 @@ use Rattle.tries.proofs.asking.where_broken.Statement.{statement}
 use Rattle.tries.proofs.asking.where_broken.Tie as tie
 
 -- what the entry answers
-given : (c : tie.After-first-break) → c.first-break.result ≡ Given (broken_at (own_break c.before.args.p))
-given c = c.first-break.ensures ∙ break-lawful _ (lawful-checked _ c.before.requires.lawful)
+given : (c : tie.After-first_break-asked) → c.first_break-asked.result ≡ Given (broken_at (own_break c.args.p))
+given c = c.first_break-asked.ensures ∙ break-lawful _ (lawful-checked _ c.requires.lawful)
 
-returns : tie.Need-returns
+returns : tie.Need-returns-in-Refused
 returns c =
-    let answered = given c.before.before in
-    let said = c.enum_told.given.1 in
+    let answered = given c.before in
+    let said = c.in-Refused.is in
     let z : ◌≡◌ {A = ℕ} 0 1 = cc in
     absurd (omega arith)
 
-returns-2 : tie.Need-returns-2
+returns-2 : tie.Need-returns-in-Given
 returns-2 c =
-    let told = c.before in
-    let answered = given told.before.before in
-    let said = told.asked.given.1 in
+    let told = c in
+    let answered = given told.before in
+    let said = told.in-Given.is in
     cc
 
 pub where_broken_spec : {M : Type 1} → statement M

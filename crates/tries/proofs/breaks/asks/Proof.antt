@@ -7,27 +7,27 @@ use Rattle.verdict.proofs.Asked.{work-le}
 use Rattle.tries.proofs.{SharpBreaks.need-own, breaks.asks.Statement.statement}
 use Rattle.tries.proofs.breaks.asks.Tie as tie
 
-sub-jobs-within : tie.Need-overflow-sub-jobs-within
+sub-jobs-within : tie.Need-overflow_sub-l
 sub-jobs-within c =
-    let g = c.before.args in
-    omega (arith, c.delay-of.ensures, delay_of-le g.b g.s)
+    let g = c.args in
+    omega (arith, c.delay_of.ensures, delay_of-le g.b g.s)
 
 -- the product
-module _ (c : tie.After-longest-hold) where
+module _ (c : tie.After-longest_hold) where
   abbrev start : tie.Start
   start = c.before.before.before
 
   abbrev own : ℕ
   own = start.args.l - delay_of start.args.b start.args.s
 
-  product : c.before.jobs-within.result * c.longest-hold.result ≡ jobs start.args.s own * hold_of start.args.p start.args.s
+  product : c.jobs_within.result * c.longest_hold.result ≡ jobs start.args.s own * hold_of start.args.p start.args.s
   product =
       let g = start.args in
-      let held = c.longest-hold.result in
-      ap (λ n. n * held) (c.before.jobs-within.ensures ∙ ap (λ d. jobs g.s (g.l - d)) c.before.before.delay-of.ensures)
-      ∙ ap (λ e. jobs g.s own * e) c.longest-hold.ensures
+      let held = c.longest_hold.result in
+      ap (λ n. n * held) (c.jobs_within.ensures ∙ ap (λ d. jobs g.s (g.l - d)) c.delay_of.ensures)
+      ∙ ap (λ e. jobs g.s own * e) c.longest_hold.ensures
 
-mul-result : tie.Need-overflow-mul-result
+mul-result : tie.Need-overflow_mul-result
 mul-result c =
     let g = (start c).args in
     omega (arith, product c, work-le g.p (own c) g.s (start c).requires.0 (omega (arith, (start c).requires.1.0)))

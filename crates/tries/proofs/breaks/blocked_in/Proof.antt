@@ -5,65 +5,65 @@ use Rattle.tries.specs.Tries.{break_at, longest_block, blocked_breaks, is_broken
 use Rattle.tries.proofs.{SharpBreaks.longest-within, Places.after, Searching.{after_none, row-found, row-later, row-end}, breaks.blocked_in.Statement.statement}
 use Rattle.tries.proofs.breaks.blocked_in.Tie as tie
 
-abbrev invariant-loop : tie.invariant-loop
+abbrev invariant-loop : tie.invariant-loop-b
 invariant-loop p l most b₀ b =
     (b ≤ most)
     × (most ≤ l)
     × (first_of (is_broken p) (flat_map (blocked_breaks p l) (after b most))
     ≡ first_of (is_broken p) (flat_map (blocked_breaks p l) (up_from 1 (longest_block p l))))
 
-abbrev decreases-loop : tie.decreases-loop
+abbrev decreases-loop : tie.decreases-loop-b
 decreases-loop p l most b₀ b = most - b
 
-loop-holds : tie.Need-loop-init invariant-loop decreases-loop
+loop-holds : tie.Need-loop-b-init invariant-loop decreases-loop
 loop-holds c =
-    let g = c.before.args in
-    let most = c.longest-block.result in
-    let every = after_none most ∙ ap (up_from 1) c.longest-block.ensures in
-    let within : most ≤ g.l = omega (arith, c.longest-block.ensures, longest-within g.p g.l) in
+    let g = c.args in
+    let most = c.longest_block-most.result in
+    let every = after_none most ∙ ap (up_from 1) c.longest_block-most.ensures in
+    let within : most ≤ g.l = omega (arith, c.longest_block-most.ensures, longest-within g.p g.l) in
     (zero-le, within, ap (λ bs. first_of (is_broken g.p) (flat_map (blocked_breaks g.p g.l) bs)) every)
 
-blocker-at-requires : tie.Need-blocker-at-requires invariant-loop decreases-loop
+blocker-at-requires : tie.Need-blocker_at-q-requires invariant-loop decreases-loop
 blocker-at-requires c κs =
     let at = c.before in
     let start = at.before.before in
-    (start.requires.0, (start.requires.1, (omega (arith, at.loop.invariant.1), omega arith)))
+    (start.requires.0, (start.requires.1, (omega (arith, at.loop-b.invariant.1), omega arith)))
 
-returns : tie.Need-returns invariant-loop decreases-loop
+returns : tie.Need-returns-then-q-gt0 invariant-loop decreases-loop
 returns c =
     let asked = c.before in
     let at = asked.before.before in
-    let g = at.before.before.args in
-    let b = at.loop.b in
-    let q = asked.blocker-at.result in
-    let named = ne_eqb q 0 (λ e. omega (arith, c.if1.true)) in
-    let here = sym asked.blocker-at.ensures ∙ ap (λ e. cond e none (some (break_at g.l (b + 1) q))) named in
-    sym at.loop.invariant.2
-    ∙ row-found (is_broken g.p) (blocked_breaks g.p g.l) b at.before.longest-block.result asked.before.loop-test.true _
+    let g = at.args in
+    let b = at.loop-b.b in
+    let q = asked.blocker_at-q.result in
+    let named = ne_eqb q 0 (λ e. omega (arith, c.if-q-gt0.true)) in
+    let here = sym asked.blocker_at-q.ensures ∙ ap (λ e. cond e none (some (break_at g.l (b + 1) q))) named in
+    sym at.loop-b.invariant.2
+    ∙ row-found (is_broken g.p) (blocked_breaks g.p g.l) b at.longest_block-most.result asked.loop-b-test.true _
     here
 
-loop-again : tie.Need-loop-preserved invariant-loop decreases-loop
+loop-again : tie.Need-loop-b-preserved invariant-loop decreases-loop
 loop-again c =
     let asked = c.before in
     let at = asked.before.before in
-    let g = at.before.before.args in
-    let b = at.loop.b in
-    let q = asked.blocker-at.result in
-    let nobody = eq-eqb q 0 (omega (arith, c.if1.false)) in
-    let here = sym asked.blocker-at.ensures ∙ ap (λ e. cond e none (some (break_at g.l (b + 1) q))) nobody in (
-      omega (arith, asked.before.loop-test.true),
-      at.loop.invariant.1,
-      sym (row-later (is_broken g.p) (blocked_breaks g.p g.l) b at.before.longest-block.result
-          asked.before.loop-test.true here)
-          ∙ at.loop.invariant.2,
+    let g = at.args in
+    let b = at.loop-b.b in
+    let q = asked.blocker_at-q.result in
+    let nobody = eq-eqb q 0 (omega (arith, c.if-q-gt0.false)) in
+    let here = sym asked.blocker_at-q.ensures ∙ ap (λ e. cond e none (some (break_at g.l (b + 1) q))) nobody in (
+      omega (arith, asked.loop-b-test.true),
+      at.loop-b.invariant.1,
+      sym (row-later (is_broken g.p) (blocked_breaks g.p g.l) b at.longest_block-most.result
+          asked.loop-b-test.true here)
+          ∙ at.loop-b.invariant.2,
     )
 
-returns-2 : tie.Need-returns-2 invariant-loop decreases-loop
+returns-2 : tie.Need-returns invariant-loop decreases-loop
 returns-2 c =
     let at = c.before in
-    let g = at.before.before.args in
-    sym at.loop.invariant.2
-    ∙ row-end (is_broken g.p) (blocked_breaks g.p g.l) at.loop.b at.before.longest-block.result c.loop-test.false
+    let g = at.args in
+    sym at.loop-b.invariant.2
+    ∙ row-end (is_broken g.p) (blocked_breaks g.p g.l) at.loop-b.b at.longest_block-most.result c.loop-b-test.false
 
 pub blocked_in_spec : {M : Type 1} → statement M
 blocked_in_spec =

@@ -8,5 +8,5 @@ can_block_spec =
     tie.close (tie.spec
     (λ c κs. search rules)
     (λ c.
-    rw (lt-ltb _ _ c.before.if1.true) (ap (ltb c.before.before.before.args.b) c.longest-hold.ensures))
-    (λ c. rw (le-ltb _ _ c.if1.false)))
+    rw (lt-ltb _ _ c.if-l-s.true) (ap (ltb c.args.b) c.longest_hold.ensures))
+    (λ c. rw (le-ltb _ _ c.if-l-s.false)))

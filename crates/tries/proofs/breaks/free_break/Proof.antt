@@ -9,5 +9,5 @@ pub free_break_spec : {M : Type 1} → statement M
 free_break_spec =
     tie.close (tie.spec
     (λ c κs. search rules)
-    (λ c κs. subst Ready (sym c.with-free-moving.ensures) (freely-ready _ c.before.requires))
-    (λ c. points-as c.sharp-break.result _ _ (ap sharp_break c.before.with-free-moving.ensures) c.sharp-break.ensures))
+    (λ c κs. subst Ready (sym c.with_free_moving.ensures) (freely-ready _ c.requires))
+    (λ c. points-as c.sharp_break.result _ _ (ap sharp_break c.with_free_moving.ensures) c.sharp_break.ensures))

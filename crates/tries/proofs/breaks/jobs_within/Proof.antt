@@ -16,21 +16,21 @@ module _ (s : BatteryString) (w : ℕ) (ok : LawfulString s) where
       let same : w - (s.d.0 - s.j.0) ≡ w + s.j.0 - s.d.0 = omega arith in
       ap (λ n. n / s.t.0 + 1) same ∙ sym (jobs-from s w (omega arith))
 
-returns : tie.Need-returns
+returns : tie.Need-returns-then-w-least
 returns c =
     let start = c.before.before in
-    none start.args.s start.args.w start.requires c.if1.true
+    none start.args.s start.args.w start.requires c.if-w-least.true
 
-add-result : tie.Need-overflow-add-result
+add-result : tie.Need-overflow_add-result
 add-result c =
     let start = c.before.before.before in
     let s = start.args.s in
-    omega (arith, some s start.args.w start.requires c.before.if1.false, jobs-le s start.args.w start.requires)
+    omega (arith, some s start.args.w start.requires c.if-w-least.false, jobs-le s start.args.w start.requires)
 
-returns-2 : tie.Need-returns-2
+returns-2 : tie.Need-returns
 returns-2 c =
     let start = c.before.before.before in
-    some start.args.s start.args.w start.requires c.before.if1.false
+    some start.args.s start.args.w start.requires c.if-w-least.false
 
 pub jobs_within_spec : {M : Type 1} → statement M
 jobs_within_spec = tie.close (tie.spec (λ c. search rules) returns (λ c. search rules) add-result returns-2)

@@ -8,16 +8,16 @@ use Rattle.tries.proofs.breaks.longest_hold.Statement.{statement}
 use Rattle.tries.proofs.breaks.longest_hold.Tie as tie
 
 -- the moving that X brings
-moving : (c : tie.After-moving-cost)
-    → c.moving-cost.result.0 * c.before.args.s.x ≡ moving_cost c.before.args.p c.before.args.s * c.before.args.s.x
-moving c = ap (λ (a : Length). a.0 * c.before.args.s.x) c.moving-cost.ensures
+moving : (c : tie.After-moving_cost)
+    → c.moving_cost.result.0 * c.args.s.x ≡ moving_cost c.args.p c.args.s * c.args.s.x
+moving c = ap (λ (a : Length). a.0 * c.args.s.x) c.moving_cost.ensures
 
-mul-result : tie.Need-overflow-mul-result
+mul-result : tie.Need-overflow_mul-result
 mul-result c =
     let start = c.before.before.before in
     omega (arith, moving c.before.before, moving-le start.args.p start.args.s start.requires)
 
-add-result : tie.Need-overflow-add-result
+add-result : tie.Need-overflow_add-result
 unfolding hold_of
 add-result c =
     let start = c.before.before.before.before in

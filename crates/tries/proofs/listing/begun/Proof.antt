@@ -25,20 +25,20 @@ two-begun o z e k =
     ∙ filled-set 1000 no_release o.second (o.first ∷ []) (omega arith)
     ∙ ap (λ k. filled 1000 no_release (take k (o.first ∷ o.second ∷ []))) (sym k)
 
-returns : tie.Need-returns
+returns : tie.Need-returns-then-o-lt1
 returns c =
     let made = c.before.before in
-    none-begun made.before.args.o _ made.no-release.ensures (omega arith)
+    none-begun made.args.o _ made.no_release-none.ensures (omega arith)
 
-returns-2 : tie.Need-returns-2
+returns-2 : tie.Need-returns-then-o-lt2
 returns-2 c =
     let made = c.before.before.before.before.before in
-    one-begun made.before.args.o _ made.no-release.ensures (omega (arith, c.before.before.before.if1.false))
+    one-begun made.args.o _ made.no_release-none.ensures (omega (arith, c.if-o-lt1.false))
 
-returns-3 : tie.Need-returns-3
+returns-3 : tie.Need-returns
 returns-3 c =
     let made = c.before.before.before.before.before.before in
-    two-begun made.before.args.o _ made.no-release.ensures (omega (arith, c.before.if2.false, made.before.requires))
+    two-begun made.args.o _ made.no_release-none.ensures (omega (arith, c.if-o-lt2.false, made.requires))
 
 pub begun_spec : {M : Type 1} → statement M
 begun_spec =

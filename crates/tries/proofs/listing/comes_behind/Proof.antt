@@ -6,27 +6,27 @@ use Rattle.tries.specs.inner.Openings.{head_of}
 use Rattle.tries.proofs.listing.comes_behind.Statement.{statement}
 use Rattle.tries.proofs.listing.comes_behind.Tie as tie
 
-returns : tie.Need-returns
+returns : tie.Need-returns-then-comes_first
 returns c =
-    let g = c.before.before.args in
-    let first : comes_first (head_of g.o) g.place ≡ true = sym c.before.comes-first.ensures ∙ c.if1.true in
+    let g = c.args in
+    let first : comes_first (head_of g.o) g.place ≡ true = sym c.comes_first.ensures ∙ c.if-comes_first.true in
     rw first
 
 -- the first day of the string is small
-soon : (c : tie.After-delay-of) → c.before.before.before.args.o.lead + c.delay-of.result ≤ 104000
+soon : (c : tie.After-delay_of) → c.args.o.lead + c.delay_of.result ≤ 104000
 soon c =
     let start = c.before.before.before in
     let g = start.args in
     let small = start.requires.1.0 in
-    omega (arith, c.delay-of.ensures, delay_of-le g.o.delay g.s, small.soon, small.short)
+    omega (arith, c.delay_of.ensures, delay_of-le g.o.delay g.s, small.soon, small.short)
 
-returns-2 : tie.Need-returns-2
+returns-2 : tie.Need-returns
 returns-2 c =
     let known = c.before.before.before in
     let else = known.before in
-    let g = else.before.before.args in
-    let other : comes_first (head_of g.o) g.place ≡ false = sym else.before.comes-first.ensures ∙ else.if1.false in
-    rw other (c.comes-in.ensures ∙ ap (λ d. comes_in (g.o.lead + d) (g.o.lead + g.l) g.s g.t) known.delay-of.ensures)
+    let g = else.args in
+    let other : comes_first (head_of g.o) g.place ≡ false = sym else.comes_first.ensures ∙ else.if-comes_first.false in
+    rw other (c.comes_in.ensures ∙ ap (λ d. comes_in (g.o.lead + d) (g.o.lead + g.l) g.s g.t) known.delay_of.ensures)
 
 pub comes_behind_spec : {M : Type 1} → statement M
 comes_behind_spec =

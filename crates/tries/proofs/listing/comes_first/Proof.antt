@@ -43,32 +43,32 @@ module _ (o : Opening) (place : ℕ) where
       ∙ ap (λ k. comes_first (take k (o.second ∷ [])) place) last
       ∙ rest (omega arith) e
 
-returns : tie.Need-returns
+returns : tie.Need-returns-then-o-lt1
 returns c =
-    let g = c.before.before.args in
-    nobody g.o g.place (omega (arith, c.if1.true))
+    let g = c.args in
+    nobody g.o g.place (omega (arith, c.if-o-lt1.true))
 
-returns-2 : tie.Need-returns-2
+returns-2 : tie.Need-returns-then-place-first
 returns-2 c =
     let else = c.before.before.before in
-    let g = else.before.before.args in
-    the-first g.o g.place (omega (arith, else.if1.false)) c.if2.true
+    let g = else.args in
+    the-first g.o g.place (omega (arith, else.if-o-lt1.false)) c.if-place-first.true
 
-returns-3 : tie.Need-returns-3
+returns-3 : tie.Need-returns-then-o-lt2
 returns-3 c =
     let else2 = c.before.before in
     let else = else2.before.before.before in
-    let g = else.before.before.args in
-    only_one g.o g.place (omega (arith, else.if1.false, c.if3.true)) else2.if2.false
+    let g = else.args in
+    only_one g.o g.place (omega (arith, else.if-o-lt1.false, c.if-o-lt2.true)) else2.if-place-first.false
 
-returns-4 : tie.Need-returns-4
+returns-4 : tie.Need-returns
 returns-4 c =
     let else3 = c.before.before in
     let else2 = else3.before.before in
     let else = else2.before.before.before in
     let start = else.before.before in
     let g = start.args in
-    the_second g.o g.place (omega (arith, start.requires, else3.if3.false)) else2.if2.false
+    the_second g.o g.place (omega (arith, start.requires, else3.if-o-lt2.false)) else2.if-place-first.false
 
 pub comes_first_spec : {M : Type 1} → statement M
 comes_first_spec = tie.close (tie.spec returns returns-2 returns-3 returns-4)

@@ -34,33 +34,33 @@ module _ (first end : ℕ) (s : BatteryString) (t : ℕ) where
       due-by on = rw (← is, le-leb first t from, eq-eqb ((due + s.j.0 - first) % s.t.0) 0 on)
 
 -- the due day is known, and no more than J days back
-near : (c : tie.After-due-coming)
-    → (c.due-coming.result ≤ c.before.before.args.t)
-    × (c.before.before.args.first ≤ c.due-coming.result + c.before.before.args.s.j.0)
+near : (c : tie.After-due_coming-due)
+    → (c.due_coming-due.result ≤ c.args.t)
+    × (c.args.first ≤ c.due_coming-due.result + c.args.s.j.0)
 near c =
-    let g = c.before.before.args in
-    let bounds = due-near g.first g.end g.s g.t c.before.if1.false in
-    (omega (arith, bounds.0, c.due-coming.ensures), omega (arith, bounds.1, c.due-coming.ensures))
+    let g = c.args in
+    let bounds = due-near g.first g.end g.s g.t c.if-t-first.false in
+    (omega (arith, bounds.0, c.due_coming-due.ensures), omega (arith, bounds.1, c.due_coming-due.ensures))
 
-returns-2 : tie.Need-returns-2
+returns-2 : tie.Need-returns-then-due-s-ne0
 returns-2 c =
     let known = c.before.before.before in
     let else = known.before in
-    between _ _ _ _ else.if1.false _ known.due-coming.ensures c.if2.true
+    between _ _ _ _ else.if-t-first.false _ known.due_coming-due.ensures c.if-due-s-ne0.true
 
-returns-3 : tie.Need-returns-3
+returns-3 : tie.Need-returns
 returns-3 c =
     let else2 = c.before in
     let known = else2.before.before.before in
     let else = known.before in
-    due-by _ _ _ _ else.if1.false _ known.due-coming.ensures else2.if2.false
+    due-by _ _ _ _ else.if-t-first.false _ known.due_coming-due.ensures else2.if-due-s-ne0.false
 
 pub comes_in_spec : {M : Type 1} → statement M
 comes_in_spec =
     tie.close (tie.spec
-    (λ c. too-early _ _ _ _ c.if1.true) (λ c κs. search rules)
+    (λ c. too-early _ _ _ _ c.if-t-first.true) (λ c κs. search rules)
     (λ c.
-    let lawful = c.before.before.before.requires.0 in
+    let lawful = c.requires.0 in
     omega (arith, (near c.before).0, lawful.j_max, lawful.d_max, lawful.t_max))
     (λ c. omega (arith, (near c.before).1)) (λ c. search rules) returns-2
     (λ c.

@@ -7,4 +7,4 @@ use Rattle.tries.proofs.listing.delay_of.Tie as tie
 pub delay_of_spec : {M : Type 1} → statement M
 delay_of_spec =
     tie.close (tie.spec
-    (λ c. sym (delay_of-taker _ _ c.if1.true)) (λ c. sym (delay_of-keeper _ _ c.if1.false)))
+    (λ c. sym (delay_of-taker _ _ c.if-s-eq1.true)) (λ c. sym (delay_of-keeper _ _ c.if-s-eq1.false)))

@@ -20,30 +20,31 @@ module _ (p : Plan) (l b q most : ℕ) (late : most ≡ most_late p) where
       ∙ ap (λ d. begins (blocker_release p b q) (interval_start p b) d l) (sym e)
 
   blocks : (b ≡ 0 → ⊥)
-      → begins (record { day = day most; place = q; need = days (b + 1); due = day most } ∷ []) (most + 1) b l ≡ block_try p (break_at l b q)
+      → begins (record { day = day most; place = q; need = days (b + 1); due = day most } ∷ []) (most + 1) b l
+      ≡ block_try p (break_at l b q)
   blocks some =
       let lead : most + 1 ≡ interval_start p b = omega arith in
       ap (λ m. begins (record { day = day m; place = q; need = days (b + 1); due = day m } ∷ []) (most + 1) b l) late
       ∙ ap (λ head. begins head (most + 1) b l) (sym (blocker_release-one p b q some))
       ∙ ap (λ m. begins (blocker_release p b q) m b l) lead
 
-soon : (c : tie.After-most-late) → c.most-late.result ≤ 999
-soon c = omega (arith, c.most-late.ensures, most_late-le c.before.before.args.p c.before.before.requires.0.lawful)
+soon : (c : tie.After-most_late-most) → c.most_late-most.result ≤ 999
+soon c = omega (arith, c.most_late-most.ensures, most_late-le c.args.p c.requires.0.lawful)
 
-returns : tie.Need-returns
+returns : tie.Need-returns-then-b-eq0
 returns c =
     let late = c.before in
-    let g = late.before.before.args in (
-      unblocked g.p g.l g.b g.q _ late.most-late.ensures c.if1.true,
+    let g = late.args in (
+      unblocked g.p g.l g.b g.q _ late.most_late-most.ensures c.if-b-eq0.true,
       record { few = omega arith; soon = omega (arith, soon late); short = omega arith },
     )
 
-returns-2 : tie.Need-returns-2
+returns-2 : tie.Need-returns
 returns-2 c =
     let late = c.before in
     let start = late.before.before in
     let g = start.args in (
-      blocks g.p g.l g.b g.q _ late.most-late.ensures c.if1.false,
+      blocks g.p g.l g.b g.q _ late.most_late-most.ensures c.if-b-eq0.false,
       record { few = omega arith; soon = omega (arith, soon late); short = omega (arith, start.requires.1) },
     )
 

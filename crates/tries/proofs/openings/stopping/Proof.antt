@@ -9,8 +9,8 @@ use Rattle.tries.proofs.openings.stopping.Tie as tie
 abbrev begins : Release → ℕ → ℕ → ℕ → Try
 begins r most b l = record { head = r ∷ []; lead = most + 1; delay = b; l = l }
 
-soon : (c : tie.After-most-late) → c.most-late.result ≤ 999
-soon c = omega (arith, c.most-late.ensures, most_late-le c.before.args.p c.before.requires.0.lawful)
+soon : (c : tie.After-most_late-most) → c.most_late-most.result ≤ 999
+soon c = omega (arith, c.most_late-most.ensures, most_late-le c.args.p c.requires.0.lawful)
 
 returns : tie.Need-returns
 returns c =
@@ -18,8 +18,8 @@ returns c =
     let late = made.before in
     let start = late.before in
     let g = start.args in (
-      ap (λ r. begins r late.most-late.result g.b) made.full-release.ensures
-          ∙ ap (λ m. begins (full_release g.p m g.v) m g.b) late.most-late.ensures,
+      ap (λ r. begins r late.most_late-most.result g.b) made.full_release-first.ensures
+          ∙ ap (λ m. begins (full_release g.p m g.v) m g.b) late.most_late-most.ensures,
       record { few = omega arith; soon = omega (arith, soon late); short = omega (arith, start.requires.1) },
     )
 

@@ -6,5 +6,5 @@ use Rattle.tries.proofs.payable.can_lose.Tie as tie
 pub can_lose_spec : {M : Type 1} → statement M
 can_lose_spec =
     tie.close (tie.spec
-    (λ c. search rules) (λ c. search rules) (λ c. rw (lt-leb _ _ c.if1.true)) (λ c κs. search rules)
-    (λ c. rw (le-leb _ _ c.before.if1.false) (ap (leb 2) c.longest-hold.ensures)))
+    (λ c. search rules) (λ c. search rules) (λ c. rw (lt-leb _ _ c.if-s-taker.true)) (λ c κs. search rules)
+    (λ c. rw (le-leb _ _ c.if-s-taker.false) (ap (leb 2) c.longest_hold.ensures)))

@@ -5,4 +5,4 @@ use Rattle.tries.proofs.payable.cost_if.Tie as tie
 
 pub cost_if_spec : {M : Type 1} → statement M
 cost_if_spec =
-    tie.close (tie.spec (λ c κs. search rules) (λ c. search rules) (λ c. rw c.before.if1.false c.moved-freely.ensures))
+    tie.close (tie.spec (λ c κs. search rules) (λ c. search rules) (λ c. rw c.if-charged.false c.moved_freely.ensures))

@@ -9,30 +9,30 @@ use Rattle.tries.proofs.{Charging.payable-ten, Searching.{points-as, points_none
 use Rattle.tries.proofs.payable.passes_payably.Tie as tie
 
 -- what the search for a break answered is of the payable plan
-module _ (c : tie.After-sharp-break) where
+module _ (c : tie.After-sharp_break-found) where
   abbrev p : Plan
-  p = c.before.before.args.p
+  p = c.args.p
 
-  points : Points c.sharp-break.result (sharp_break (payable p))
-  points = points-as c.sharp-break.result _ _ (ap sharp_break c.before.payable-plan.ensures) c.sharp-break.ensures
+  points : Points c.sharp_break-found.result (sharp_break (payable p))
+  points = points-as c.sharp_break-found.result _ _ (ap sharp_break c.payable_plan.ensures) c.sharp_break-found.ensures
 
-returns : tie.Need-returns
+returns : tie.Need-returns-in_default
 unfolding passes_payably
 returns c =
-    let asked = c.before.before in
-    sym (ap is_whole (subst (λ t. Points t (sharp_break (payable (p asked)))) c.enum-told2.given.1 (points asked)))
+    let asked = c.before in
+    sym (ap is_whole (subst (λ t. Points t (sharp_break (payable (p asked)))) c.in_default.is (points asked)))
 
-returns-2 : tie.Need-returns-2
+returns-2 : tie.Need-returns
 unfolding passes_payably
 returns-2 c =
-    let asked = c.before.before in
-    sym (ap is_whole (points_none asked.sharp-break.result _ c.enum_told.given.1 (points asked)))
+    let asked = c.before in
+    sym (ap is_whole (points_none asked.sharp_break-found.result _ c.in-Unbroken.is (points asked)))
 
 -- the payable plan is ready
-sharp-break-requires : tie.Need-sharp-break-requires
+sharp-break-requires : tie.Need-sharp_break-found-requires
 sharp-break-requires c κs =
     let start = c.before in
-    subst Ready (sym c.payable-plan.ensures)
+    subst Ready (sym c.payable_plan.ensures)
     (record { lawful = payable-lawful start.args.p start.requires.lawful; ten = payable-ten start.args.p start.requires.ten })
 
 pub passes_payably_spec : {M : Type 1} → statement M

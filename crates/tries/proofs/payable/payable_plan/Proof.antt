@@ -12,10 +12,10 @@ uncharged-ready : (p : Plan) → Ready p → Ready (uncharged p)
 uncharged-ready p ready =
     record { lawful = uncharged-lawful p ready.lawful; ten = costs-length (chargeable p) 1 p.strings ∙ ready.ten }
 
-abbrev invariant-loop : tie.invariant-loop
+abbrev invariant-loop : tie.invariant-loop-k
 invariant-loop n left₀ k₀ left k = (k ≤ n) × Ready left × (rounds (n - k) left ≡ rounds n left₀)
 
-abbrev decreases-loop : tie.decreases-loop
+abbrev decreases-loop : tie.decreases-loop-k
 decreases-loop n left₀ k₀ left k = n - k
 
 -- a round less is left
@@ -25,17 +25,17 @@ round-done n k p h =
     let next : n - k ≡ suc (n - (k + 1)) = omega arith in
     rw next
 
-loop-again : tie.Need-loop-preserved invariant-loop decreases-loop
+loop-again : tie.Need-loop-k-preserved invariant-loop decreases-loop
 loop-again c =
     let turn = c.before in
     let at = turn.before in
-    let n = at.before.args.p.n in
-    let made = c.round.ensures in (
-      omega (arith, turn.loop-test.true),
-      subst Ready (sym made) (uncharged-ready at.loop.left at.loop.invariant.1),
-      ap (rounds (n - (at.loop.k + 1))) made
-          ∙ sym (round-done n at.loop.k at.loop.left turn.loop-test.true)
-          ∙ at.loop.invariant.2,
+    let n = at.args.p.n in
+    let made = c.round-left.ensures in (
+      omega (arith, turn.loop-k-test.true),
+      subst Ready (sym made) (uncharged-ready at.loop-k.left at.loop-k.invariant.1),
+      ap (rounds (n - (at.loop-k.k + 1))) made
+          ∙ sym (round-done n at.loop-k.k at.loop-k.left turn.loop-k-test.true)
+          ∙ at.loop-k.invariant.2,
     )
 
 -- no round is left
@@ -43,12 +43,12 @@ returns : tie.Need-returns invariant-loop decreases-loop
 unfolding payable rounds
 returns c =
     let at = c.before in
-    let none_left : at.before.args.p.n - at.loop.k ≡ 0 = omega (arith, c.loop-test.false) in
-    sym (ap (λ m. rounds m at.loop.left) none_left) ∙ at.loop.invariant.2
+    let none_left : at.args.p.n - at.loop-k.k ≡ 0 = omega (arith, c.loop-k-test.false) in
+    sym (ap (λ m. rounds m at.loop-k.left) none_left) ∙ at.loop-k.invariant.2
 
 pub payable_plan_spec : {M : Type 1} → statement M
 payable_plan_spec =
     tie.close (tie.spec
-    invariant-loop decreases-loop (λ c. (zero-le, c.requires, ap (λ m. rounds m c.args.p) (omega arith))) (λ c κs. c.before.loop.invariant.1)
+    invariant-loop decreases-loop (λ c. (zero-le, c.requires, ap (λ m. rounds m c.args.p) (omega arith))) (λ c κs. c.loop-k.invariant.1)
     (λ c. omega arith) (λ c. omega arith)
     loop-again returns)

@@ -10,77 +10,77 @@ use Rattle.tries.proofs.search.by_interval.Tie as tie
 abbrev try_at : Plan → Opening → ℕ → Try
 try_at p o j = try_of o (string_at p j).d.0
 
-abbrev invariant-loop : tie.invariant-loop
+abbrev invariant-loop : tie.invariant-loop-j
 invariant-loop p o n strings j₀ j =
     (j ≤ p.n) × (first_of (misses_on p) (map (try_at p o) (after j p.n)) ≡ first_of (misses_on p) (by_interval p (try_of o)))
 
-abbrev decreases-loop : tie.decreases-loop
+abbrev decreases-loop : tie.decreases-loop-j
 decreases-loop p o n strings j₀ j = p.n - j
 
-loop-holds : tie.Need-loop-init invariant-loop decreases-loop
+loop-holds : tie.Need-loop-j-init invariant-loop decreases-loop
 loop-holds c =
-    let g = c.before.args in
+    let g = c.args in
     (omega arith, ap (λ js. first_of (misses_on g.p) (map (try_at g.p g.o) js)) (after_none g.p.n))
 
 -- the string of a turn, which is one of the plan's
-abbrev string : tie.After-s invariant-loop decreases-loop → BatteryString
-string c = get_or c.before.before.before.before.args.p.strings c.before.before.loop.j no_string
+abbrev string : tie.After-s-1 invariant-loop decreases-loop → BatteryString
+string c = get_or c.args.p.strings c.loop-j.j no_string
 
-of-plan : (c : tie.After-s invariant-loop decreases-loop) → PlanString c.before.before.before.before.args.p (string c)
+of-plan : (c : tie.After-s-1 invariant-loop decreases-loop) → PlanString c.args.p (string c)
 of-plan c =
     let start = c.before.before.before.before in
-    place-lawful start.args.p start.requires.0 c.before.before.loop.j c.before.loop-test.true
+    place-lawful start.args.p start.requires.0 c.loop-j.j c.loop-j-test.true
 
-short : (c : tie.After-s invariant-loop decreases-loop) → (string c).d.0 ≤ 101000
+short : (c : tie.After-s-1 invariant-loop decreases-loop) → (string c).d.0 ≤ 101000
 short c =
     let lawful = (of-plan c).lawful in
     omega (arith, lawful.d_max, lawful.t_max)
 
-misses-on-requires : tie.Need-misses-on-requires invariant-loop decreases-loop
+misses-on-requires : tie.Need-misses_on-requires invariant-loop decreases-loop
 misses-on-requires c κs =
     let start = c.before.before.before.before in
     (start.requires.0, (start.requires.1, short c))
 
 -- the try of a turn is that of its place
-tried : (c : tie.After-s invariant-loop decreases-loop)
-    → try_of c.before.before.before.before.args.o (string c).d.0
-    ≡ try_at c.before.before.before.before.args.p c.before.before.before.before.args.o (c.before.before.loop.j + 1)
+tried : (c : tie.After-s-1 invariant-loop decreases-loop)
+    → try_of c.args.o (string c).d.0
+    ≡ try_at c.args.p c.args.o (c.loop-j.j + 1)
 tried c =
     let start = c.before.before.before.before in
     ap (λ s. try_of start.args.o s.d.0)
-    (sym (place-string start.args.p start.requires.0 c.before.before.loop.j c.before.loop-test.true))
+    (sym (place-string start.args.p start.requires.0 c.loop-j.j c.loop-j-test.true))
 
-returns : tie.Need-returns invariant-loop decreases-loop
+returns : tie.Need-returns-then-misses_on invariant-loop decreases-loop
 returns c =
     let turn = c.before.before in
     let at = turn.before.before in
     let start = at.before.before in
     let p = start.args.p in
     let o = start.args.o in
-    let misses = ap (misses_on p) (sym (tried turn)) ∙ sym c.before.misses-on.ensures ∙ c.if1.true in
-    let found = try-here (misses_on p) (try_at p o) at.loop.j p.n turn.before.loop-test.true misses in
-    (start.requires.1, short turn, sym at.loop.invariant.1 ∙ found ∙ ap some (sym (tried turn)))
+    let misses = ap (misses_on p) (sym (tried turn)) ∙ sym c.misses_on.ensures ∙ c.if-misses_on.true in
+    let found = try-here (misses_on p) (try_at p o) at.loop-j.j p.n turn.loop-j-test.true misses in
+    (start.requires.1, short turn, sym at.loop-j.invariant.1 ∙ found ∙ ap some (sym (tried turn)))
 
-loop-again : tie.Need-loop-preserved invariant-loop decreases-loop
+loop-again : tie.Need-loop-j-preserved invariant-loop decreases-loop
 loop-again c =
     let turn = c.before.before in
     let at = turn.before.before in
     let start = at.before.before in
     let p = start.args.p in
     let o = start.args.o in
-    let holds = ap (misses_on p) (sym (tried turn)) ∙ sym c.before.misses-on.ensures ∙ c.if1.false in
-    (omega arith, sym (try-later (misses_on p) (try_at p o) at.loop.j p.n turn.before.loop-test.true holds) ∙ at.loop.invariant.1)
+    let holds = ap (misses_on p) (sym (tried turn)) ∙ sym c.misses_on.ensures ∙ c.if-misses_on.false in
+    (omega arith, sym (try-later (misses_on p) (try_at p o) at.loop-j.j p.n turn.loop-j-test.true holds) ∙ at.loop-j.invariant.1)
 
-returns-2 : tie.Need-returns-2 invariant-loop decreases-loop
+returns-2 : tie.Need-returns invariant-loop decreases-loop
 returns-2 c =
     let at = c.before in
     let start = at.before.before in
     let p = start.args.p in
-    sym at.loop.invariant.1 ∙ try-end (misses_on p) (try_at p start.args.o) at.loop.j p.n c.loop-test.false
+    sym at.loop-j.invariant.1 ∙ try-end (misses_on p) (try_at p start.args.o) at.loop-j.j p.n c.loop-j-test.false
 
 pub by_interval_spec : {M : Type 1} → statement M
 by_interval_spec =
     tie.close (tie.spec
-    invariant-loop decreases-loop loop-holds (λ c. omega (arith, c.before.before.before.requires.0.lawful.n_max))
-    (λ c. omega (arith, c.before.before.before.requires.0.lawful.n_max)) misses-on-requires returns (λ c. omega arith)
+    invariant-loop decreases-loop loop-holds (λ c. omega (arith, c.requires.0.lawful.n_max))
+    (λ c. omega (arith, c.requires.0.lawful.n_max)) misses-on-requires returns (λ c. omega arith)
     (λ c. omega arith) loop-again returns-2)

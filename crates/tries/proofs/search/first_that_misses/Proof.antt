@@ -30,52 +30,54 @@ module _ (p : Plan) where
       not_stopped : first_of (misses_on p) (stopped_tries p) ≡ none → first_of (misses_on p) (paid_tries p) ≡ found p
       not_stopped g = sym (first_of-rest (misses_on p) (stopped_tries p) (paid_tries p) g) ∙ not-held
 
-returns : tie.Need-returns
+returns : tie.Need-returns-in_default
 returns c =
-    let first = c.before.before in
-    let p = first.before.args.p in
-    let t = first.blocked.result in
+    let first = c.before in
+    let p = first.args.p in
+    let t = first.blocked-first.result in
     finds-as t _ _ (sym (all-of-them p))
-    (finds-front (misses_on p) t (free p) (held p ++ (stopped_tries p ++ paid_tries p)) c.before.match.keys2 first.blocked.ensures)
+    (finds-front (misses_on p) t (free p) (held p ++ (stopped_tries p ++ paid_tries p)) c.in_default.in_default-own.keys2
+    first.blocked-first.ensures)
 
 -- nothing where the rule with free moving breaks
-none_free : (c : tie.After-enum-told)
-    → first_of (misses_on c.before.before.before.args.p) (free c.before.before.before.args.p) ≡ none
-none_free c = finds-none c.before.before.blocked.result _ c.enum_told.given.1 c.before.before.blocked.ensures
+none_free : (c : tie.In-NoneMisses)
+    → first_of (misses_on c.args.p) (free c.args.p) ≡ none
+none_free c = finds-none c.blocked-first.result _ c.in-NoneMisses.is c.blocked-first.ensures
 
-returns-2 : tie.Need-returns-2
+returns-2 : tie.Need-returns-in_default-second
 returns-2 c =
-    let second = c.before.before in
+    let second = c.before in
     let told = second.before in
-    let p = told.before.before.before.args.p in
-    let t = second.held.result in
+    let p = told.args.p in
+    let t = second.held-second.result in
     finds-as t _ _ (not_free p (none_free told))
-    (finds-front (misses_on p) t (held p) (stopped_tries p ++ paid_tries p) c.before.match2.keys2 second.held.ensures)
+    (finds-front (misses_on p) t (held p) (stopped_tries p ++ paid_tries p) c.in_default-second.in_default-second-own.keys2
+    second.held-second.ensures)
 
 -- nor where its own rule breaks
-none-held : (c : tie.After-enum-told3)
-    → first_of (misses_on c.before.before.before.before.before.before.args.p)
-    (held c.before.before.before.before.before.before.args.p)
+none-held : (c : tie.In-NoneMisses-second)
+    → first_of (misses_on c.args.p)
+    (held c.args.p)
     ≡ none
-none-held c = finds-none c.before.before.held.result _ c.enum-told3.given.1 c.before.before.held.ensures
+none-held c = finds-none c.held-second.result _ c.in-NoneMisses-second.is c.held-second.ensures
 
-returns-3 : tie.Need-returns-3
+returns-3 : tie.Need-returns-in_default-third
 returns-3 c =
+    let third = c.before in
+    let told = third.before in
+    let before = told.before.before in
+    let p = before.args.p in
+    let t = third.stopped-third.result in
+    finds-as t _ _ (not-held p (none_free before) (none-held told))
+    (finds-front (misses_on p) t (stopped_tries p) (paid_tries p) c.in_default-third.in_default-third-own.keys2 third.stopped-third.ensures)
+
+returns-4 : tie.Need-returns
+returns-4 c =
     let third = c.before.before in
     let told = third.before in
-    let before = told.before.before.before in
-    let p = before.before.before.before.args.p in
-    let t = third.stopped.result in
-    finds-as t _ _ (not-held p (none_free before) (none-held told))
-    (finds-front (misses_on p) t (stopped_tries p) (paid_tries p) c.before.match3.keys2 third.stopped.ensures)
-
-returns-4 : tie.Need-returns-4
-returns-4 c =
-    let third = c.before.before.before in
-    let told = third.before in
-    let before = told.before.before.before in
-    let p = before.before.before.before.args.p in
-    let none-stopped = finds-none third.stopped.result _ c.before.enum-told5.given.1 third.stopped.ensures in
+    let before = told.before.before in
+    let p = before.args.p in
+    let none-stopped = finds-none third.stopped-third.result _ c.in-NoneMisses-third.is third.stopped-third.ensures in
     finds-as c.paid.result _ _ (not_stopped p (none_free before) (none-held told) none-stopped) c.paid.ensures
 
 pub first_that_misses_spec : {M : Type 1} → statement M

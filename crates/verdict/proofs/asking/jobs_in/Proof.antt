@@ -15,20 +15,20 @@ module _ (s : BatteryString) (w least : ℕ) (ok : LawfulString s) (e : least �
       let same : w - least ≡ w + s.j.0 - s.d.0 = omega arith in
       ap (λ n. n / s.t.0 + 1) same ∙ sym (jobs-from s w (omega arith))
 
-returns : tie.Need-returns
+returns : tie.Need-returns-then-w-least
 returns c =
     let start = c.before.before in
-    none start.args.s start.args.w _ start.requires c.before.leeway-of.ensures c.if1.true
+    none start.args.s start.args.w _ start.requires c.leeway_of-least.ensures c.if-w-least.true
 
 value :
-    (c : tie.Else1)
-    → (c.before.before.args.w - c.before.leeway-of.result) / c.before.before.args.s.t.0 + 1
-    ≡ jobs c.before.before.args.s c.before.before.args.w
+    (c : tie.Else-w-least)
+    → (c.args.w - c.leeway_of-least.result) / c.args.s.t.0 + 1
+    ≡ jobs c.args.s c.args.w
 value c =
     let start = c.before.before in
-    some start.args.s start.args.w _ start.requires c.before.leeway-of.ensures c.if1.false
+    some start.args.s start.args.w _ start.requires c.leeway_of-least.ensures c.if-w-least.false
 
-add-result : tie.Need-overflow-add-result
+add-result : tie.Need-overflow_add-result
 add-result c =
     let start = c.before.before.before in
     omega (arith, value c.before, jobs-le start.args.s start.args.w start.requires)

@@ -3,12 +3,12 @@ use Rattle.base.proofs.Prelude.{◌-◌, arith, rules}
 use Rattle.verdict.proofs.{Asked.{asked_by-le, demand-parts}, growing.demand_at.Statement.statement}
 use Rattle.verdict.proofs.growing.demand_at.Tie as tie
 
-add-result : tie.Need-overflow-add-result
+add-result : tie.Need-overflow_add-result
 add-result c =
     let kept = asked_by-le c.args.p 0 c.args.l c.requires.0.lawful (omega arith) in
     omega arith
 
-add-result-2 : tie.Need-overflow-add-result-2
+add-result-2 : tie.Need-overflow_add-result-2
 add-result-2 c =
     let start = c.before in
     let l = start.args.l in

@@ -11,7 +11,7 @@ use Rattle.verdict.proofs.{Asked.asked_by-le, Onward.{Onto, onto-soonest, d_max-
 use Rattle.laws.proofs.Lawful.{d_max-le}
 use Rattle.verdict.proofs.growing.late.Tie as tie
 
-abbrev invariant-loop : tie.invariant-loop
+abbrev invariant-loop : tie.invariant-loop-l
 invariant-loop p h before last end every keeps takes next₀ demand₀ pairs₀ l₀ next demand pairs l =
     (d_max p ≤ l)
     × (l ≤ end)
@@ -22,88 +22,91 @@ invariant-loop p h before last end every keeps takes next₀ demand₀ pairs₀ 
     × (l < end → grows p (pair l 0) ≡ true)
     × (scan_from p pairs (keep (grows p) (rows p l (end - l))) ≡ scan_from p before (keep (grows p) (rows p (d_max p) (multiple_of p))))
 
-abbrev decreases-loop : tie.decreases-loop
+abbrev decreases-loop : tie.decreases-loop-l
 decreases-loop p h before last end every keeps takes next₀ demand₀ pairs₀ l₀ next demand pairs l = end - l
 
 -- what is known at a turn: where it starts, the largest D, the interval it comes to
-abbrev last : tie.At-loop invariant-loop decreases-loop → tie.After-largest-d invariant-loop decreases-loop
+abbrev last : tie.At-loop-l invariant-loop decreases-loop → tie.After-largest_d-last invariant-loop decreases-loop
 last c = c.before.before.before.before.before.before.before.before.before
 
-abbrev start : tie.At-loop invariant-loop decreases-loop → tie.Start invariant-loop decreases-loop
+abbrev start : tie.At-loop-l invariant-loop decreases-loop → tie.Start invariant-loop decreases-loop
 start c = (last c).before
 
-abbrev turn : tie.After-advance invariant-loop decreases-loop → tie.In-loop invariant-loop decreases-loop
+abbrev turn : tie.After-advance-step invariant-loop decreases-loop → tie.In-loop-l invariant-loop decreases-loop
 turn c = c.before.before.before.before.before
 
-abbrev at : tie.After-advance invariant-loop decreases-loop → tie.At-loop invariant-loop decreases-loop
+abbrev at : tie.After-advance-step invariant-loop decreases-loop → tie.At-loop-l invariant-loop decreases-loop
 at c = (turn c).before
 
-abbrev most : tie.After-first-step invariant-loop decreases-loop → tie.After-largest-d invariant-loop decreases-loop
+abbrev most : tie.After-first_step-l invariant-loop decreases-loop → tie.After-largest_d-last invariant-loop decreases-loop
 most c = c.before.before.before.before.before.before.before.before
 
-abbrev begin : tie.After-first-step invariant-loop decreases-loop → tie.Start invariant-loop decreases-loop
+abbrev begin : tie.After-first_step-l invariant-loop decreases-loop → tie.Start invariant-loop decreases-loop
 begin c = (most c).before
 
-add-end : tie.Need-overflow-add-end invariant-loop decreases-loop
+add-end : tie.Need-overflow_add-end invariant-loop decreases-loop
 add-end c =
-    let ready = c.before.requires.0 in
-    omega (arith, c.largest-d.ensures, c.before.requires.1.0, ready.lawful.h_max, d_max-le c.before.args.p ready.lawful)
+    let ready = c.requires.0 in
+    omega (arith, c.largest_d-last.ensures, c.requires.1.0, ready.lawful.h_max, d_max-le c.args.p ready.lawful)
 
 -- the interval before the largest D
-short : (c : tie.After-largest-d invariant-loop decreases-loop) → c.largest-d.result - 1 ≤ 1000
-short c = omega (arith, c.largest-d.ensures, d_max-le c.before.args.p c.before.requires.0.lawful)
+short : (c : tie.After-largest_d-last invariant-loop decreases-loop) → c.largest_d-last.result - 1 ≤ 1000
+short c = omega (arith, c.largest_d-last.ensures, d_max-le c.args.p c.requires.0.lawful)
 
-some : (c : tie.After-largest-d invariant-loop decreases-loop) → 1 ≤ c.largest-d.result
-some c = omega (arith, c.largest-d.ensures, d_max-pos c.before.args.p c.before.requires.0)
+some : (c : tie.After-largest_d-last invariant-loop decreases-loop) → 1 ≤ c.largest_d-last.result
+some c = omega (arith, c.largest_d-last.ensures, d_max-pos c.args.p c.requires.0)
 
-steps-after-requires : tie.Need-steps-after-requires invariant-loop decreases-loop
+steps-after-requires : tie.Need-steps_after-next-requires invariant-loop decreases-loop
 steps-after-requires c κs =
     let most = c.before.before.before.before in
-    (most.before.requires.0, short most)
+    (most.requires.0, short most)
 
-work-within-requires : tie.Need-work-within-requires invariant-loop decreases-loop
+work-within-requires : tie.Need-work_within-work-requires invariant-loop decreases-loop
 work-within-requires c κs =
     let most = c.before.before.before.before.before in
-    (most.before.requires.0, omega (arith, short most))
+    (most.requires.0, omega (arith, short most))
 
-add-demand : tie.Need-overflow-add-demand invariant-loop decreases-loop
+add-demand : tie.Need-overflow_add-demand invariant-loop decreases-loop
 add-demand c =
     let most = c.before.before.before.before.before.before.before in
-    let p = most.before.args.p in
-    let lawful = most.before.requires.0.lawful in
-    let l = most.largest-d.result - 1 in
+    let p = most.args.p in
+    let lawful = most.requires.0.lawful in
+    let l = most.largest_d-last.result - 1 in
     let low : l ≤ 101000 = omega (arith, short most) in
     omega (
       arith,
-      c.before.work-within.ensures.0,
-      c.before.work-within.ensures.1,
+      c.work_within-work.ensures.0,
+      c.work_within-work.ensures.1,
       asked_by-le p 0 l lawful low,
       asked_by-le p 1 l lawful low,
     )
 
-first-step-requires : tie.Need-first-step-requires invariant-loop decreases-loop
+first-step-requires : tie.Need-first_step-l-requires invariant-loop decreases-loop
 first-step-requires c κs =
     let most = c.before.before.before.before.before.before.before in
-    (most.before.requires.0, short most)
+    (most.requires.0, short most)
 
 -- the walk starts at the first step from the largest D on
 from :
-    (c : tie.After-first-step invariant-loop decreases-loop) (next : List ℕ) → Due (begin c).args.p ((most c).largest-d.result - 1) next
-    → Onto (begin c).args.p ((most c).largest-d.result - 1) ((most c).largest-d.result + (begin c).args.h) c.first_step.result next
+    (c : tie.After-first_step-l invariant-loop decreases-loop) (next : List ℕ)
+    → Due (begin c).args.p ((most c).largest_d-last.result - 1) next
+    → Onto (begin c).args.p ((most c).largest_d-last.result - 1) ((most c).largest_d-last.result + (begin c).args.h) c.first_step-l.result
+    next
 from c next due =
     let ready = (begin c).requires.0 in
-    let before-end : (most c).largest-d.result - 1 < (most c).largest-d.result + (begin c).args.h = omega (arith, some (most c)) in
-    onto-soonest (begin c).args.p ready _ _ _ next before-end c.first_step.ensures due
+    let before-end : (most c).largest_d-last.result - 1 < (most c).largest_d-last.result + (begin c).args.h =
+    omega (arith, some (most c)) in
+    onto-soonest (begin c).args.p ready _ _ _ next before-end c.first_step-l.ensures due
 
-loop-holds : tie.Need-loop-init invariant-loop decreases-loop
+loop-holds : tie.Need-loop-l-init invariant-loop decreases-loop
 loop-holds c =
     let p = (begin c).args.p in
     let lawful = (begin c).requires.0.lawful in
-    let last = (most c).largest-d.result in
-    let top : last ≡ d_max p = (most c).largest-d.ensures in
+    let last = (most c).largest_d-last.result in
+    let top : last ≡ d_max p = (most c).largest_d-last.ensures in
     let pos = some (most c) in
-    let work = c.before.before.work-within.ensures in
-    let there = from c _ c.before.before.before.steps-after.ensures in
+    let work = c.work_within-work.ensures in
+    let there = from c _ c.steps_after-next.ensures in
     let past = there.past in
     let left : last + (begin c).args.h - last ≡ multiple_of p = omega (arith, (begin c).requires.1.0) in (
       omega (arith, top),
@@ -119,97 +122,97 @@ loop-holds c =
           ∙ ap (λ l. scan_from p (begin c).args.before (keep (grows p) (rows p l (multiple_of p)))) top,
     )
 
-advance-requires : tie.Need-advance-requires invariant-loop decreases-loop
+advance-requires : tie.Need-advance-step-requires invariant-loop decreases-loop
 advance-requires c κs =
     let here = c.before.before.before.before.before in
     let begin = start here in
     let parts = here.before.before.before.before.before.before.before.before in
-    let pos : 1 ≤ here.loop.l = omega (arith, here.loop.invariant.0, d_max-pos begin.args.p begin.pre.0) in
-    (begin.pre.0, (pos, (omega arith, (parts.parts-of.ensures, here.loop.invariant.4))))
+    let pos : 1 ≤ here.loop-l.l = omega (arith, here.loop-l.invariant.0, d_max-pos begin.args.p begin.requires.0) in
+    (begin.requires.0, (pos, (omega arith, (parts.parts_of-parts.ensures, here.loop-l.invariant.4))))
 
 -- what is added up at a step is the demand there, and it fits
 sum :
-    (c : tie.After-advance invariant-loop decreases-loop)
-    → (at c).loop.demand + (c.advance.result.keepers + c.advance.result.takers) ≡ demand (start (at c)).args.p (at c).loop.l 0
+    (c : tie.After-advance-step invariant-loop decreases-loop)
+    → (at c).loop-l.demand + (c.advance-step.result.keepers + c.advance-step.result.takers) ≡ demand (start (at c)).args.p (at c).loop-l.l 0
 sum c =
     let begin = start (at c) in
     omega (
       arith,
-      (at c).loop.invariant.5,
-      c.advance.ensures.1.0,
-      c.advance.ensures.1.1.0,
-      demand-unblocked begin.args.p (at c).loop.l begin.pre.0.lawful,
+      (at c).loop-l.invariant.5,
+      c.advance-step.ensures.1.0,
+      c.advance-step.ensures.1.1.0,
+      demand-unblocked begin.args.p (at c).loop-l.l begin.requires.0.lawful,
     )
 
-small : (c : tie.In-loop invariant-loop decreases-loop) → demand (start c.before).args.p c.before.loop.l 0 ≤ 4040000000
+small : (c : tie.In-loop-l invariant-loop decreases-loop) → demand (start c.before).args.p c.loop-l.l 0 ≤ 4040000000
 small c =
     let p = (start c.before).args.p in
-    let l = c.before.loop.l in
-    let lawful = (start c.before).pre.0.lawful in
+    let l = c.loop-l.l in
+    let lawful = (start c.before).requires.0.lawful in
     let low : l ≤ 101000 = omega arith in
     omega (arith, demand-unblocked p l lawful, asked_by-le p 0 l lawful low, asked_by-le p 1 l lawful low)
 
-add-pairs : tie.Need-overflow-add-pairs invariant-loop decreases-loop
-add-pairs c = omega (arith, (at c.before).loop.invariant.3, (at c.before).loop.invariant.1, (at c.before).loop.invariant.2)
+add-pairs : tie.Need-overflow_add-pairs invariant-loop decreases-loop
+add-pairs c = omega (arith, (at c.before).loop-l.invariant.3, (at c.before).loop-l.invariant.1, (at c.before).loop-l.invariant.2)
 
 -- in a turn a count grows
-looked : (c : tie.In-loop invariant-loop decreases-loop) → grows (start c.before).args.p (pair c.before.loop.l 0) ≡ true
-looked c = c.before.loop.invariant.6 c.loop-test.true
+looked : (c : tie.In-loop-l invariant-loop decreases-loop) → grows (start c.before).args.p (pair c.loop-l.l 0) ≡ true
+looked c = c.loop-l.invariant.6 c.loop-l-test.true
 
-returns : tie.Need-returns invariant-loop decreases-loop
+returns : tie.Need-returns-then-l-demand invariant-loop decreases-loop
 returns c =
     let step = c.before.before in
-    let loop = (at step).loop in
+    let loop = (at step).loop-l in
     let p = (start (at step)).args.p in
-    let bad : loop.l < demand p loop.l 0 = omega (arith, sum step, c.if1.true) in
+    let bad : loop.l < demand p loop.l 0 = omega (arith, sum step, c.if-l-demand.true) in
     ap (λ d. Fail (days loop.l) (days 0) (days d) (loop.pairs + 1)) (sum step)
-    ∙ sym (onward-bad p loop.pairs loop.l _ (turn step).loop-test.true (looked (turn step)) bad)
-    ∙ loop.inv.7
+    ∙ sym (onward-bad p loop.pairs loop.l _ (turn step).loop-l-test.true (looked (turn step)) bad)
+    ∙ loop.invariant.7
 
 -- where the walk goes on
 onto :
-    (c : tie.After-advance invariant-loop decreases-loop)
-    → Onto (start (at c)).args.p (at c).loop.l ((last (at c)).largest-d.result + (start (at c)).args.h) c.advance.result.soonest
-    c.advance.new.1.1.1.1.1.1.0
+    (c : tie.After-advance-step invariant-loop decreases-loop)
+    → Onto (start (at c)).args.p (at c).loop-l.l ((last (at c)).largest_d-last.result + (start (at c)).args.h) c.advance-step.result.soonest
+    c.advance-step.new.next
 onto c =
     let begin = start (at c) in
-    onto-soonest begin.args.p begin.pre.0 _ _ _ _ (turn c).loop-test.true c.advance.ensures.1.1.1 c.advance.ensures.0
+    onto-soonest begin.args.p begin.requires.0 _ _ _ _ (turn c).loop-l-test.true c.advance-step.ensures.1.1.1 c.advance-step.ensures.0
 
-loop-again : tie.Need-loop-preserved invariant-loop decreases-loop
+loop-again : tie.Need-loop-l-preserved invariant-loop decreases-loop
 loop-again c =
     let step = c.before.before in
-    let loop = (at step).loop in
+    let loop = (at step).loop-l in
     let p = (start (at step)).args.p in
     let past = (onto step).past in
-    let good : demand p loop.l 0 ≤ loop.l = omega (arith, sum step, c.if1.false) in (
-      omega (arith, loop.inv.0),
+    let good : demand p loop.l 0 ≤ loop.l = omega (arith, sum step, c.if-l-demand.false) in (
+      omega (arith, loop.invariant.0),
       (onto step).within,
-      loop.inv.2,
-      omega (arith, loop.inv.3),
+      loop.invariant.2,
+      omega (arith, loop.invariant.3),
       (onto step).due,
       omega (
         arith,
         sum step,
-        demand-unblocked p loop.l (start (at step)).pre.0.lawful,
+        demand-unblocked p loop.l (start (at step)).requires.0.lawful,
         (onto step).asked 0,
         (onto step).asked 1,
       ),
       (onto step).looked,
-      sym (onward-good p loop.pairs loop.l _ _ loop.inv.0 (turn step).loop-test.true (looked (turn step)) good past
+      sym (onward-good p loop.pairs loop.l _ _ loop.invariant.0 (turn step).loop-l-test.true (looked (turn step)) good past
           (onto step).within
           (onto step).still)
-          ∙ loop.inv.7,
+          ∙ loop.invariant.7,
     )
 
-returns-2 : tie.Need-returns-2 invariant-loop decreases-loop
+returns-2 : tie.Need-returns invariant-loop decreases-loop
 returns-2 c =
-    let loop = c.before.loop in
-    sym (onward-end _ loop.pairs loop.l _ c.loop-test.false) ∙ loop.invariant.7
+    let loop = c.loop-l in
+    sym (onward-end _ loop.pairs loop.l _ c.loop-l-test.false) ∙ loop.invariant.7
 
 pub late_spec : {M : Type 1} → statement M
 late_spec =
     tie.close (tie.spec
-    invariant-loop decreases-loop (λ c κs. c.requires.0) add-end (λ c κs. c.before.requires.0)
+    invariant-loop decreases-loop (λ c κs. c.requires.0) add-end (λ c κs. c.requires.0)
     (λ c. some c.before.before.before.before) steps-after-requires
     (λ c. some c.before.before.before.before.before) work-within-requires add-demand
     (λ c. some c.before.before.before.before.before.before.before) first-step-requires loop-holds advance-requires

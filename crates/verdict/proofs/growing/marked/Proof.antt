@@ -6,5 +6,5 @@ use Rattle.verdict.proofs.growing.marked.Tie as tie
 pub marked_spec : {M : Type 1} → statement M
 marked_spec =
     tie.close (tie.spec
-    (λ c. omega arith) (λ c. rw (lt-ltb 0 c.before.args.takers c.if1.true))
-    (λ c. rw (le-ltb 0 c.before.args.takers c.if1.false)))
+    (λ c. omega arith) (λ c. rw (lt-ltb 0 c.args.takers c.if-takers-gt0.true))
+    (λ c. rw (le-ltb 0 c.args.takers c.if-takers-gt0.false)))

@@ -5,29 +5,29 @@ use Rattle.rules.specs.Plan.{d_max}
 use Rattle.verdict.proofs.{StringSums.{largest-at, largest-end}, limits.largest_d.Statement.statement}
 use Rattle.verdict.proofs.limits.largest_d.Tie as tie
 
-abbrev invariant-loop : tie.invariant-loop
+abbrev invariant-loop : tie.invariant-loop-i
 invariant-loop n strings most₀ i₀ most i =
     (i ≤ n) × (max most (largest (λ s. s.d.0) (drop i (take n strings))) ≡ largest (λ s. s.d.0) (take n strings))
 
-abbrev decreases-loop : tie.decreases-loop
+abbrev decreases-loop : tie.decreases-loop-i
 decreases-loop n strings most₀ i₀ most i = n - i
 
-loop-again : tie.Need-loop-preserved invariant-loop decreases-loop
+loop-again : tie.Need-loop-i-preserved invariant-loop decreases-loop
 loop-again c =
     let start = c.before.before.before.before.before in
-    let next = largest-at start.args.p start.requires (λ s. s.d.0) c.before.before.before.loop.i
-    c.before.before.loop-test.true in
-    (omega arith, omega (arith, c.larger.ensures, next))
+    let next = largest-at start.args.p start.requires (λ s. s.d.0) c.loop-i.i
+    c.loop-i-test.true in
+    (omega arith, omega (arith, c.larger-most.ensures, next))
 
 returns : tie.Need-returns invariant-loop decreases-loop
 unfolding d_max
 returns c =
     let start = c.before.before.before in
-    omega (arith, largest-end start.args.p start.requires (λ s. s.d.0) c.before.loop.i c.loop-test.false)
+    omega (arith, largest-end start.args.p start.requires (λ s. s.d.0) c.loop-i.i c.loop-i-test.false)
 
 pub largest_d_spec : {M : Type 1} → statement M
 largest_d_spec =
     tie.close (tie.spec
-    invariant-loop decreases-loop (λ c. (omega arith, omega arith)) (λ c. omega (arith, c.before.before.before.requires.lawful.n_max))
-    (λ c. omega (arith, c.before.before.before.requires.lawful.n_max)) (λ c κs. search rules) (λ c. omega arith)
+    invariant-loop decreases-loop (λ c. (omega arith, omega arith)) (λ c. omega (arith, c.requires.lawful.n_max))
+    (λ c. omega (arith, c.requires.lawful.n_max)) (λ c κs. search rules) (λ c. omega arith)
     (λ c. omega arith) loop-again returns)

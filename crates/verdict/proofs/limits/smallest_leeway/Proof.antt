@@ -7,48 +7,48 @@ use Rattle.base.proofs.Lists.{smallest_with-le}
 use Rattle.verdict.proofs.{StringSums.{string-at, smallest-start, smallest-at, smallest-end}, limits.smallest_leeway.Statement.statement}
 use Rattle.verdict.proofs.limits.smallest_leeway.Tie as tie
 
-abbrev invariant-loop : tie.invariant-loop
+abbrev invariant-loop : tie.invariant-loop-i
 invariant-loop n strings least₀ i₀ least i =
     (1 ≤ i)
     × (i ≤ n)
     × (least ≤ least₀)
     × (min least (smallest_with leeway least₀ (drop i (take n strings))) ≡ smallest leeway (take n strings))
 
-abbrev decreases-loop : tie.decreases-loop
+abbrev decreases-loop : tie.decreases-loop-i
 decreases-loop n strings least₀ i₀ least i = n - i
 
-loop-holds : tie.Need-loop-init invariant-loop decreases-loop
+loop-holds : tie.Need-loop-i-init invariant-loop decreases-loop
 loop-holds c =
     let start = c.before.before.before in
     let p = start.args.p in
     let whole = smallest-start p start.requires leeway in
-    let same = ap (λ m. smallest_with leeway m (drop 1 (strings_of p))) c.leeway-of.ensures in
-    let bound = smallest_with-le leeway c.leeway-of.result (drop 1 (strings_of p)) in
+    let same = ap (λ m. smallest_with leeway m (drop 1 (strings_of p))) c.leeway_of-least.ensures in
+    let bound = smallest_with-le leeway c.leeway_of-least.result (drop 1 (strings_of p)) in
     (omega arith, start.requires.lawful.n_pos, omega arith, omega (arith, same, whole, bound))
 
 -- the first string of a plan, and the one of a turn
-first-lawful : tie.Need-leeway-of-requires invariant-loop decreases-loop
+first-lawful : tie.Need-leeway_of-least-requires invariant-loop decreases-loop
 first-lawful c κs =
     let start = c.before.before in
     (string-at start.args.p start.requires 0 start.requires.lawful.n_pos).lawful
 
-turn-lawful : tie.Need-leeway-of-requires-2 invariant-loop decreases-loop
+turn-lawful : tie.Need-leeway_of-requires invariant-loop decreases-loop
 turn-lawful c κs =
     let at = c.before.before in
     let start = at.before.before.before.before in
-    (string-at start.args.p start.requires at.loop.i c.before.loop-test.true).lawful
+    (string-at start.args.p start.requires at.loop-i.i c.loop-i-test.true).lawful
 
-loop-again : tie.Need-loop-preserved invariant-loop decreases-loop
+loop-again : tie.Need-loop-i-preserved invariant-loop decreases-loop
 loop-again c =
     let at = c.before.before.before.before in
     let start = at.before.before.before.before in
     let p = start.args.p in
-    let first = at.before.leeway-of.result in
-    let next = smallest-at p start.requires leeway first at.loop.i c.before.before.before.loop-test.true in (
+    let first = at.leeway_of-least.result in
+    let next = smallest-at p start.requires leeway first at.loop-i.i c.loop-i-test.true in (
       omega arith,
       omega arith,
-      omega (arith, c.smaller.ensures),
-      omega (arith, c.before.leeway-of2.ensures, c.smaller.ensures, next),
+      omega (arith, c.smaller-least.ensures),
+      omega (arith, c.leeway_of.ensures, c.smaller-least.ensures, next),
     )
 
 returns : tie.Need-returns invariant-loop decreases-loop
@@ -56,12 +56,12 @@ unfolding leeway_min
 returns c =
     let from = c.before.before in
     let start = from.before.before.before in
-    omega (arith, smallest-end start.args.p start.requires leeway from.leeway-of.result c.before.loop.i c.loop-test.false)
+    omega (arith, smallest-end start.args.p start.requires leeway from.leeway_of-least.result c.loop-i.i c.loop-i-test.false)
 
 pub smallest_leeway_spec : {M : Type 1} → statement M
 smallest_leeway_spec =
     tie.close (tie.spec
     invariant-loop decreases-loop (λ c. omega arith) first-lawful loop-holds
-    (λ c. omega (arith, c.before.before.before.before.before.requires.lawful.n_max))
-    (λ c. omega (arith, c.before.before.before.before.before.requires.lawful.n_max)) turn-lawful (λ c κs. search rules)
+    (λ c. omega (arith, c.requires.lawful.n_max))
+    (λ c. omega (arith, c.requires.lawful.n_max)) turn-lawful (λ c κs. search rules)
     (λ c. omega arith) (λ c. omega arith) loop-again returns)

@@ -5,19 +5,19 @@ use Rattle.demand.proofs.Pairs.{verdict_over-overload, verdict_over-scan}
 use Rattle.verdict.proofs.pairs.judged.Statement.{statement}
 use Rattle.verdict.proofs.pairs.judged.Tie as tie
 
-returns : tie.Need-returns
+returns : tie.Need-returns-then-h-load_over
 unfolding overloaded
 returns c =
     let start = c.before.before in
     let p = start.args.p in
-    sym (verdict_over-overload p (all_pairs p) (lt-ltb (multiple_of p) (load p) (omega (arith, start.requires.1, c.before.load-over.ensures))))
+    sym (verdict_over-overload p (all_pairs p) (lt-ltb (multiple_of p) (load p) (omega (arith, start.requires.1, c.load_over.ensures))))
 
-returns-2 : tie.Need-returns-2
+returns-2 : tie.Need-returns
 unfolding overloaded
 returns-2 c =
     let start = c.before.before.before in
     let p = start.args.p in
-    let light = le-ltb (multiple_of p) (load p) (omega (arith, start.requires.1, c.before.before.load-over.ensures)) in
+    let light = le-ltb (multiple_of p) (load p) (omega (arith, start.requires.1, c.load_over.ensures)) in
     c.scan.ensures ∙ sym (verdict_over-scan p (all_pairs p) light)
 
 pub judged_spec : {M : Type 1} → statement M

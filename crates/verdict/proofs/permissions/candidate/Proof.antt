@@ -9,23 +9,23 @@ use Rattle.verdict.proofs.permissions.candidate.Tie as tie
 tried-requires : tie.Need-tried-requires
 tried-requires c κs =
     let start = c.before.before in (
-      subst Ready (sym c.with-set.ensures) (ready_with start.args.p start.args.set start.requires.0),
-      start.requires.1 ∙ sym (ap multiple_of c.with-set.ensures ∙ with_set-multiple start.args.p start.args.set),
+      subst Ready (sym c.with_set.ensures) (ready_with start.args.p start.args.set start.requires.0),
+      start.requires.1 ∙ sym (ap multiple_of c.with_set.ensures ∙ with_set-multiple start.args.p start.args.set),
     )
 
-returns : tie.Need-returns
+returns : tie.Need-returns-then-set-ones
 unfolding set_passes
 returns c =
     let start = c.before.before.before in
-    let counted = eq-eqb (ones start.args.set) start.args.ones c.before.before.if1.true in
+    let counted = eq-eqb (ones start.args.set) start.args.ones c.if-set-ones.true in
     c.tried.ensures
-    ∙ ap (λ q. is_pass (verdict_of q)) c.before.with-set.ensures
+    ∙ ap (λ q. is_pass (verdict_of q)) c.with_set.ensures
     ∙ sym (ap (λ t. t && set_passes start.args.p start.args.set) counted)
 
-returns-2 : tie.Need-returns-2
+returns-2 : tie.Need-returns
 returns-2 c =
     let start = c.before in
-    sym (ap (λ t. t && set_passes start.args.p start.args.set) (ne_eqb (ones start.args.set) start.args.ones c.if1.false))
+    sym (ap (λ t. t && set_passes start.args.p start.args.set) (ne_eqb (ones start.args.set) start.args.ones c.if-set-ones.false))
 
 pub candidate_spec : {M : Type 1} → statement M
 candidate_spec = tie.close (tie.spec (λ c κs. search rules) tried-requires returns returns-2)

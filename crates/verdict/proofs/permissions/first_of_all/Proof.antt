@@ -18,15 +18,16 @@ passed p n k m ms h fault =
     walk-fails p n k m ms h (eqb-true (ones m) k t) fails)
     (λ f. walk-other p n k m ms h (eqb-false (ones m) k f))
 
-abbrev invariant-loop : tie.invariant-loop
+abbrev invariant-loop : tie.invariant-loop-set
 invariant-loop p h n most end known₀ ones set₀ known set =
     (set ≤ end) × (first_passing p (sets_from n ones set ++ set_rows n (ones + 1)) ≡ search_of p)
 
-abbrev decreases-loop : tie.decreases-loop
+abbrev decreases-loop : tie.decreases-loop-set
 decreases-loop p h n most end known₀ ones set₀ known set = end - set
 
 abbrev invariant-sets : tie.invariant-sets
-invariant-sets p h n most end known₀ ones₀ known ones = (ones ≤ n + 1) × (n ≤ 10) × (end ≡ 2 ^ n) × (first_passing p (set_rows n ones) ≡ search_of p)
+invariant-sets p h n most end known₀ ones₀ known ones = (ones ≤ n + 1) × (n ≤ 10) × (end ≡ 2 ^ n)
+    × (first_passing p (set_rows n ones) ≡ search_of p)
 
 abbrev decreases-sets : tie.decreases-sets
 decreases-sets p h n most end known₀ ones₀ known ones = n + 1 - ones
@@ -36,49 +37,49 @@ sets-holds c =
     let few = c.requires.0.lawful.n_max in
     (omega arith, few, shift-is-sets c.args.p.n few, sym (search_of-rows c.args.p))
 
-loop-holds : tie.Need-loop-init invariant-loop decreases-loop invariant-sets decreases-sets
+loop-holds : tie.Need-loop-set-init invariant-loop decreases-loop invariant-sets decreases-sets
 loop-holds c =
     let at = c.before in
-    let p = at.before.args.p in
+    let p = at.args.p in
     (omega arith, sym (walk-row p p.n at.sets.ones 0 (omega arith)) ∙ at.sets.invariant.3)
 
-add-set : tie.Need-overflow-add-set invariant-loop decreases-loop invariant-sets decreases-sets
+add-set : tie.Need-overflow_add-set invariant-loop decreases-loop invariant-sets decreases-sets
 add-set c =
     let at = c.before.before.before.before.before.before in
-    omega (arith, at.sets.invariant.2, sets-small at.before.args.p.n at.sets.invariant.1)
+    omega (arith, at.sets.invariant.2, sets-small at.args.p.n at.sets.invariant.1)
 
-loop-again : tie.Need-loop-preserved invariant-loop decreases-loop invariant-sets decreases-sets
+loop-again : tie.Need-loop-set-preserved invariant-loop decreases-loop invariant-sets decreases-sets
 loop-again c =
     let at = c.before.before.before.before.before.before in
-    let p = at.before.args.p in
+    let p = at.args.p in
     let k = at.sets.ones in
-    let loop = c.before.before.before.before.loop in
+    let loop = c.loop-set in
     let below : loop.set < 2 ^ p.n = omega (arith, at.sets.invariant.2) in
-    let fails = sym c.before.before.candidate.ensures ∙ c.before.if2.false in
+    let fails = sym c.candidate-tried.ensures ∙ c.if-tried.false in
     (omega arith, sym (passed p p.n k loop.set _ below fails) ∙ loop.invariant.1)
 
 sets-again : tie.Need-sets-preserved invariant-loop decreases-loop invariant-sets decreases-sets
 sets-again c =
     let at = c.before.before.before in
-    let p = at.before.args.p in
-    let loop = c.before.loop in
+    let p = at.args.p in
+    let loop = c.loop-set in
     let past : 2 ^ p.n ≤ loop.set = omega (arith, at.sets.invariant.2) in
     (omega arith, at.sets.invariant.1, at.sets.invariant.2, sym (walk-row-end p p.n at.sets.ones loop.set _ past) ∙ loop.invariant.1)
 
-returns : tie.Need-returns invariant-loop decreases-loop invariant-sets decreases-sets
+returns : tie.Need-returns-then-most-ones invariant-loop decreases-loop invariant-sets decreases-sets
 returns c =
     let at = c.before in
-    let p = at.before.args.p in
-    sym (walk_end p p.n at.sets.ones 0 c.if1.true) ∙ at.sets.invariant.3
+    let p = at.args.p in
+    sym (walk_end p p.n at.sets.ones 0 c.if-most-ones.true) ∙ at.sets.invariant.3
 
-returns-2 : tie.Need-returns-2 invariant-loop decreases-loop invariant-sets decreases-sets
+returns-2 : tie.Need-returns-then-tried invariant-loop decreases-loop invariant-sets decreases-sets
 returns-2 c =
     let at = c.before.before.before.before.before in
-    let p = at.before.args.p in
+    let p = at.args.p in
     let k = at.sets.ones in
-    let loop = c.before.before.before.loop in
+    let loop = c.loop-set in
     let m = loop.set in
-    let found = sym c.before.candidate.ensures ∙ c.if2.true in
+    let found = sym c.candidate-tried.ensures ∙ c.if-tried.true in
     let below : m < 2 ^ p.n = omega (arith, at.sets.invariant.2) in
     let counted = eqb-true (ones m) k (and_left (eqb (ones m) k) (set_passes p m) found) in
     sym (walk-found p p.n k m _ below counted (and_right (eqb (ones m) k) (set_passes p m) found))
@@ -89,5 +90,5 @@ first_of_all_spec =
     tie.close (tie.spec
     invariant-loop decreases-loop invariant-sets decreases-sets (λ c. omega (arith, c.requires.0.lawful.n_max))
     (λ c. omega (arith, c.requires.0.lawful.n_max)) (λ c. omega (arith, c.requires.0.lawful.n_max)) sets-holds
-    loop-holds (λ c κs. c.before.before.before.before.requires) add-set
+    loop-holds (λ c κs. c.requires) add-set
     (λ c. omega arith) loop-again (λ c. omega arith) (λ c. omega arith) sets-again returns returns-2)

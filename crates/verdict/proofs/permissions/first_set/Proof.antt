@@ -9,18 +9,18 @@ use Rattle.verdict.specs.inner.Asked.{Ready}
 use Rattle.verdict.proofs.{Permit.ready_with, WorkAlone.unblocked-none, permissions.first_set.Statement.statement}
 use Rattle.verdict.proofs.permissions.first_set.Tie as tie
 
-quickly-judged-requires : tie.Need-quickly-judged-requires
+quickly-judged-requires : tie.Need-quickly_judged-alone-requires
 quickly-judged-requires c κs =
     let start = c.before in (
-      subst Ready (sym c.with-set.ensures) (ready_with start.args.p 0 start.requires.0),
-      start.requires.1 ∙ sym (ap multiple_of c.with-set.ensures ∙ with_set-multiple start.args.p 0),
+      subst Ready (sym c.with_set.ensures) (ready_with start.args.p 0 start.requires.0),
+      start.requires.1 ∙ sym (ap multiple_of c.with_set.ensures ∙ with_set-multiple start.args.p 0),
     )
 
 -- the verdict is that of the empty set
-alone : (c : tie.After-quickly-judged) → c.quickly-judged.result ≡ quick_of (with_set c.before.before.args.p 0)
-alone c = c.quickly-judged.ensures ∙ ap quick_of c.before.with-set.ensures
+alone : (c : tie.After-quickly_judged-alone) → c.quickly_judged-alone.result ≡ quick_of (with_set c.args.p 0)
+alone c = c.quickly_judged-alone.ensures ∙ ap quick_of c.with_set.ensures
 
-returns : tie.Need-returns
+returns : tie.Need-returns-then-passes
 unfolding set_passes ones
 returns c =
     let judged = c.before.before in
@@ -29,16 +29,16 @@ returns c =
     let ok = start.requires.0.lawful in
     let passes : set_passes p 0 ≡ true =
     sym (quick-passes (with_set p 0) (with_set-lawful p 0 ok).each) ∙ ap is_pass (sym (alone judged))
-    ∙ sym c.before.passes.ensures ∙ c.if1.true in
+    ∙ sym c.passes.ensures ∙ c.if-passes.true in
     let some : 2 ^ 0 ≤ 2 ^ p.n = pow_mono zero-le in
     sym (search_of-rows p ∙ walk-row p p.n 0 0 (omega arith) ∙ walk-found p p.n 0 0 _ (omega arith) refl passes)
 
-returns-2 : tie.Need-returns-2
+returns-2 : tie.Need-returns-then-unblocked
 returns-2 c =
     let judged = c.before.before.before.before in
     let start = judged.before.before in
     sym (nobody-of-none start.args.p (λ m h.
-    unblocked-none start.args.p start.requires.0.lawful _ (alone judged) (sym c.before.unblocked.ensures ∙ c.if2.true) m))
+    unblocked-none start.args.p start.requires.0.lawful _ (alone judged) (sym c.unblocked.ensures ∙ c.if-unblocked.true) m))
 
 pub first_set_spec : {M : Type 1} → statement M
 first_set_spec =

@@ -3,8 +3,8 @@ use Rattle.base.proofs.Prelude.{rules}
 use Rattle.verdict.proofs.permissions.unblocked.Statement.{statement}
 use Rattle.verdict.proofs.permissions.unblocked.Tie as tie
 
-returns-2 : tie.Need-returns-2
-returns-2 c = rw c.before.before.found.given.1
+returns-2 : tie.Need-returns-in-Fail
+returns-2 c = rw c.in-Fail.is
 
 pub unblocked_spec : {M : Type 1} → statement M
 unblocked_spec =

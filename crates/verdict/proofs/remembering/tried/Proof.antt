@@ -5,16 +5,16 @@ use Rattle.demand.proofs.Agreeing.{quick-passes}
 use Rattle.verdict.proofs.remembering.tried.Statement.{statement}
 use Rattle.verdict.proofs.remembering.tried.Tie as tie
 
-returns : tie.Need-returns
+returns : tie.Need-returns-then-at-lt16
 returns c =
     let at = c.before.before.before in
-    sym (at.before.serving.ensures at.if1.true)
+    sym (at.serving-at.ensures at.if-at-lt16.true)
 
-returns-2 : tie.Need-returns-2
+returns-2 : tie.Need-returns
 returns-2 c =
     let judged = c.before.before in
     let start = judged.before.before.before in
-    c.before.passes.ensures ∙ ap is_pass judged.quickly-judged.ensures ∙ quick-passes start.args.p start.requires.0.lawful.each
+    c.passes.ensures ∙ ap is_pass judged.quickly_judged-found.ensures ∙ quick-passes start.args.p start.requires.0.lawful.each
 
 pub tried_spec : {M : Type 1} → statement M
 tried_spec =

@@ -6,5 +6,5 @@ use Rattle.verdict.proofs.steps.more_at.Tie as tie
 pub more_at_spec : {M : Type 1} → statement M
 more_at_spec =
     tie.close (tie.spec
-    (λ c. rw (eq-eqb c.before.args.due c.before.args.l c.if1.true))
-    (λ c. rw (ne_eqb c.before.args.due c.before.args.l c.if1.false)))
+    (λ c. rw (eq-eqb c.args.due c.args.l c.if-due-l.true))
+    (λ c. rw (ne_eqb c.args.due c.args.l c.if-due-l.false)))

@@ -5,7 +5,7 @@ use Rattle.visits.proofs.Booking.{asked_again-le}
 use Rattle.visits.proofs.book.enter.Statement.{statement}
 use Rattle.visits.proofs.book.enter.Tie as tie
 
-add-book-2 : tie.Need-overflow-add-book-2
+add-book-2 : tie.Need-overflow_add-book-2
 add-book-2 c =
     let start = c.before.before.before.before.before in
     let k = start.args.v.release in
@@ -14,14 +14,14 @@ add-book-2 c =
       fits = omega (
         arith,
         asked_again-le (book_at book (had k)) (book_at book (cost k)),
-        c.before.asked-again.ensures,
+        c.asked_again-more.ensures,
         start.requires.1.1,
       );
     }
 
 returns : tie.Need-returns
 unfolding booked
-returns c = rw c.before.before.asked-again.ensures
+returns c = rw c.asked_again-more.ensures
 
 pub enter_spec : {M : Type 1} → statement M
 enter_spec =

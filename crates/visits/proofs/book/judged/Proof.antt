@@ -8,4 +8,4 @@ pub judged_spec : {M : Type 1} → statement M
 judged_spec =
     tie.close (tie.spec
     (λ c. search rules) (λ c κs. search rules) (λ c. search rules)
-    (λ c. c.sums-checked.ensures ∙ sym (judged-lawful _ _ (cc))) λ c. sym (judged-refused _ _ _ _ (cc)))
+    (λ c. c.sums_checked.ensures ∙ sym (judged-lawful _ _ (cc))) λ c. sym (judged-refused _ _ _ _ (cc)))

@@ -21,26 +21,26 @@ module _ (book : List ℕ) (s : Standing) (v : Visit) (fit : Fit s book) (kept :
         (omega (arith, ends, k.after, fit.had_room v.release k.low k.high), fit.asked_room v.release k.low k.high),
       )
 
-kept_here : (c : tie.Else1) → kept_by c.before.before.before.args.book.now c.before.before.before.args.s
-    c.before.before.before.args.v ≡ true
-kept_here c = sym c.before.keeps.ensures ∙ not-false _ c.if1.false
+kept_here : (c : tie.Else-not-keeps) → kept_by c.args.book.now c.args.s
+    c.args.v ≡ true
+kept_here c = sym c.keeps.ensures ∙ not-false _ c.if-not-keeps.false-raw
 
-returns : tie.Need-returns
+returns : tie.Need-returns-then-not-keeps
 returns c =
-    let not-kept = sym c.before.before.keeps.ensures ∙ not-true _ c.before.if1.true in
+    let not-kept = sym c.keeps.ensures ∙ not-true _ c.if-not-keeps.true-raw in
     (c.refused_with.ensures ∙ sym (standing-broken _ _ _ _ not-kept), sym (book-broken _ _ _ 0 not-kept))
 
 enter-requires : tie.Need-enter-requires
-enter-requires c κs = fits _ _ _ c.before.before.before.before.requires (kept_here c.before)
+enter-requires c κs = fits _ _ _ c.requires (kept_here c.before)
 
-returns-2 : tie.Need-returns-2
+returns-2 : tie.Need-returns
 returns-2 c =
     let kept = kept_here c.before.before.before in
-    (sym (standing-kept _ _ _ _ kept), c.before.enter.ensures ∙ sym (book-kept _ _ _ 0 kept))
+    (sym (standing-kept _ _ _ _ kept), c.enter.ensures ∙ sym (book-kept _ _ _ 0 kept))
 
 pub looked_at_spec : {M : Type 1} → statement M
 looked_at_spec =
     tie.close (tie.spec
     (λ c κs. search rules) (λ c κs. search rules) returns enter-requires
-    (λ c. record { fits = ends _ _ _ c.before.before.before.before.before.before.requires (kept_here c.before.before.before) })
+    (λ c. record { fits = ends _ _ _ c.requires (kept_here c.before.before.before) })
     returns-2)

@@ -4,13 +4,13 @@ use Rattle.visits.specs.inner.Book.{meets_last}
 use Rattle.visits.proofs.book.meets_last.Statement.{statement}
 use Rattle.visits.proofs.book.meets_last.Tie as tie
 
-returns : tie.Need-returns
+returns : tie.Need-returns-then-v-s
 unfolding meets_last
-returns c = rw (ne_eqb _ _ c.if1.true)
+returns c = rw (ne_eqb _ _ c.if-v-s.true)
 
-returns-2 : tie.Need-returns-2
+returns-2 : tie.Need-returns
 unfolding meets_last
-returns-2 c = rw (eq-eqb _ _ c.before.before.if1.false)
+returns-2 c = rw (eq-eqb _ _ c.if-v-s.false)
 
 pub meets_last_spec : {M : Type 1} → statement M
 meets_last_spec = tie.close (tie.spec returns returns-2)

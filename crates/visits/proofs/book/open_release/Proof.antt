@@ -15,18 +15,18 @@ stored_for book r k s m =
     let dated = set (set book (opens k) r.day.0) (due k) (r.due.0 + s.d.0) in
     set (set (set dated (cost k) m.0) (asked_at k) r.need.0) (had k) 0
 
-add-book : tie.Need-overflow-add-book
+add-book : tie.Need-overflow_add-book
 add-book c =
-    let o = c.before.before.before.before.before.before in
+    let o = c.before.before.before.before.before.before.before in
     record { fits = subst (λ s. o.args.r.due.0 + s.d.0 < 2 ^ 32) (string-is o) o.requires.due_fits }
 
 returns : tie.Need-returns
 unfolding opened_at
 returns c =
-    let o = c.before.before.before.before.before.before in
+    let o = c.before.before.before.before.before.before.before in
     let a = o.args in
     ap (λ m. stored_for a.book.now a.r a.k (get_or a.p.strings (a.r.place - 1) no_string) m)
-    c.before.before.moving-cost.ensures
+    c.moving_cost-cost.ensures
     ∙ ap (λ s. stored_for a.book.now a.r a.k s (days (moving_cost a.p s))) (sym (string-is o))
 
 pub open_release_spec : {M : Type 1} → statement M

@@ -6,18 +6,18 @@ use Rattle.laws.proofs.Releases.{run_check-lawful}
 use Rattle.visits.proofs.book.opened.Statement.{statement}
 use Rattle.visits.proofs.book.opened.Tie as tie
 
-lawful : (c : tie.After-enum-told) → run_check c.before.before.before.args.p c.before.before.before.args.rs ≡ Lawful
-lawful c = sym c.before.before.run-check.ensures ∙ c.enum_told.given.1
+lawful : (c : tie.In-Lawful) → run_check c.args.p c.args.rs ≡ Lawful
+lawful c = sym c.run_check-checked.ensures ∙ c.in-Lawful.is
 
-returns : tie.Need-returns
+returns : tie.Need-returns-in-Lawful
 returns c = rw (lawful c.before.before) c.listed.ensures
 
-returns-2 : tie.Need-returns-2
-returns-2 c = rw (sym c.before.before.before.before.run-check.ensures ∙ c.before.before.checked.given.1) c.refused_with.ensures
+returns-2 : tie.Need-returns-in-Refused
+returns-2 c = rw (sym c.run_check-checked.ensures ∙ c.in-Refused.is) c.refused_with.ensures
 
 pub opened_spec : {M : Type 1} → statement M
 opened_spec =
     tie.close (tie.spec
     (λ c κs. search rules) (λ c. search rules)
-    (λ c κs. (run_check-lawful _ _ (lawful c.before), c.before.before.before.before.requires)) (λ c. search rules) (λ c κs. search rules)
+    (λ c κs. (run_check-lawful _ _ (lawful c.before), c.requires)) (λ c. search rules) (λ c κs. search rules)
     returns returns-2)

@@ -4,17 +4,17 @@ use Rattle.visits.specs.inner.Book.{sums_by}
 use Rattle.visits.proofs.book.sums_checked.Statement.{statement}
 use Rattle.visits.proofs.book.sums_checked.Tie as tie
 
-returns : tie.Need-returns
+returns : tie.Need-returns-then-short-count
 unfolding sums_by
 returns c =
-    let short = c.before.first_short.ensures in
-    rw (sym short, le-leb _ _ c.if1.true)
+    let short = c.first_short-short.ensures in
+    rw (sym short, le-leb _ _ c.if-short-count.true)
 
-returns-2 : tie.Need-returns-2
+returns-2 : tie.Need-returns
 unfolding sums_by
 returns-2 c =
-    let short = c.before.first_short.ensures in
-    rw (sym short, lt-leb _ _ c.if1.false)
+    let short = c.first_short-short.ensures in
+    rw (sym short, lt-leb _ _ c.if-short-count.false)
 
 pub sums_checked_spec : {M : Type 1} → statement M
 sums_checked_spec = tie.close (tie.spec (λ c κs. search rules) returns returns-2)

@@ -4,15 +4,15 @@ use Rattle.visits.proofs.Kept.{after-lawful, after-refused}
 use Rattle.visits.proofs.book.visited.Statement.{statement}
 use Rattle.visits.proofs.book.visited.Tie as tie
 
-returns : tie.Need-returns
+returns : tie.Need-returns-in-Lawful
 returns c =
-    let a = c.before.before.before.before.args in
-    let same = after-lawful a.book.now a.s a.v a.number c.before.before.enum_told.given.1 in
-    (c.looked-at.ensures.0 ∙ sym same.0, c.looked-at.ensures.1 ∙ sym same.1)
+    let a = c.args in
+    let same = after-lawful a.book.now a.s a.v a.number c.in-Lawful.is in
+    (c.looked_at.ensures.0 ∙ sym same.0, c.looked_at.ensures.1 ∙ sym same.1)
 
-returns-2 : tie.Need-returns-2
+returns-2 : tie.Need-returns-in-Refused
 returns-2 c =
-    let same = after-refused _ _ _ _ _ _ c.enum-told2.given.1 in
+    let same = after-refused _ _ _ _ _ _ c.in-Refused.is in
     (sym same.0, sym same.1)
 
 pub visited_spec : {M : Type 1} → statement M

@@ -15,9 +15,9 @@ blank-long : length blank ≡ 15005
 blank-long = length-replicate {A = ℕ} 15005 0
 
 -- the stints were listed
-module _ (c : tie.After-numbers3) where
-  abbrev asked : tie.After-stints
-  asked = c.before.before.before.before.before
+module _ (c : tie.After-numbers-in-Listed-1) where
+  abbrev asked : tie.After-stints-stinted
+  asked = c.before.before.before
 
   abbrev plan : Plan
   plan = asked.before.before.args.p
@@ -26,10 +26,10 @@ module _ (c : tie.After-numbers3) where
   list = asked.before.before.args.rs
 
   abbrev count : ℕ
-  count = c.before.before.stinted2.given.0.0
+  count = c.in-Listed.stints
 
   said : stinted.Listed count ≡ stints_answer plan list (length blank)
-  said = sym c.before.before.stinted2.given.1 ∙ asked.stints.ensures.0
+  said = sym c.in-Listed.is ∙ asked.stints-stinted.ensures.0
 
   run : run_check plan list ≡ Lawful
   run = stints-lawful plan list blank blank-long count said
@@ -37,8 +37,8 @@ module _ (c : tie.After-numbers3) where
   abbrev numbers : List ℕ
   numbers = stints_numbers (run_stints plan (releases_of list))
 
-  holds : asked.stints.last.1.1.0 ≡ numbers ++ drop (length numbers) blank
-  holds = asked.stints.ensures.1 ∙ stints-hold plan list blank blank-long count said
+  holds : asked.stints-stinted.new.list ≡ numbers ++ drop (length numbers) blank
+  holds = asked.stints-stinted.ensures.1 ∙ stints-hold plan list blank blank-long count said
 
   counted : count ≡ length (run_stints plan (releases_of list))
   counted = stints-count plan list blank blank-long count said
@@ -49,15 +49,15 @@ joined-requires c κs = (
   stints-listed-end (plan c) (list c) (run c) _ _ (count c) (holds c) (counted c),
 )
 
-returns : tie.Need-returns
+returns : tie.Need-returns-in-Refused
 returns c =
-    let a = c.before.before.before.before.before in
+    let a = c.before.before.before in
     let begin = a.before.before in
     c.refused.ensures
     ∙ own-refused begin.args.p begin.args.rs blank blank-long _ _
-    (sym c.before.before.stinted.given.1 ∙ a.stints.ensures.0)
+    (sym c.in-Refused.is ∙ a.stints-stinted.ensures.0)
 
-returns-2 : tie.Need-returns-2
+returns-2 : tie.Need-returns-in-Listed
 returns-2 c =
     let n = c.before in
     c.joined.ensures ∙ stints-listed-visits (plan n) (list n) (run n) _ _ (count n) (holds n) (counted n)

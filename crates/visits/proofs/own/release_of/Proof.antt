@@ -3,11 +3,11 @@ use Rattle.base.proofs.Prelude.{arith, rules}
 use Rattle.visits.proofs.own.release_of.Statement.{statement}
 use Rattle.visits.proofs.own.release_of.Tie as tie
 
-cast-result : tie.Need-overflow-cast-result
-cast-result c = omega (arith, rw c.before.used.given.1 at c.before.before.before.requires)
+cast-result : tie.Need-overflow_cast-result
+cast-result c = omega (arith, rw c.in-Work.is at c.requires)
 
-cast-result-2 : tie.Need-overflow-cast-result-2
-cast-result-2 c = omega (arith, rw c.before.used2.given.1 at c.before.before.before.requires)
+cast-result-2 : tie.Need-overflow_cast-result-in-Move
+cast-result-2 c = omega (arith, rw c.in-Move.is at c.requires)
 
 pub release_of_spec : {M : Type 1} → statement M
 release_of_spec =

@@ -1,14 +1,14 @@
 -- `lines_checked` meets its contract. Invariant: the lines from here on are those of what stands from here on, those before are formed, and
 -- the list that all lines say has been checked as far as they go.
-use Rattle.base.proofs.Prelude.{ℕ, ◌+◌, ◌-◌, ◌≤◌, ◌<◌, ◌≡◌, refl, sym, ap, ◌∙◌, subst, true, false, List, [], ◌∷◌, map, arith, rules, not-true, not-false, length, drop, length-drop, drop_of_length-le}
+use Rattle.base.proofs.Prelude.{ℕ, ◌+◌, ◌-◌, ◌≤◌, ◌<◌, ◌≡◌, refl, sym, ap, ◌∙◌, subst, true, false, List, [], ◌∷◌, map, arith, not-true, not-false, length, drop, length-drop, drop_of_length-le}
 use Rattle.rules.specs.{declared.Plan.Plan, declared.Releases.Releases, Text.{Line, lines_of}}
-use Rattle.register.specs.{declared.LineRead.LineRead, Reader.line_long}
+use Rattle.register.specs.{Reader.line_long}
 use Rattle.register.proofs.Walk.{first_line, first_some, next-within, next-lines, read-formed, read-unformed}
-use Rattle.visits.specs.{declared.Visit.Visit, declared.book.Standing.Standing, Texts.{visit_said, visit_formed, visit_in, visit_lines_check}, inner.Book.{Fit, Opened}}
+use Rattle.visits.specs.{Texts.{visit_said, visit_formed, visit_in, visit_lines_check}, inner.Book.{Fit, Opened}}
 use Rattle.visits.proofs.{Lines.{visit-filled, lines-formed, no-visit, lines-later, formed-next, reached-line}, Reached.{Reached, reached-start, reached-fit, reached-end}, texts.lines_checked.Statement.statement}
 use Rattle.visits.proofs.texts.lines_checked.Tie as tie
 
-abbrev invariant-loop : tie.invariant-loop
+abbrev invariant-loop : tie.invariant-loop-at
 invariant-loop text book₀ standing₀ line₀ at₀ book standing line at =
     record {
       few : line ≤ at;
@@ -19,10 +19,10 @@ invariant-loop text book₀ standing₀ line₀ at₀ book standing line at =
           → Reached p rs (map visit_in (lines_of text)) line (map visit_in (drop line (lines_of text))) standing book;
     }
 
-abbrev decreases-loop : tie.decreases-loop
+abbrev decreases-loop : tie.decreases-loop-at
 decreases-loop text book₀ standing₀ line₀ at₀ book standing line at = length text - at
 
-module _ (o : tie.At-loop invariant-loop decreases-loop) where
+module _ (o : tie.At-loop-at invariant-loop decreases-loop) where
   abbrev begin : tie.Start invariant-loop decreases-loop
   begin = o.before.before.before.before.before
 
@@ -38,98 +38,102 @@ module _ (o : tie.At-loop invariant-loop decreases-loop) where
   abbrev list : Releases
   list = begin.args.rs
 
-  far : Reached plan list (map visit_in lines) o.loop.line (map visit_in (drop o.loop.line lines)) o.loop.standing o.loop.book
-  far = o.loop.inv.reached plan list o.before.opened.ensures
+  far : Reached plan list (map visit_in lines) o.loop-at.line (map visit_in (drop o.loop-at.line lines)) o.loop-at.standing o.loop-at.book
+  far = o.loop-at.invariant.reached plan list o.opened-standing.ensures
 
-  fit : Fit o.loop.standing o.loop.book
-  fit = reached-fit plan list (map visit_in lines) o.loop.line _ o.loop.standing o.loop.book far
+  fit : Fit o.loop-at.standing o.loop-at.book
+  fit = reached-fit plan list (map visit_in lines) o.loop-at.line _ o.loop-at.standing o.loop-at.book far
 
   -- the line that is looked at
   abbrev this : Line
-  this = first_line (drop o.loop.at text)
+  this = first_line (drop o.loop-at.at text)
 
-  here : o.loop.at < length text → drop o.loop.line lines ≡ this ∷ lines_of (drop (o.loop.at + line_long this) text)
-  here inside = o.loop.inv.rest ∙ next-lines text o.loop.at inside
+  here : o.loop-at.at < length text → drop o.loop-at.line lines ≡ this ∷ lines_of (drop (o.loop-at.at + line_long this) text)
+  here inside = o.loop-at.invariant.rest ∙ next-lines text o.loop-at.at inside
 
 -- three numbers were asked for
-module _ (a : tie.After-three-at invariant-loop decreases-loop) where
-  abbrev at : tie.At-loop invariant-loop decreases-loop
+module _ (a : tie.After-three_at-read invariant-loop decreases-loop) where
+  abbrev at : tie.At-loop-at invariant-loop decreases-loop
   at = a.before.before
 
-  inside : at.loop.at < length (text at)
-  inside = a.before.loop-test.taken
+  inside : at.loop-at.at < length (text at)
+  inside = a.loop-at-test.true
 
-  malformed : a.three-at.result.formed ≡ false → visit_formed (this at) ≡ false
-  malformed other = (read-unformed (text at) at.loop.at inside 3 7 a.three-at.result a.three-at.ensures.0 other).0
+  malformed : a.three_at-read.result.formed ≡ false → visit_formed (this at) ≡ false
+  malformed other = (read-unformed (text at) at.loop-at.at inside 3 7 a.three_at-read.result a.three_at-read.ensures.0 other).0
 
-  formed : a.three-at.result.formed ≡ true → (visit_formed (this at) ≡ true)
-      × (visit_said a.three-at.result.values ≡ visit_in (this at)) × (a.three-at.result.next ≡ at.loop.at + line_long (this at))
+  formed : a.three_at-read.result.formed ≡ true → (visit_formed (this at) ≡ true)
+      × (visit_said a.three_at-read.result.values ≡ visit_in (this at)) × (a.three_at-read.result.next
+      ≡ at.loop-at.at + line_long (this at))
   formed said =
-      let read = read-formed (text at) at.loop.at inside 3 7 a.three-at.result a.three-at.ensures.0 said in
+      let read = read-formed (text at) at.loop-at.at inside 3 7 a.three_at-read.result a.three_at-read.ensures.0 said in
       (read.0, ap (λ r. visit_said r.values) read.1 ∙ visit-filled (this at) read.0, ap (λ r. r.next) read.1)
 
   -- it is not empty
   longer : 1 ≤ line_long (this at)
-  longer = first_some (drop at.loop.at (text at)) (omega (arith, length-drop at.loop.at (text at), inside))
+  longer = first_some (drop at.loop-at.at (text at)) (omega (arith, length-drop at.loop-at.at (text at), inside))
 
-returns : tie.Need-returns invariant-loop decreases-loop
+returns : tie.Need-returns-then-not-read invariant-loop decreases-loop
 returns c =
     let a = c.before.before in
     let o = at a in
-    no-visit (plan o) (list o) (lines o) o.loop.line (this o) _ (here o (inside a)) o.loop.inv.same
-    (malformed a (not-true _ c.if1.true))
+    no-visit (plan o) (list o) (lines o) o.loop-at.line (this o) _ (here o (inside a)) o.loop-at.invariant.same
+    (malformed a (not-true _ c.if-not-read.true))
 
 -- a visit went to the check of one record
-abbrev asked : tie.After-visited invariant-loop decreases-loop → tie.After-three-at invariant-loop decreases-loop
+abbrev asked : tie.After-visited-standing invariant-loop decreases-loop → tie.After-three_at-read invariant-loop decreases-loop
 asked c = c.before.before.before.before.before.before
 
-module _ (c : tie.After-visited invariant-loop decreases-loop) where
-  read : (visit_formed (this (at (asked c))) ≡ true) × (visit_said (asked c).three-at.result.values ≡ visit_in (this (at (asked c))))
-      × ((asked c).three-at.result.next ≡ (at (asked c)).loop.at + line_long (this (at (asked c))))
-  read = formed (asked c) (not-false _ c.before.before.before.before.if1.false)
+module _ (c : tie.After-visited-standing invariant-loop decreases-loop) where
+  read : (visit_formed (this (at (asked c))) ≡ true) × (visit_said (asked c).three_at-read.result.values ≡ visit_in (this (at (asked c))))
+      × ((asked c).three_at-read.result.next ≡ (at (asked c)).loop-at.at + line_long (this (at (asked c))))
+  read = formed (asked c) (not-false _ c.if-not-read.false)
 
-loop-less : tie.Need-loop-smaller invariant-loop decreases-loop
+loop-less : tie.Need-loop-at-smaller invariant-loop decreases-loop
 loop-less c =
     let a = asked c in
     let o = at a in
-    let within = next-within (text o) o.loop.at (inside a) in
+    let within = next-within (text o) o.loop-at.at (inside a) in
     omega (arith, (read c).2, longer a, inside a)
 
-loop-again : tie.Need-loop-preserved invariant-loop decreases-loop
+loop-again : tie.Need-loop-at-preserved invariant-loop decreases-loop
 loop-again c =
     let a = asked c in
     let o = at a in
     let stood = here o (inside a) in
     let place = (read c).2 in
-    let same = o.loop.inv.same in
-    let v = c.before.visit-from.ensures ∙ (read c).1 in
+    let same = o.loop-at.invariant.same in
+    let v = c.visit_from.ensures ∙ (read c).1 in
     record {
-      few = omega (arith, o.loop.inv.few, place, longer a);
-      inside = omega (arith, place, next-within (text o) o.loop.at (inside a));
+      few = omega (arith, o.loop-at.invariant.few, place, longer a);
+      inside = omega (arith, place, next-within (text o) o.loop-at.at (inside a));
       rest =
-          lines-later (plan o) (list o) (lines o) o.loop.line (this o) _ stood same
+          lines-later (plan o) (list o) (lines o) o.loop-at.line (this o) _ stood same
           ∙ ap (λ j. lines_of (drop j (text o))) (sym place);
-      same = formed-next (plan o) (list o) (lines o) o.loop.line (this o) _ stood same (read c).0;
+      same = formed-next (plan o) (list o) (lines o) o.loop-at.line (this o) _ stood same (read c).0;
       reached = λ p rs op.
-          reached-line p rs (lines o) o.loop.line (this o) _ stood same o.loop.standing c.visited.result o.loop.book c.visited.new.0 c.before.visit-from.result v c.visited.ensures.0 c.visited.ensures.1 (o.loop.inv.reached p rs
+          reached-line p rs (lines o) o.loop-at.line (this o) _ stood same o.loop-at.standing c.visited-standing.result o.loop-at.book
+          c.visited-standing.new.book c.visit_from.result v c.visited-standing.ensures.0 c.visited-standing.ensures.1
+          (o.loop-at.invariant.reached p rs
           op);
     }
 
-returns-2 : tie.Need-returns-2 invariant-loop decreases-loop
+returns-2 : tie.Need-returns invariant-loop decreases-loop
 unfolding lines_of visit_lines_check
 returns-2 c =
     let o = c.before.before in
-    let over : length (text o) ≤ o.loop.at = omega arith in
-    let end : drop o.loop.line (lines o) ≡ [] = o.loop.invariant.rest ∙ ap lines_of (drop_of_length-le (text o) over) in
-    let far = subst (λ ls. Reached (plan o) (list o) (map visit_in (lines o)) o.loop.line (map visit_in ls) o.loop.standing o.loop.book) end (far o) in
+    let over : length (text o) ≤ o.loop-at.at = omega arith in
+    let end : drop o.loop-at.line (lines o) ≡ [] = o.loop-at.invariant.rest ∙ ap lines_of (drop_of_length-le (text o) over) in
+    let far = subst (λ ls. Reached (plan o) (list o) (map visit_in (lines o)) o.loop-at.line
+    (map visit_in ls) o.loop-at.standing o.loop-at.book) end (far o) in
     c.judged.ensures
-    ∙ reached-end (plan o) (list o) (map visit_in (lines o)) o.loop.line o.loop.standing o.loop.book far
-    ∙ lines-formed (plan o) (list o) (lines o) (o.loop.invariant.same ∙ ap (visit_lines_check (o.loop.line + 1)) end)
+    ∙ reached-end (plan o) (list o) (map visit_in (lines o)) o.loop-at.line o.loop-at.standing o.loop-at.book far
+    ∙ lines-formed (plan o) (list o) (lines o) (o.loop-at.invariant.same ∙ ap (visit_lines_check (o.loop-at.line + 1)) end)
 
 pub lines_checked_spec : {M : Type 1} → statement M
 lines_checked_spec =
     tie.close (tie.spec
-    invariant-loop decreases-loop (λ c κs. tt) (λ c κs. c.before.blank-book.ensures)
+    invariant-loop decreases-loop (λ c κs. tt) (λ c κs. c.blank_book-book.ensures)
     (λ c. record {
       few = omega arith;
       inside = omega arith;
@@ -137,6 +141,6 @@ lines_checked_spec =
       same = refl;
       reached = λ p rs o. reached-start p rs _ _ _ o;
     })
-    (λ c κs. tt) (λ c. omega (arith, c.before.before.loop.invariant.few)) returns (λ c κs. tt)
+    (λ c κs. tt) (λ c. omega (arith, c.loop-at.invariant.few)) returns (λ c κs. tt)
     (λ c κs. fit c.before.before.before.before.before.before.before) loop-less loop-again
     (λ c κs. (fit c.before).few) returns-2)

@@ -8,20 +8,20 @@ use Rattle.why.proofs.LongestBlock.{limit-where-fits}
 use Rattle.why.proofs.limits.limit_at.Statement.{statement}
 use Rattle.why.proofs.limits.limit_at.Tie as tie
 
-returns : tie.Need-returns
+returns : tie.Need-returns-then-someone_fits
 returns c =
     let then = c.before.before in
     let start = then.before.before in
-    let fits = leb-true _ _ (sym then.before.someone-fits.ensures ∙ then.if1.true) in
+    let fits = leb-true _ _ (sym then.someone_fits.ensures ∙ then.if-someone_fits.true) in
     let is = limit-where-fits start.args.p start.requires start.args.l fits in
-    omega (arith, c.smaller.ensures, c.before.longest-block.ensures, is)
+    omega (arith, c.smaller.ensures, c.longest_block.ensures, is)
 
 -- nobody fits
-none-fits : (c : tie.Else1) → c.before.before.args.l < leeway_min c.before.before.args.p
+none-fits : (c : tie.Else-someone_fits) → c.args.l < leeway_min c.args.p
 none-fits c =
     let start = c.before.before in
     elim (dec_le (leeway_min start.args.p) start.args.l) [
-      | yes fits ↦ absurd (true-not-false (sym (le-leb _ _ fits) ∙ sym c.before.someone-fits.ensures ∙ c.if1.false))
+      | yes fits ↦ absurd (true-not-false (sym (le-leb _ _ fits) ∙ sym c.someone_fits.ensures ∙ c.if-someone_fits.false))
       | no later ↦ omega arith
     ]
 

@@ -5,42 +5,42 @@ use Rattle.why.proofs.LongestBlock.{leeway_min-at, leeway_min-above}
 use Rattle.why.proofs.limits.someone_fits.Statement.{statement}
 use Rattle.why.proofs.limits.someone_fits.Tie as tie
 
-abbrev invariant-loop : tie.invariant-loop
+abbrev invariant-loop : tie.invariant-loop-i
 invariant-loop l n strings i₀ i = (i ≤ n) × ((j : ℕ) → j < i → l < leeway (get_or strings j no_string))
 
-abbrev decreases-loop : tie.decreases-loop
+abbrev decreases-loop : tie.decreases-loop-i
 decreases-loop l n strings i₀ i = n - i
 
-returns : tie.Need-returns invariant-loop decreases-loop
+returns : tie.Need-returns-then-less-l invariant-loop decreases-loop
 returns c =
     let at = c.before.before.before.before in
     let start = at.before.before in
-    let fits = leeway_min-at start.args.p start.requires at.loop.i c.before.before.before.loop-test.true in
-    let low : leeway_min start.args.p ≤ start.args.l = omega (arith, c.before.less.ensures, fits) in
+    let fits = leeway_min-at start.args.p start.requires at.loop-i.i c.loop-i-test.true in
+    let low : leeway_min start.args.p ≤ start.args.l = omega (arith, c.less.ensures, fits) in
     sym (le-leb _ _ low)
 
-loop-again : tie.Need-loop-preserved invariant-loop decreases-loop
+loop-again : tie.Need-loop-i-preserved invariant-loop decreases-loop
 loop-again c =
     let at = c.before.before.before.before in (
       omega arith,
-      λ j h. elim (dec_le at.loop.i j) [
+      λ j h. elim (dec_le at.loop-i.i j) [
         | yes here ↦
-            let is : j ≡ at.loop.i = omega arith in
-            rw is (omega (arith, c.before.less.ensures))
-        | no earlier ↦ at.loop.invariant.1 j (omega arith)
+            let is : j ≡ at.loop-i.i = omega arith in
+            rw is (omega (arith, c.less.ensures))
+        | no earlier ↦ at.loop-i.invariant.1 j (omega arith)
       ],
     )
 
-returns-2 : tie.Need-returns-2 invariant-loop decreases-loop
+returns-2 : tie.Need-returns invariant-loop decreases-loop
 returns-2 c =
     let start = c.before.before.before in
-    let all = leeway_min-above start.args.p start.requires start.args.l (λ j h. c.before.loop.invariant.1 j (omega arith)) in
+    let all = leeway_min-above start.args.p start.requires start.args.l (λ j h. c.loop-i.invariant.1 j (omega arith)) in
     sym (lt-leb _ _ all)
 
 pub someone_fits_spec : {M : Type 1} → statement M
 someone_fits_spec =
     tie.close (tie.spec
     invariant-loop decreases-loop (λ c. (omega arith, λ j h. absurd (omega arith)))
-    (λ c. omega (arith, c.before.before.before.requires.lawful.n_max))
-    (λ c. omega (arith, c.before.before.before.requires.lawful.n_max)) (λ c κs. search rules) returns (λ c. omega arith)
+    (λ c. omega (arith, c.requires.lawful.n_max))
+    (λ c. omega (arith, c.requires.lawful.n_max)) (λ c κs. search rules) returns (λ c. omega arith)
     (λ c. omega arith) loop-again returns-2)

@@ -3,4 +3,4 @@ use Rattle.why.proofs.rows.either.Statement.{statement}
 use Rattle.why.proofs.rows.either.Tie as tie
 
 pub either_spec : {M : Type 1} → statement M
-either_spec = tie.close (tie.spec (λ c. rw c.if1.true) (λ c. rw c.if1.false))
+either_spec = tie.close (tie.spec (λ c. rw c.if-a.true) (λ c. rw c.if-a.false))

@@ -4,4 +4,4 @@ use Rattle.why.proofs.rows.tighter.Statement.{statement}
 use Rattle.why.proofs.rows.tighter.Tie as tie
 
 pub tighter_spec : {M : Type 1} → statement M
-tighter_spec = tie.close (tie.spec (λ c. rw (lt-ltb _ _ c.if1.true)) (λ c. rw (le-ltb _ _ c.if1.false)))
+tighter_spec = tie.close (tie.spec (λ c. rw (lt-ltb _ _ c.if-next-best.true)) (λ c. rw (le-ltb _ _ c.if-next-best.false)))

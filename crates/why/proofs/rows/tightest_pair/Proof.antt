@@ -8,31 +8,31 @@ use Rattle.why.proofs.{Tightest.{tighter-pair, tighter-left, best-row, best-next
 use Rattle.why.proofs.rows.tightest_pair.Statement.{statement}
 use Rattle.why.proofs.rows.tightest_pair.Tie as tie
 
-abbrev invariant-loop2 : tie.invariant-loop2
+abbrev invariant-loop2 : tie.invariant-loop-b
 invariant-loop2 p last best₀ l limit b₀ best b =
     (b ≤ limit + 1)
     × (best.left ≡ spare p (pair best.l best.b))
     × (best_from p (pair best.l best.b) (row_from p l b ++ rows p (l + 1) (last + 1 - (l + 1))) ≡ best_from p (pair 1 0) (all_pairs p))
 
-abbrev decreases-loop2 : tie.decreases-loop2
+abbrev decreases-loop2 : tie.decreases-loop-b
 decreases-loop2 p last best₀ l limit b₀ best b = limit + 1 - b
 
-abbrev invariant-loop : tie.invariant-loop
+abbrev invariant-loop : tie.invariant-loop-l
 invariant-loop p last best₀ l₀ best l =
     (1 ≤ l)
     × (l ≤ last + 1)
     × (best.left ≡ spare p (pair best.l best.b))
     × (best_from p (pair best.l best.b) (rows p l (last + 1 - l)) ≡ best_from p (pair 1 0) (all_pairs p))
 
-abbrev decreases-loop : tie.decreases-loop
+abbrev decreases-loop : tie.decreases-loop-l
 decreases-loop p last best₀ l₀ best l = last + 1 - l
 
-loop-holds : tie.Need-loop-init invariant-loop2 decreases-loop2 invariant-loop decreases-loop
+loop-holds : tie.Need-loop-l-init invariant-loop2 decreases-loop2 invariant-loop decreases-loop
 unfolding last_interval
 loop-holds c =
     let start = c.before in
     let p = start.args.p in
-    let is = c.spot-at.ensures in
+    let is = c.spot_at-best.ensures in
     let range : start.args.last + 1 - 1 ≡ d_max p + multiple_of p - 1 = omega (arith, start.requires.1) in (
       omega arith,
       omega arith,
@@ -43,72 +43,72 @@ loop-holds c =
     )
 
 -- in the row of an interval
-short : (c : tie.After-limit-at invariant-loop2 decreases-loop2 invariant-loop decreases-loop) → c.limit-at.result ≤ 1000
+short : (c : tie.After-limit_at-limit invariant-loop2 decreases-loop2 invariant-loop decreases-loop) → c.limit_at-limit.result ≤ 1000
 short c =
     let start = c.before.before.before.before in
-    omega (arith, c.limit-at.ensures, block_limit-short start.args.p c.before.before.loop.l start.requires.0.lawful)
+    omega (arith, c.limit_at-limit.ensures, block_limit-short start.args.p c.loop-l.l start.requires.0.lawful)
 
-loop2-holds : tie.Need-loop2-init invariant-loop2 decreases-loop2 invariant-loop decreases-loop
+loop2-holds : tie.Need-loop-b-init invariant-loop2 decreases-loop2 invariant-loop decreases-loop
 loop2-holds c =
     let at = c.before.before in
-    let g = at.before.before.args in
-    let best = at.loop.best in (
+    let g = at.args in
+    let best = at.loop-l.best in (
       omega arith,
-      at.loop.invariant.2,
-      sym (best-row g.p (pair best.l best.b) at.loop.l g.last c.before.loop-test.true) ∙ at.loop.invariant.3,
+      at.loop-l.invariant.2,
+      sym (best-row g.p (pair best.l best.b) at.loop-l.l g.last c.loop-l-test.true) ∙ at.loop-l.invariant.3,
     )
 
-loop2-again : tie.Need-loop2-preserved invariant-loop2 decreases-loop2 invariant-loop decreases-loop
+loop2-again : tie.Need-loop-b-preserved invariant-loop2 decreases-loop2 invariant-loop decreases-loop
 loop2-again c =
     let turn = c.before.before in
     let here = turn.before in
     let row = here.before in
     let at = row.before.before in
-    let g = at.before.before.args in
-    let best = here.loop2.best in
-    let l = at.loop.l in
-    let b = here.loop2.b in
+    let g = at.args in
+    let best = here.loop-b.best in
+    let l = at.loop-l.l in
+    let b = here.loop-b.b in
     let rest = rows g.p (l + 1) (g.last + 1 - (l + 1)) in
-    let held : b ≤ block_limit g.p l = omega (arith, row.limit-at.ensures, turn.loop2-test.true) in
-    let pairs = tighter-pair g.p best c.before.spot-at2.result c.tighter.result l b here.loop2.invariant.1
-    c.before.spot-at2.ensures c.tighter.ensures in
-    let left = tighter-left g.p best c.before.spot-at2.result c.tighter.result l b here.loop2.invariant.1
-    c.before.spot-at2.ensures c.tighter.ensures in (
+    let held : b ≤ block_limit g.p l = omega (arith, row.limit_at-limit.ensures, turn.loop-b-test.true) in
+    let pairs = tighter-pair g.p best c.spot_at.result c.tighter-best.result l b here.loop-b.invariant.1
+    c.spot_at.ensures c.tighter-best.ensures in
+    let left = tighter-left g.p best c.spot_at.result c.tighter-best.result l b here.loop-b.invariant.1
+    c.spot_at.ensures c.tighter-best.ensures in (
       omega arith,
       left,
       ap (λ q. best_from g.p q (row_from g.p l (b + 1) ++ rest)) pairs
           ∙ sym (best-next g.p (pair best.l best.b) l b rest held)
-          ∙ here.loop2.invariant.2,
+          ∙ here.loop-b.invariant.2,
     )
 
-loop-again : tie.Need-loop-preserved invariant-loop2 decreases-loop2 invariant-loop decreases-loop
+loop-again : tie.Need-loop-l-preserved invariant-loop2 decreases-loop2 invariant-loop decreases-loop
 loop-again c =
     let here = c.before in
     let row = here.before in
     let at = row.before.before in
-    let g = at.before.before.args in
-    let best = here.loop2.best in
-    let l = at.loop.l in
+    let g = at.args in
+    let best = here.loop-b.best in
+    let l = at.loop-l.l in
     let rest = rows g.p (l + 1) (g.last + 1 - (l + 1)) in
-    let past : block_limit g.p l < here.loop2.b = omega (arith, row.limit-at.ensures, c.loop2-test.false) in (
+    let past : block_limit g.p l < here.loop-b.b = omega (arith, row.limit_at-limit.ensures, c.loop-b-test.false) in (
       omega arith,
       omega arith,
-      here.loop2.invariant.1,
-      sym (best-row-end g.p (pair best.l best.b) l here.loop2.b rest past) ∙ here.loop2.invariant.2,
+      here.loop-b.invariant.1,
+      sym (best-row-end g.p (pair best.l best.b) l here.loop-b.b rest past) ∙ here.loop-b.invariant.2,
     )
 
 returns : tie.Need-returns invariant-loop2 decreases-loop2 invariant-loop decreases-loop
 returns c =
     let at = c.before in
-    let g = at.before.before.args in
-    let best = at.loop.best in
-    sym (best-end g.p (pair best.l best.b) at.loop.l g.last c.loop-test.false) ∙ at.loop.invariant.3
+    let g = at.args in
+    let best = at.loop-l.best in
+    sym (best-end g.p (pair best.l best.b) at.loop-l.l g.last c.loop-l-test.false) ∙ at.loop-l.invariant.3
 
 pub tightest_pair_spec : {M : Type 1} → statement M
 tightest_pair_spec =
     tie.close (tie.spec
-    invariant-loop2 decreases-loop2 invariant-loop decreases-loop (λ c κs. c.requires.0) loop-holds (λ c κs. c.before.before.before.requires.0) loop2-holds
-    (λ c κs. c.before.before.before.before.before.before.requires.0) (λ c κs. search rules)
+    invariant-loop2 decreases-loop2 invariant-loop decreases-loop (λ c κs. c.requires.0) loop-holds (λ c κs. c.requires.0) loop2-holds
+    (λ c κs. c.requires.0) (λ c κs. search rules)
     (λ c. omega (arith, short c.before.before.before.before))
     (λ c. omega arith) loop2-again
     (λ c.

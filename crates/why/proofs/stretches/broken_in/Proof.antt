@@ -6,7 +6,7 @@ use Rattle.why.proofs.stretches.broken_in.Tie as tie
 
 returns : tie.Need-returns
 unfolding broken_in
-returns c = ap (ltb c.before.before.args.l) c.before.row_at.ensures.0
+returns c = ap (ltb c.args.l) c.row_at-row.ensures.0
 
 pub broken_in_spec : {M : Type 1} → statement M
 broken_in_spec = tie.close (tie.spec (λ c κs. search rules) returns)
