@@ -2,10 +2,14 @@
 use Rattle.base.proofs.Prelude.{ℕ, zero, suc, ◌+◌, ◌*◌, ◌/◌, ◌%◌, ◌-◌, ◌≤◌, ◌<◌, ◌≡◌, refl, sym, ap, ◌∙◌, List, [], ◌∷◌, ◌++◌, map, map-append, arith, add-one, dec_le, ℕ_discrete, eq-eqb, ne_eqb, le-leb, lt-leb, length, set, length-map}
 use Rattle.base.specs.Count.{up_from, filled}
 use Rattle.base.proofs.Filling.{filled-set}
-use Rattle.bounds.proofs.ReleaseRows.{up_from-length}
 use Rattle.entries.specs.Given.{string_count}
 
 -- ---- By place
+
+pub up_from-length : (k n : ℕ) → length (up_from k n) ≡ n
+unfolding up_from
+up_from-length k zero = refl
+up_from-length k (suc n) = ap suc (up_from-length (suc k) n)
 
 up_from-last : (k n : ℕ) → up_from k (suc n) ≡ up_from k n ++ ((k + n) ∷ [])
 unfolding up_from

@@ -1,5 +1,5 @@
 -- Numbers that lack something are refused: a plan whose count is not 1 + 6 n, and a list whose last release lacks a number.
-use Rattle.base.proofs.Prelude.{ℕ, zero, suc, le-ltb, ◌+◌, ◌-◌, ◌*◌, ◌/◌, ◌%◌, ◌≤◌, ◌<◌, min, ◌≡◌, sym, ap, ◌∙◌, List, map, arith, dec_le, ℕ_discrete, length, get_or, take, length-map, get_or-eq_default, take_at}
+use Rattle.base.proofs.Prelude.{ℕ, zero, suc, le-ltb, ◌+◌, ◌-◌, ◌*◌, ◌/◌, ◌%◌, ◌≤◌, ◌<◌, min, ◌≡◌, sym, ap, ◌∙◌, List, map, arith, dec_le, ℕ_discrete, length, get_or, length-map, take_at}
 use Rattle.base.specs.Count.{up_from}
 use Rattle.faults.specs.{declared.Fault.TheVariants.StringCount, declared.Checked.TheVariants.{Lawful, Refused}}
 use Rattle.rules.specs.{declared.Plan.Plan, Release.{releases_of, no_release}, Refusal.{plan_check, count_check, run_check}}

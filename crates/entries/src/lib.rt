@@ -1,5 +1,7 @@
-// Entries for programs in other languages, which link this crate as an archive: the desk's answers over numbers and bytes that they lend.
+// Entries for programs in other languages, which link them as an archive (entries_c): answers over numbers and bytes that they lend.
 // c/desk.h declares them and says how each is called. Each answers for whatever it is lent: no caller is trusted to have checked.
+#![tactic(auto)]
+
 mod given;
 mod told;
 
@@ -29,43 +31,39 @@ use told::{
 use visits::check_visit_text;
 
 // Whether a plan is lawful; if not, the first fault.
-#[unsafe(no_mangle)]
-pub extern "C" fn desk_check(plan: &[u32], out: &mut [u64]) -> u32
+pub fn desk_check(plan: &[u32], out: &mut [u64]) -> u32
     ensures exact { result ≡ kind_told (row_of (checked_says (plan_check (plan_given plan.now)))) out.old }
     ensures out { out.new ≡ places_told (row_of (checked_says (plan_check (plan_given plan.now))))
         out.old }
-    ensures kept { plan.now ≡ plan.now }
+    ensures kept { plan.exit.now ≡ plan.entry.now }
 {
     tell(checked_row(plan_check(plan_given(plan))), out)
 }
 
 // H, the least common multiple of all T; 100,001 stands for any over 100,000.
-#[unsafe(no_mangle)]
-pub extern "C" fn desk_multiple(plan: &[u32]) -> u32
+pub fn desk_multiple(plan: &[u32]) -> u32
     ensures exact { result ≡ multiple_of (plan_given plan.now) }
-    ensures kept { plan.now ≡ plan.now }
+    ensures kept { plan.exit.now ≡ plan.entry.now }
 {
     multiple(plan_given(plan))
 }
 
 // The verdict on a plan with the permissions it carries.
-#[unsafe(no_mangle)]
-pub extern "C" fn desk_verdict(plan: &[u32], out: &mut [u64]) -> u32
+pub fn desk_verdict(plan: &[u32], out: &mut [u64]) -> u32
     ensures exact { result ≡ kind_told (row_of (asked_verdict_says (verdict_answer (plan_given plan.now)))) out.old }
     ensures out { out.new ≡ places_told (row_of (asked_verdict_says (verdict_answer (plan_given plan.now))))
         out.old }
-    ensures kept { plan.now ≡ plan.now }
+    ensures kept { plan.exit.now ≡ plan.entry.now }
 {
     tell(verdict_row(verdict::verdict(plan_given(plan))), out)
 }
 
 // The verdict on a plan with the permission set given.
-#[unsafe(no_mangle)]
-pub extern "C" fn desk_verdict_with(plan: &[u32], set: u32, out: &mut [u64]) -> u32
+pub fn desk_verdict_with(plan: &[u32], set: u32, out: &mut [u64]) -> u32
     ensures exact { result ≡ kind_told (row_of (asked_verdict_says (set_answer (plan_given plan.now) set))) out.old }
     ensures out { out.new ≡ places_told (row_of (asked_verdict_says (set_answer (plan_given plan.now) set)))
         out.old }
-    ensures kept { plan.now ≡ plan.now }
+    ensures kept { plan.exit.now ≡ plan.entry.now }
 {
     tell(
         verdict_row(verdict::verdict_with(plan_given(plan), set)),
@@ -74,49 +72,45 @@ pub extern "C" fn desk_verdict_with(plan: &[u32], set: u32, out: &mut [u64]) -> 
 }
 
 // The quick verdict on a plan with the permissions it carries.
-#[unsafe(no_mangle)]
-pub extern "C" fn desk_quick(plan: &[u32], out: &mut [u64]) -> u32
+pub fn desk_quick(plan: &[u32], out: &mut [u64]) -> u32
     ensures exact { result ≡ kind_told (row_of (asked_verdict_says (quick_answer (plan_given plan.now)))) out.old }
     ensures out { out.new ≡ places_told (row_of (asked_verdict_says (quick_answer (plan_given plan.now))))
         out.old }
-    ensures kept { plan.now ≡ plan.now }
+    ensures kept { plan.exit.now ≡ plan.entry.now }
 {
     tell(verdict_row(verdict::quick(plan_given(plan))), out)
 }
 
 // The passing set with the fewest takers, among equals the smallest number.
-#[unsafe(no_mangle)]
-pub extern "C" fn desk_search(plan: &[u32], out: &mut [u64]) -> u32
+pub fn desk_search(plan: &[u32], out: &mut [u64]) -> u32
     ensures exact { result ≡ kind_told (row_of (asked_assign_says (search_answer (plan_given plan.now)))) out.old }
     ensures out { out.new ≡ places_told (row_of (asked_assign_says (search_answer (plan_given plan.now))))
         out.old }
-    ensures kept { plan.now ≡ plan.now }
+    ensures kept { plan.exit.now ≡ plan.entry.now }
 {
     tell(assign_row(verdict::search(plan_given(plan))), out)
 }
 
 // The hardest lawful value of a number of the string at a place with which the plan passes. The number is named by its letter.
-#[unsafe(no_mangle)]
-pub extern "C" fn desk_limit(plan: &[u32], place: usize, letter: u32, out: &mut [u64]) -> u32
+pub fn desk_limit(plan: &[u32], place: usize, letter: u32, out: &mut [u64]) -> u32
     ensures exact { result ≡ kind_told (limit_row (limit_given (plan_given plan.now) place letter)) out.old }
     ensures out { out.new ≡ places_told (limit_row (limit_given (plan_given plan.now) place letter))
         out.old }
-    ensures kept { plan.now ≡ plan.now }
+    ensures kept { plan.exit.now ≡ plan.entry.now }
 {
     tell(limit_row(limit_given(plan_given(plan), place, letter)), out)
 }
 
 // How the run ends under a plan and a list of releases.
-#[unsafe(no_mangle)]
-pub extern "C" fn desk_run(plan: &[u32], releases: &[u32], out: &mut [u64]) -> u32
+pub fn desk_run(plan: &[u32], releases: &[u32], out: &mut [u64]) -> u32
     ensures exact { result ≡ kind_told
         (row_of (asked_outcome_says (run_answer (plan_given plan.now) (releases_given releases.now))))
         out.old }
     ensures out { out.new ≡ places_told
         (row_of (asked_outcome_says (run_answer (plan_given plan.now) (releases_given releases.now))))
         out.old }
-    ensures plan { plan.now ≡ plan.now }
-    ensures releases { releases.now ≡ releases.now }
+    ensures plan { plan.exit.now ≡ plan.entry.now }
+    ensures releases { releases.exit.now ≡ releases.entry.now }
 {
     tell(
         outcome_row(run::run(plan_given(plan), releases_given(releases))),
@@ -125,12 +119,11 @@ pub extern "C" fn desk_run(plan: &[u32], releases: &[u32], out: &mut [u64]) -> u
 }
 
 // Whether a plan can miss: why it cannot, or the days of a run that does.
-#[unsafe(no_mangle)]
-pub extern "C" fn desk_can_miss(plan: &[u32], out: &mut [u64]) -> u32
+pub fn desk_can_miss(plan: &[u32], out: &mut [u64]) -> u32
     ensures exact { result ≡ kind_told (missing_row (missing_answer (plan_given plan.now)).missing) out.old }
     ensures out { out.new ≡ places_told (missing_row (missing_answer (plan_given plan.now)).missing)
         out.old }
-    ensures kept { plan.now ≡ plan.now }
+    ensures kept { plan.exit.now ≡ plan.entry.now }
 {
     let shown = tries::releases_that_miss(plan_given(plan));
     let missing = shown.missing;
@@ -139,13 +132,7 @@ pub extern "C" fn desk_can_miss(plan: &[u32], out: &mut [u64]) -> u32
 
 // The stints of the run under a plan and a list of releases, five numbers each, in the list that is lent. 15,005 places hold them, whatever
 // the plan.
-#[unsafe(no_mangle)]
-pub extern "C" fn desk_stints(
-    plan: &[u32],
-    releases: &[u32],
-    list: &mut [u32],
-    out: &mut [u64],
-) -> u32
+pub fn desk_stints(plan: &[u32], releases: &[u32], list: &mut [u32], out: &mut [u64]) -> u32
     ensures exact { result ≡ kind_told
         (stinted_row (stints_answer (plan_given plan.now) (releases_given releases.now) (length list.old)))
         out.old }
@@ -154,8 +141,8 @@ pub extern "C" fn desk_stints(
         out.old }
     ensures list { list.new ≡ list_told (stints_listed (plan_given plan.now) (releases_given releases.now))
         list.old out.old }
-    ensures plan { plan.now ≡ plan.now }
-    ensures releases { releases.now ≡ releases.now }
+    ensures plan { plan.exit.now ≡ plan.entry.now }
+    ensures releases { releases.exit.now ≡ releases.entry.now }
 {
     if out.len() < 4 {
         return NO_ROOM;
@@ -165,22 +152,16 @@ pub extern "C" fn desk_stints(
 }
 
 // Whether a contractor's visit list is accepted for a plan and a list of releases. The list is a text, a line for each visit.
-#[unsafe(no_mangle)]
-pub extern "C" fn desk_check_visits(
-    plan: &[u32],
-    releases: &[u32],
-    visits: &[u8],
-    out: &mut [u64],
-) -> u32
+pub fn desk_check_visits(plan: &[u32], releases: &[u32], visits: &[u8], out: &mut [u64]) -> u32
     ensures exact { result ≡ kind_told
         (row_of (checked_says (visit_text_check (plan_given plan.now) (releases_given releases.now) visits.now)))
         out.old }
     ensures out { out.new ≡ places_told
         (row_of (checked_says (visit_text_check (plan_given plan.now) (releases_given releases.now) visits.now)))
         out.old }
-    ensures plan { plan.now ≡ plan.now }
-    ensures releases { releases.now ≡ releases.now }
-    ensures visits { visits.now ≡ visits.now }
+    ensures plan { plan.exit.now ≡ plan.entry.now }
+    ensures releases { releases.exit.now ≡ releases.entry.now }
+    ensures visits { visits.exit.now ≡ visits.entry.now }
 {
     tell(
         checked_row(check_visit_text(plan_given(plan), releases_given(releases), visits)),
@@ -189,19 +170,17 @@ pub extern "C" fn desk_check_visits(
 }
 
 // The lines that the desk writes for a plan file. 256 bytes hold them, whatever the file.
-#[unsafe(no_mangle)]
-pub extern "C" fn desk_answer(text: &[u8], page: &mut [u8]) -> usize
+pub fn desk_answer(text: &[u8], page: &mut [u8]) -> usize
     ensures exact { result ≡ length_told (lines_for (answer_of text.now)) page.old }
     ensures page { page.new ≡ page_told (lines_for (answer_of text.now)) page.old }
-    ensures kept { text.now ≡ text.now }
+    ensures kept { text.exit.now ≡ text.entry.now }
     ensures enough { length (lines_for (answer_of text.now)) ≤ 256 }
 {
     tell_text(lines::written(answers::answer(text)), page)
 }
 
 // The date of a day number.
-#[unsafe(no_mangle)]
-pub extern "C" fn desk_date(day: u32, out: &mut [u64]) -> u32
+pub fn desk_date(day: u32, out: &mut [u64]) -> u32
     ensures exact { result ≡ kind_told (date_row (date_answer day)) out.old }
     ensures out { out.new ≡ places_told (date_row (date_answer day)) out.old }
 {
@@ -209,8 +188,7 @@ pub extern "C" fn desk_date(day: u32, out: &mut [u64]) -> u32
 }
 
 // The day number of a date.
-#[unsafe(no_mangle)]
-pub extern "C" fn desk_day(year: u32, month: u32, day: u32, out: &mut [u64]) -> u32
+pub fn desk_day(year: u32, month: u32, day: u32, out: &mut [u64]) -> u32
     ensures exact { result ≡ kind_told (day_row (day_answer (date_given year month day))) out.old }
     ensures out { out.new ≡ places_told (day_row (day_answer (date_given year month day))) out.old }
 {

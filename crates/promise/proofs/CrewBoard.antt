@@ -1,7 +1,6 @@
 -- The crew's board, of what the code answered: the number of `board_read`'s refusal, or the pages of `board_page` in a row and the line of
 -- `board_end`, are all that is to be written for a plan file and an input.
-use Rattle.base.proofs.Prelude.{ℕ, ◌+◌, ◌≤◌, ◌≡◌, refl, sym, ap, ◌∙◌, List, ◌++◌, arith, length, take, drop, take_at}
-use mathlib.Core.Path.{ap₂}
+use Rattle.base.proofs.Prelude.{ℕ, ◌≤◌, ◌≡◌, sym, ap, ◌∙◌, ◌++◌, length, take, take_at}
 use contract.Lifetimes.{Lfts}
 use Rattle.faults.specs.{declared.Checked.TheVariants.Lawful, Checks.{then, or_refused}}
 use Rattle.calendar.specs.Numbers.{last_day}

@@ -2,9 +2,9 @@
 -- some D grow, some moving costs fall, some strings are dropped, any number of these at once, the permissions staying, it says pass of the
 -- new plan, if that is lawful; with a set the same, the set carried along past a dropped string. So what passed is never late, and stays
 -- never late. A string dropped from a plan of two or more leaves a lawful plan. Permissions are not on the list: P9, P1 and P3.
-use Rattle.base.proofs.Prelude.{ℕ, ◌≤◌, ◌≡◌, refl, sym, ap, ◌∙◌, true, arith, length}
-use Rattle.faults.specs.{declared.Checked.Checked, declared.Checked.TheVariants.Lawful}
-use Rattle.rules.specs.{declared.Plan.Plan, declared.Releases.Releases, declared.Verdict.Verdict, declared.AskedVerdict.AskedVerdict, declared.AskedOutcome.AskedOutcome, Demand.Passes, Verdict.{verdict_of, is_pass}, Search.with_set, Release.releases_of, Refusal.{plan_check, set_check, run_check, verdict_answer, set_answer}, Said.{overload, fail, pass, clean, asked_verdict_says, asked_outcome_says}}
+use Rattle.base.proofs.Prelude.{ℕ, ◌≤◌, ◌≡◌, refl, sym, ap, ◌∙◌, arith, length}
+use Rattle.faults.specs.{declared.Checked.TheVariants.Lawful}
+use Rattle.rules.specs.{declared.Plan.Plan, declared.Releases.Releases, declared.AskedVerdict.AskedVerdict, declared.AskedOutcome.AskedOutcome, Demand.Passes, Verdict.{verdict_of, is_pass}, Search.with_set, Release.releases_of, Refusal.{plan_check, set_check, run_check, verdict_answer, set_answer}, Said.{overload, fail, pass, clean, asked_verdict_says, asked_outcome_says}}
 use Rattle.laws.specs.Lawful.{LawfulPlan}
 use Rattle.laws.proofs.{Lawful.plan_check-lawful, LawfulChecked.lawful-checked, Answers.{verdict-lawful, set-plan}, Says.asked-pass, Releases.run_check-lawful}
 use Rattle.demand.specs.Quick.{apart_from_pairs, asked_apart, quick_answer, quick_set_answer}

@@ -1,14 +1,12 @@
 -- Demand 3 of the code's own answers: what said pass cannot say miss, and each job has had its days. `Learnt` is what a function's
 -- contract says of its
 -- answer. By numbers; with a permission set; with the set that the search found; and for a text.
-use Rattle.base.proofs.Prelude.{ℕ, ◌+◌, ◌≤◌, ◌≡◌, refl, sym, ap, ◌∙◌, true, List, arith, le_refl, length}
-use Rattle.days.specs.Days.{day}
+use Rattle.base.proofs.Prelude.{ℕ, ◌≤◌, ◌≡◌, refl, sym, ap, ◌∙◌, List, arith, le_refl, length}
 use Rattle.faults.specs.{declared.Fault.Fault, declared.Checked.Checked}
 use Rattle.rules.specs.{declared.Plan.Plan, declared.Releases.Releases, declared.Verdict.Verdict, declared.AskedVerdict.AskedVerdict, declared.Assign.Assign, declared.AskedAssign.AskedAssign, declared.Outcome.Outcome, declared.AskedOutcome.AskedOutcome, declared.Answer.Answer, Demand.Passes, Verdict.{verdict_of, is_pass}, Search.with_set, Release.releases_of, Run.run_of, Refusal.{on_verdict, plan_check, set_check, run_check, verdict_answer}, Text.reading_of, Answer.{answered, answer_of}, Said.{pass, takers, miss, clean, verdict_says, outcome_says, asked_verdict_says, asked_assign_says, asked_outcome_says}}
 use Rattle.laws.specs.Lawful.{LawfulRun}
 use Rattle.laws.proofs.{Lawful.plan_check-lawful, Answers.run-refused, Says.{says-pass, asked-pass}, Releases.run_check-lawful, ReadLawful.read-lawful}
 use Rattle.demand.proofs.Verdict.{passes-of-pass}
-use Rattle.demand.specs.BestSet.{BestSet}
 use Rattle.sound.specs.Served.{released, due_of, Served}
 use Rattle.sound.proofs.{Clean.run-clean, CleanAnswer.never-misses, Served.served}
 use Rattle.promise.specs.NeverMiss.{NeverMiss}
@@ -163,6 +161,7 @@ module _ (κs : Lfts 1) (lent : _) (e : _) (r : Answer) (answered-is : answer.Le
   )
 
   -- and each of its releases has had all its work, and any moving it caused, before its deadline
-  pub file-served : (i d : ℕ) → 1 ≤ i → i ≤ length (releases_of list_given) → due_of plan_given_for (released (releases_of list_given) i) ≤ d
+  pub file-served : (i d : ℕ) → 1 ≤ i → i ≤ length (releases_of list_given) → due_of plan_given_for (released (releases_of list_given) i)
+      ≤ d
       → Served plan_given_for (releases_of list_given) i d
   file-served i d low high due = served plan_given_for (releases_of list_given) run_is.plan run_is.none_bad file-rule i d low high due

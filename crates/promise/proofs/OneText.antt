@@ -4,7 +4,7 @@
 use Rattle.base.proofs.Prelude.{ℕ, ◌≡◌, sym, ap, ◌∙◌, length, take, drop}
 use Rattle.base.specs.Count.{put_at}
 use Rattle.faults.specs.declared.Checked.TheVariants.{Lawful}
-use Rattle.rules.specs.{declared.Plan.Plan, declared.Releases.Releases, declared.Reading.Reading, Layout.{version03, held_to}, Text.{lines_of, version_of, reading_in, reading_of}}
+use Rattle.rules.specs.{declared.Reading.Reading, Layout.{version03, held_to}, Text.{lines_of, version_of, reading_in, reading_of}}
 use Rattle.writing.specs.{declared.Saved.TheVariants.Text, Saved.{saved_answer, saved_page}}
 use Rattle.roundtrip.specs.OneText.{read_again}
 use Rattle.roundtrip.proofs.{WriteBack.one-text, InPage.{reading-the-page, saving-what-was-read}}

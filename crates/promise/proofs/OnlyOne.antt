@@ -111,10 +111,10 @@ use Rattle.lines.proofs.stint_line.Reads as stint-line
 use Rattle.lines.proofs.set_line.Reads as set_line
 use Rattle.lines.proofs.day_row.Reads as day-row
 use Rattle.lines.proofs.bar_row.Reads as bar-row
-use Rattle.lines.proofs.marks_line.Reads as Marks-line
+use Rattle.lines.proofs.marks_line.Reads as marks-line
 use Rattle.lines.proofs.idle_line.Reads as idle-line
-use Rattle.lines.proofs.cut_line.Reads as cut-Line
-use Rattle.lines.proofs.load_line.Reads as Load-Line
+use Rattle.lines.proofs.cut_line.Reads as cut-line
+use Rattle.lines.proofs.load_line.Reads as load-line
 use Rattle.lines.proofs.release_line.Reads as release-line
 use Rattle.lines.proofs.same_line.Reads as same_line
 use Rattle.lines.proofs.alone_line.Reads as alone-line
@@ -444,19 +444,19 @@ one-day-row κs a e f r s h k = h.0 ∙ sym k.0
 pub one-bar-row : (κs : Lfts 0) (a : _) (e f : _) (r s : Page) → bar-row.Learnt κs a r e → bar-row.Learnt κs a s f → r ≡ s
 one-bar-row κs a e f r s h k = h.0 ∙ sym k.0
 
-pub one-marks-line : (κs : Lfts 0) (a : _) (e f : _) (r s : Page) → Marks-line.Learnt κs a r e → Marks-line.Learnt κs a s f → r ≡ s
+pub one-marks-line : (κs : Lfts 0) (a : _) (e f : _) (r s : Page) → marks-line.Learnt κs a r e → marks-line.Learnt κs a s f → r ≡ s
 one-marks-line κs a e f r s h k = h.0 ∙ sym k.0
 
 pub one-idle-line : (κs : Lfts 0) (a : _) (e f : _) (r s : Page) → idle-line.Learnt κs a r e → idle-line.Learnt κs a s f → r ≡ s
 one-idle-line κs a e f r s h k = h.0 ∙ sym k.0
 
-pub one-cut-line : (κs : Lfts 0) (a : _) (e f : _) (r s : Page) → cut-Line.Learnt κs a r e → cut-Line.Learnt κs a s f → r ≡ s
+pub one-cut-line : (κs : Lfts 0) (a : _) (e f : _) (r s : Page) → cut-line.Learnt κs a r e → cut-line.Learnt κs a s f → r ≡ s
 one-cut-line κs a e f r s h k = h.0 ∙ sym k.0
 
 pub one-stint-line : (κs : Lfts 0) (a : _) (e f : _) (r s : Page) → stint-line.Learnt κs a r e → stint-line.Learnt κs a s f → r ≡ s
 one-stint-line κs a e f r s h k = h.0 ∙ sym k.0
 
-pub one-load-line : (κs : Lfts 0) (a : _) (e f : _) (r s : Page) → Load-Line.Learnt κs a r e → Load-Line.Learnt κs a s f → r ≡ s
+pub one-load-line : (κs : Lfts 0) (a : _) (e f : _) (r s : Page) → load-line.Learnt κs a r e → load-line.Learnt κs a s f → r ≡ s
 one-load-line κs a e f r s h k = h.0 ∙ sym k.0
 
 pub one-release-line : (κs : Lfts 0) (a : _) (e f : _) (r s : Page) → release-line.Learnt κs a r e → release-line.Learnt κs a s f → r ≡ s

@@ -1,7 +1,7 @@
 -- A reader of one version gives 3 at line 1 exactly for a text whose first line is no header of that version, and so for the lawful
 -- files of every other version.
 use Rattle.base.proofs.Prelude.{ℕ, ◌≤◌, ◌≡◌, refl, sym, ap, ◌∙◌, ◌↔◌, Bool, true, false, not, ◌&&◌, List, [], ◌∷◌, arith, ltb-false, le-ltb, eqb-true, ne_eqb, ltb, eqb, length}
-use Rattle.base.proofs.Lists.{true-not-false, and_right}
+use Rattle.base.proofs.Lists.{true-not-false}
 use Rattle.faults.specs.{declared.Fault.TheVariants.{TextTooLong, LineMalformed, FrameWrong}, declared.Checked.Checked, declared.Checked.TheVariants.{Lawful, Refused}, Checks.{fault_number, then, refuse_if}}
 use Rattle.faults.proofs.{Checks.{refused-not-lawful, then-first, then-second, refuse_if-not}, Refusing.{Refusals, refusals-then, refusals-if}}
 use Rattle.rules.specs.{Layout.{Version, frame_size, kind_in, version_in, field_among, field_in, header_frame, version01, version02, version03, Number}, Refusal.{head_check, cost_check}, Text.{Line, lines_of, well_formed, frame_of, field_of, n_in, run_in, a_in, plan_in, frame_check, layout_check, version_check, header_check, body_check, lines_check, text_check, reading_in}, Said.{refused, checked_says}}
@@ -19,7 +19,8 @@ not_three (Refused f at) h says =
 -- the tests of a header in their order: is the line a frame, is it one of the version's length and kind, does it name the version
 abbrev tested : Bool → Bool → Bool → Checked → Checked
 tested good sized named numbers =
-    then (then (refuse_if (not good) LineMalformed 1) (refuse_if (not sized) FrameWrong 1)) (then (refuse_if (not named) FrameWrong 1) numbers)
+    then (then (refuse_if (not good) LineMalformed 1) (refuse_if (not sized) FrameWrong 1))
+    (then (refuse_if (not named) FrameWrong 1) numbers)
 
 two-not-three : refused 2 1 ≡ refused 3 1 → ⊥
 two-not-three h =
@@ -81,7 +82,8 @@ module _ (v : Version) (text : List ℕ) (h : (reading_in v text).checked ≡ La
   lawful-short =
       ltb-false 65536 (length text)
       (refuse_if-not _ TextTooLong 0
-      (then-first (refuse_if (ltb 65536 (length text)) TextTooLong 0) (lines_check v (lines_of text)) (sym (reading-is-checked v text) ∙ h)))
+      (then-first (refuse_if (ltb 65536 (length text)) TextTooLong 0) (lines_check v (lines_of text)) (sym (reading-is-checked v text)
+      ∙ h)))
 
 abbrev Named : Version → List Line → Type 0
 Named v [] = ⊥

@@ -8,7 +8,7 @@ use Rattle.rules.specs.{declared.Plan.Plan, declared.Releases.Releases, Refusal.
 use Rattle.laws.proofs.ReadLawful.{read-lawful}
 use Rattle.lines.specs.{declared.Page.Page, Pages.{page_of, text_of}}
 use Rattle.lines.proofs.Growing.{text_of-page_of}
-use Rattle.showing.specs.Shown.{plan_shown, string_shown, load_shown, release_shown, shown_text}
+use Rattle.showing.specs.Shown.{string_shown, release_shown, shown_text}
 use Rattle.showing.proofs.Whole.{shown-whole}
 use Rattle.showing.proofs.plan_shown.Reads as plan-shown
 use Rattle.showing.proofs.string_shown.Reads as string-shown

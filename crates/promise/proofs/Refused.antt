@@ -54,7 +54,8 @@ saved-says (Refused f at) len n k = (
       ap (λ m. refused_with m at) number ∙ ap (refused_with n) place,
 )
 
-saved-keeps : (c : Checked) (len n k : ℕ) (page after : List ℕ) → saved_says (on_saved c len) ≡ refused_with n k → on_page c page after ≡ page
+saved-keeps : (c : Checked) (len n k : ℕ) (page after : List ℕ) → saved_says (on_saved c len) ≡ refused_with n k → on_page c page after
+    ≡ page
 saved-keeps Lawful len n k page after h = absurd (lawful-no-refusal n k ((saved-says Lawful len n k).0 h))
 saved-keeps (Refused f at) len n k page after h = refl
 
@@ -94,7 +95,8 @@ module _ (c : Checked) (low : Refusals (Numbered 8) c) (bad : Bool) (len : ℕ) 
               (parts.1 (h.0, first.1 ((if-says 12 k differ CostsDiffer at).1 (h.1, refl, h.2)))),
         )
 
-    nine-after : (saved_says (on_saved (then c (then costs room)) len) ≡ refused_with 9 0) ↔ ((c ≡ Lawful) × (costs ≡ Lawful) × (bad ≡ true))
+    nine-after : (saved_says (on_saved (then c (then costs room)) len) ≡ refused_with 9 0) ↔ ((c ≡ Lawful) × (costs ≡ Lawful)
+        × (bad ≡ true))
     nine-after =
         let parts = second-says 9 0 c (then costs room) (never-above 9 8 (omega arith) c low) in
         let last = second-says 9 0 costs room (refusals-if (Never 9) differ CostsDiffer at (λ h. omega arith)) in (

@@ -6,7 +6,7 @@ use Rattle.faults.specs.declared.Checked.TheVariants.{Lawful}
 use Rattle.rules.specs.{declared.Plan.Plan, declared.Releases.Releases, Refusal.run_check}
 use Rattle.lines.specs.{declared.Page.Page, Pages.text_of}
 use Rattle.lines.proofs.Growing.{text-is}
-use Rattle.lines.proofs.marks_line.Reads as Marks-line
+use Rattle.lines.proofs.marks_line.Reads as marks-line
 use Rattle.bars.specs.Bars.{row_shown, idle_shown, bars_text}
 use Rattle.bars.proofs.Whole.{bars-whole}
 use Rattle.bars.proofs.head_shown.Reads as head-shown
@@ -19,7 +19,7 @@ use contract.Lifetimes.{Lfts}
 -- the pages of the bars are the whole text: the days, the rows by place, what the marks mean, the shared columns, the end
 module _ (κs : Lfts 0) (p : Plan) (rs : Releases) (head marks cut : Page) (rows idle : ℕ → Page) (c d e : _) (f g : ℕ → _)
     (headed : head-shown.Learnt κs (p, (rs, tt)) head c) (placed : (i : ℕ) → row-shown.Learnt κs (p, (rs, (i, tt))) (rows i) (f i))
-    (marked : Marks-line.Learnt κs tt marks d) (shared : (k : ℕ) → idle-shown.Learnt κs (p, (rs, (k, tt))) (idle k) (g k))
+    (marked : marks-line.Learnt κs tt marks d) (shared : (k : ℕ) → idle-shown.Learnt κs (p, (rs, (k, tt))) (idle k) (g k))
     (ended : cut-shown.Learnt κs (p, (rs, tt)) cut e) where
   pub draws-bars : run_check p rs ≡ Lawful
       → text_of head

@@ -1,7 +1,7 @@
 -- The wrong programs of document 01, "What the promises have to say": no program with such answers meets the contracts. A program is a
 -- function of its
 -- input; `after` is what it leaves at its return, and `meets` says that the function's own contract (`Learnt`) holds for every input.
-use Rattle.base.proofs.Prelude.{ℕ, ◌≤◌, ◌≡◌, refl, sym, ap, ◌∙◌, subst, List, [], ◌∷◌, map, arith, length, get_or}
+use Rattle.base.proofs.Prelude.{ℕ, ◌≡◌, refl, sym, ap, ◌∙◌, subst, [], ◌∷◌, map, arith, length, get_or}
 use Rattle.faults.specs.{declared.Checked.Checked, declared.Checked.TheVariants.{Lawful, Refused}}
 use Rattle.rules.specs.{declared.Plan.Plan, declared.Releases.Releases, declared.Reading.Reading, declared.Verdict.Verdict, declared.AskedVerdict.AskedVerdict, declared.Assign.Assign, declared.AskedAssign.AskedAssign, declared.Outcome.Outcome, declared.AskedOutcome.AskedOutcome, declared.Answer.Answer, Verdict.{all_pairs, compared}, Search.with_set, Refusal.{on_verdict, on_assign, on_outcome, plan_check, set_check, run_check, verdict_answer, set_answer, search_answer, run_answer}, Text.reading_of, Answer.{answered, answer_of}, Said.{Said, lawful, fail, pass, takers, clean, checked_says, asked_verdict_says, asked_assign_says, asked_outcome_says}}
 use Rattle.rules.proofs.Worked.{table, row, release, releases, two, level, sample, worked}

@@ -1,7 +1,7 @@
 -- How far a plan can be changed, of what the code answered: with the limit the plan is lawful and passes; with no lawful value beyond it
 -- does it pass; with every lawful value between it and the easy end it does, of D where J is 0. Where no limit is given, no lawful value
 -- passes. So a plan that is changed within its limit is never late. The lines that the code gave, put together, are the whole text.
-use Rattle.base.proofs.Prelude.{ℕ, ◌-◌, ◌≤◌, ◌≡◌, sym, ap, ◌∙◌, true, ◌++◌, arith, length, get_or}
+use Rattle.base.proofs.Prelude.{ℕ, ◌-◌, ◌≤◌, ◌≡◌, sym, ◌∙◌, true, ◌++◌, arith, length, get_or}
 use mathlib.Core.List.{flat_map}
 use Rattle.base.specs.Count.{up_from}
 use Rattle.faults.specs.declared.Checked.TheVariants.{Lawful}
@@ -11,7 +11,7 @@ use Rattle.lines.specs.{declared.Page.Page, Pages.text_of}
 use Rattle.lines.proofs.Growing.{text-is}
 use Rattle.lines.specs.declared.limits.Limit.{Limit}
 use Rattle.lines.specs.declared.limits.Limit.TheVariants.{Nothing, At}
-use Rattle.slack.specs.{declared.Letter.Letter, declared.AskedLimit.AskedLimit, Slack.{plan_with, limit_of, limit_answer, limits_shown, slack_text}, Beyond.{Harder, gapless, LawfulWith, IsLimit, NoLimit}}
+use Rattle.slack.specs.{declared.Letter.Letter, declared.AskedLimit.AskedLimit, Slack.{plan_with, limit_of, limits_shown, slack_text}, Beyond.{Harder, gapless, LawfulWith, IsLimit, NoLimit}}
 use Rattle.slack.proofs.{Limited.limit-given, Meaning.{limit_is, limit-none}, InItsPlace.slack-whole}
 use Rattle.promise.specs.NeverMiss.{NeverMiss}
 use Rattle.promise.proofs.{NeverMisses.rule-never-misses, Whiteboard.pages-same}

@@ -10,9 +10,9 @@ use Rattle.base.proofs.Prelude.{ℕ, ◌+◌, ◌^◌, ◌<◌, ◌≡◌, sym, 
 use Rattle.base.specs.Count.{count_of}
 use Rattle.base.proofs.Lists.{by_bool, true-not-false}
 use Rattle.days.specs.Days.{days}
-use Rattle.faults.specs.{declared.Checked.Checked, declared.Checked.TheVariants.{Lawful, Refused}}
-use Rattle.rules.specs.{declared.Plan.Plan, declared.Release.Release, declared.Releases.Releases, declared.Use.Use, declared.Verdict.Verdict, declared.AskedVerdict.AskedVerdict, declared.Assign.Assign, declared.AskedAssign.AskedAssign, declared.AskedOutcome.AskedOutcome, Demand.{Passes, demand, overloaded}, Verdict.{all_pairs, compared, verdict_of, is_pass}, Search.{with_set, set_passes, search_of}, Release.releases_of, Run.{history, days_of, is_work, is_move, is_idle, miss_day, run_of}, Refusal.{plan_check, set_check, run_check, verdict_answer, set_answer, run_answer}, Said.{overload, fail, pass, takers, none, clean, outcome_says, asked_verdict_says, asked_assign_says, asked_outcome_says}}
-use Rattle.laws.proofs.{Lawful.plan_check-lawful, LawfulChecked.lawful-checked, Answers.{verdict-lawful, set-plan, search-lawful, run-lawful, run-refused}, Says.{asked-pass, asked-overload, asked-fail, asked-takers, asked-none, asked-clean}, History.kinds-add-up}
+use Rattle.faults.specs.{declared.Checked.TheVariants.{Lawful}}
+use Rattle.rules.specs.{declared.Plan.Plan, declared.Releases.Releases, declared.Use.Use, declared.Verdict.Verdict, declared.AskedVerdict.AskedVerdict, declared.Assign.Assign, declared.AskedAssign.AskedAssign, declared.AskedOutcome.AskedOutcome, Demand.{Passes, demand, overloaded}, Verdict.{all_pairs, compared, verdict_of, is_pass}, Search.{with_set, set_passes, search_of}, Release.releases_of, Run.{history, days_of, is_work, is_move, is_idle}, Refusal.{plan_check, set_check, verdict_answer}, Said.{overload, fail, pass, takers, none, clean, outcome_says, asked_verdict_says, asked_assign_says, asked_outcome_says}}
+use Rattle.laws.proofs.{Lawful.plan_check-lawful, LawfulChecked.lawful-checked, Answers.{verdict-lawful, set-plan, search-lawful}, Says.{asked-pass, asked-overload, asked-fail, asked-takers, asked-none, asked-clean}, History.kinds-add-up}
 use Rattle.demand.specs.FirstBreak.{FirstBreak}
 use Rattle.demand.proofs.{Sets.with_set-lawful, Verdict.{pass-exactly, pass-count, overload-exactly, fail-names, fail-not-overloaded, break-fails}}
 use Rattle.demand.specs.BestSet.{BestSet}

@@ -3,7 +3,7 @@
 -- within it, as records and as a text.
 -- What the kit learns of a contract it does not learn of functions over a slice of structs, so the clause of `check_visits` is written out
 -- (visits/src/lib.rt): r is its answer for the plan p, the releases rs and a lent list whose records are vs.
-use Rattle.base.proofs.Prelude.{ℕ, ◌≤◌, ◌≡◌, refl, sym, ◌∙◌, subst, ◌↔◌, true, arith, leb, ltb, lt-ltb, le-leb, leb-true, ltb-true, ap, length, take, take_at}
+use Rattle.base.proofs.Prelude.{ℕ, ◌≤◌, ◌≡◌, refl, sym, ◌∙◌, subst, ◌↔◌, arith, leb, ltb, lt-ltb, le-leb, leb-true, ltb-true, ap, length, take, take_at}
 use Rattle.base.proofs.Lists.{All}
 use Rattle.days.specs.declared.Length.{Length}
 use Rattle.faults.specs.{declared.Fault.TheVariants.{VisitUnlawful, SumDiffers}, declared.Checked.Checked, declared.Checked.TheVariants.Lawful, Checks.{fault_number, then, refuse_if}}
@@ -49,7 +49,8 @@ module _ (p : Plan) (rs : Releases) (vs : List Visit) (r : Checked) (answered : 
   )
 
   -- 14 exactly with the number of the first record that breaks a rule, where 4 to 8 find nothing
-  pub visits-fourteen : (k : ℕ) → (checked_says r ≡ refused 14 k) ↔ ((run_check p rs ≡ Lawful) × (1 ≤ k) × (first_breaking p (releases_of rs)
+  pub visits-fourteen : (k : ℕ) → (checked_says r ≡ refused 14 k) ↔ ((run_check p rs ≡ Lawful) × (1 ≤ k)
+      × (first_breaking p (releases_of rs)
       vs ≡ k))
   visits-fourteen k =
       let bad = first_breaking p (releases_of rs) vs in

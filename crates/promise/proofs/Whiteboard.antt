@@ -114,7 +114,8 @@ module _ (κs : Lfts 0) (p : Plan) (lawful : plan_check p ≡ Lawful) where
     unfolding stairs_text stair_shown stretch_shown nowhere_shown last_answer
     stairs-whole =
         let range = rw lawful at ends in
-        let steps = pages-same stairs (stair_text p) (λ l. rw lawful at (text-is (stairs l) _ (stepped l).0)) (up_from 1 (last_interval p)) in
+        let steps = pages-same stairs (stair_text p) (λ l. rw lawful at (text-is (stairs l) _ (stepped l).0))
+        (up_from 1 (last_interval p)) in
         let stretching = pages-same stretches (stretch_text p) (λ l. rw lawful at (text-is (stretches l) _ (stretched l).0))
         (up_from 1 (last_interval p)) in
         rw (range, steps, stretching, rw lawful at (text-is nowhere _ unbroken.0))

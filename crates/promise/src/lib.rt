@@ -1,1 +1,2 @@
 // No code: the user's demands over the answers that the code gives. See proofs/.
+#![tactic(auto)]

@@ -12,7 +12,7 @@ returns c =
     let answered = row.before in
     let plan = answered.before in
     let said = told-plan (λ v. missing_row v.missing) missing_answer _ _ _ _ _ _ _
-    plan.plan-given.ensures answered.releases-that-miss.ensures row.missing-row.ensures told.tell.ensures in
+    plan.plan_given.ensures answered.releases_that_miss-shown.ensures row.missing_row.ensures told.tell.ensures in
     (said.0, (said.1, refl))
 
 pub desk_can_miss_spec : {M : Type 1} → statement M

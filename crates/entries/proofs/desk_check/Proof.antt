@@ -12,7 +12,7 @@ returns c =
     let answered = row.before in
     let plan = answered.before in
     let said = told-plan (λ v. row_of (checked_says v)) plan_check _ _ _ _ _ _ _
-    plan.plan-given.ensures answered.plan-check.ensures row.checked-row.ensures told.tell.ensures in
+    plan.plan_given.ensures answered.plan_check.ensures row.checked_row.ensures told.tell.ensures in
     (said.0, (said.1, refl))
 
 pub desk_check_spec : {M : Type 1} → statement M

@@ -13,12 +13,12 @@ returns c =
     let answered = row.before in
     let listed = answered.before in
     let plan = listed.before in
-    let lent = plan.before.before.before.before.before.args in
+    let lent = plan.args in
     let said = told-plan (λ v. row_of (checked_says v)) (λ p. visit_text_check p (releases_given lent.releases.now) lent.visits.now)
-    _ _ _ _ _ _ _ plan.plan-given.ensures
-    (answered.check-visit-text.ensures.0
-    ∙ ap (λ rs. visit_text_check plan.plan-given.result rs lent.visits.now) listed.releases-given.ensures)
-    row.checked-row.ensures told.tell.ensures in
+    _ _ _ _ _ _ _ plan.plan_given.ensures
+    (answered.check_visit_text.ensures.0
+    ∙ ap (λ rs. visit_text_check plan.plan_given.result rs lent.visits.now) listed.releases_given.ensures)
+    row.checked_row.ensures told.tell.ensures in
     (said.0, (said.1, (refl, (refl, refl))))
 
 pub desk_check_visits_spec : {M : Type 1} → statement M

@@ -8,7 +8,7 @@ returns : tie.Need-returns
 returns c =
     let told = c.before.before in
     let row = told.before.before in
-    let same = row.date-row.ensures ∙ ap date_row row.before.from-day.ensures in
+    let same = row.date_row.ensures ∙ ap date_row row.from_day.ensures in
     told-as _ _ _ _ _ same told.tell.ensures
 
 pub desk_date_spec : {M : Type 1} → statement M

@@ -8,7 +8,7 @@ returns : tie.Need-returns
 returns c =
     let told = c.before.before in
     let row = told.before.before in
-    let same = row.day-row.ensures ∙ ap day_row row.before.day-number.ensures in
+    let same = row.day_row.ensures ∙ ap day_row row.day_number.ensures in
     told-as _ _ _ _ _ same told.tell.ensures
 
 pub desk_day_spec : {M : Type 1} → statement M

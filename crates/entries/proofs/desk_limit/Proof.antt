@@ -10,9 +10,9 @@ returns c =
     let row = told.before.before in
     let answered = row.before in
     let plan = answered.before in
-    let g = plan.before.before.before.args in
+    let g = plan.args in
     let said = told-plan limit_row (λ p. limit_given p g.place g.letter) _ _ _ _ _ _ _
-    plan.plan-given.ensures answered.limit-given.ensures row.limit-row.ensures told.tell.ensures in
+    plan.plan_given.ensures answered.limit_given.ensures row.limit_row.ensures told.tell.ensures in
     (said.0, (said.1, refl))
 
 pub desk_limit_spec : {M : Type 1} → statement M

@@ -8,4 +8,4 @@ pub desk_multiple_spec : {M : Type 1} → statement M
 desk_multiple_spec =
     tie.close (tie.spec
     (λ c κs. search rules) (λ c κs. search rules)
-    (λ c. (c.multiple.ensures ∙ ap multiple_of c.before.plan-given.ensures, refl)))
+    (λ c. (c.multiple.ensures ∙ ap multiple_of c.plan_given.ensures, refl)))

@@ -13,7 +13,7 @@ returns c =
     let answered = row.before in
     let plan = answered.before in
     let said = told-plan (λ v. row_of (asked_verdict_says v)) quick_answer _ _ _ _ _ _ _
-    plan.plan-given.ensures answered.quick.ensures row.verdict-row.ensures told.tell.ensures in
+    plan.plan_given.ensures answered.quick.ensures row.verdict_row.ensures told.tell.ensures in
     (said.0, (said.1, refl))
 
 pub desk_quick_spec : {M : Type 1} → statement M

@@ -12,10 +12,10 @@ returns c =
     let answered = row.before in
     let listed = answered.before in
     let plan = listed.before in
-    let releases = plan.before.before.before.before.args.releases.now in
+    let releases = plan.args.releases.now in
     let said = told-plan (λ o. row_of (asked_outcome_says o)) (λ p. run_answer p (releases_given releases)) _ _ _ _ _ _ _
-    plan.plan-given.ensures (answered.run.ensures ∙ ap (run_answer _) listed.releases-given.ensures)
-    row.outcome-row.ensures told.tell.ensures in
+    plan.plan_given.ensures (answered.run.ensures ∙ ap (run_answer _) listed.releases_given.ensures)
+    row.outcome_row.ensures told.tell.ensures in
     (said.0, (said.1, (refl, refl)))
 
 pub desk_run_spec : {M : Type 1} → statement M

@@ -12,7 +12,7 @@ returns c =
     let answered = row.before in
     let plan = answered.before in
     let said = told-plan (λ v. row_of (asked_assign_says v)) search_answer _ _ _ _ _ _ _
-    plan.plan-given.ensures answered.search.ensures row.assign-row.ensures told.tell.ensures in
+    plan.plan_given.ensures answered.search.ensures row.assign_row.ensures told.tell.ensures in
     (said.0, (said.1, refl))
 
 pub desk_search_spec : {M : Type 1} → statement M

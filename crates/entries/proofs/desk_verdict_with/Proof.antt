@@ -11,9 +11,9 @@ returns c =
     let row = told.before.before in
     let answered = row.before in
     let plan = answered.before in
-    let set = plan.before.before.before.args.set in
+    let set = plan.args.set in
     let said = told-plan (λ v. row_of (asked_verdict_says v)) (λ p. set_answer p set) _ _ _ _ _ _ _
-    plan.plan-given.ensures answered.verdict-with.ensures row.verdict-row.ensures told.tell.ensures in
+    plan.plan_given.ensures answered.verdict_with.ensures row.verdict_row.ensures told.tell.ensures in
     (said.0, (said.1, refl))
 
 pub desk_verdict_with_spec : {M : Type 1} → statement M

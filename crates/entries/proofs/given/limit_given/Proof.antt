@@ -1,33 +1,38 @@
 -- `limit_given` meets its contract: each letter is told apart from those before it.
-use Rattle.base.proofs.Prelude.{rules, eq-eqb, ne_eqb, ◌≡◌, sym, ◌∙◌}
+use Rattle.base.proofs.Prelude.{rules, eq-eqb, ne_eqb}
 use Rattle.entries.specs.Given.{limit_given}
 use Rattle.entries.proofs.given.limit_given.Statement.{statement}
 use Rattle.entries.proofs.given.limit_given.Tie as tie
 
-returns : tie.Need-returns
+returns : tie.Need-returns-then-letter-eq67
 unfolding limit_given
-returns c = rw (eq-eqb _ _ c.before.if1.true) c.limit-at.ensures
+returns c = rw (eq-eqb _ _ c.if-letter-eq67.true) c.limit_at.ensures
 
-returns-2 : tie.Need-returns-2
+returns-2 : tie.Need-returns-then-letter-eq68
 unfolding limit_given
-returns-2 c = rw (ne_eqb _ _ c.before.before.if1.false, eq-eqb _ _ c.before.if2.true) c.limit-at2.ensures
+returns-2 c = rw (ne_eqb _ _ c.if-letter-eq67.false, eq-eqb _ _ c.if-letter-eq68.true) c.limit_at-then-letter-eq68.ensures
 
-returns-3 : tie.Need-returns-3
+returns-3 : tie.Need-returns-then-letter-eq84
 unfolding limit_given
 returns-3 c =
-    rw (ne_eqb _ _ c.before.before.before.if1.false, ne_eqb _ _ c.before.before.if2.false, eq-eqb _ _ c.before.if3.true)
-    c.limit-at3.ensures
+    rw (ne_eqb _ _ c.if-letter-eq67.false, ne_eqb _ _ c.if-letter-eq68.false, eq-eqb _ _ c.if-letter-eq84.true)
+    c.limit_at-then-letter-eq84.ensures
 
-returns-4 : tie.Need-returns-4
+returns-4 : tie.Need-returns-then-letter-eq65
 unfolding limit_given
 returns-4 c =
     let third = c.before.before in
     let second = third.before in
     let first = second.before in
-    rw (ne_eqb _ _ first.if1.false, ne_eqb _ _ second.if2.false, ne_eqb _ _ third.if3.false, eq-eqb _ _ c.before.if4.true)
-    c.limit-at4.ensures
+    rw (
+      ne_eqb _ _ first.if-letter-eq67.false,
+      ne_eqb _ _ second.if-letter-eq68.false,
+      ne_eqb _ _ third.if-letter-eq84.false,
+      eq-eqb _ _ c.if-letter-eq65.true,
+    )
+    c.limit_at-then-letter-eq65.ensures
 
-returns-5 : tie.Need-returns-5
+returns-5 : tie.Need-returns-then-letter-eq74
 unfolding limit_given
 returns-5 c =
     let fourth = c.before.before in
@@ -35,14 +40,14 @@ returns-5 c =
     let second = third.before in
     let first = second.before in
     rw (
-      ne_eqb _ _ first.if1.false,
-      ne_eqb _ _ second.if2.false,
-      ne_eqb _ _ third.if3.false,
-      ne_eqb _ _ fourth.if4.false,
-      eq-eqb _ _ c.before.if5.true,
-    ) c.limit-at5.ensures
+      ne_eqb _ _ first.if-letter-eq67.false,
+      ne_eqb _ _ second.if-letter-eq68.false,
+      ne_eqb _ _ third.if-letter-eq84.false,
+      ne_eqb _ _ fourth.if-letter-eq65.false,
+      eq-eqb _ _ c.if-letter-eq74.true,
+    ) c.limit_at-then-letter-eq74.ensures
 
-returns-6 : tie.Need-returns-6
+returns-6 : tie.Need-returns
 unfolding limit_given
 returns-6 c =
     let fifth = c.before in
@@ -51,12 +56,12 @@ returns-6 c =
     let second = third.before in
     let first = second.before in
     rw (
-      ne_eqb _ _ first.if1.false,
-      ne_eqb _ _ second.if2.false,
-      ne_eqb _ _ third.if3.false,
-      ne_eqb _ _ fourth.if4.false,
-      ne_eqb _ _ fifth.if5.false,
-    ) c.limit-at6.ensures
+      ne_eqb _ _ first.if-letter-eq67.false,
+      ne_eqb _ _ second.if-letter-eq68.false,
+      ne_eqb _ _ third.if-letter-eq84.false,
+      ne_eqb _ _ fourth.if-letter-eq65.false,
+      ne_eqb _ _ fifth.if-letter-eq74.false,
+    ) c.limit_at-2.ensures
 
 pub limit_given_spec : {M : Type 1} → statement M
 limit_given_spec =

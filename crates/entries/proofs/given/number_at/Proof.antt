@@ -7,4 +7,4 @@ pub number_at_spec : {M : Type 1} → statement M
 number_at_spec =
     tie.close (tie.spec
     (λ c. search rules) (λ c. search rules) (λ c. search rules)
-    (λ c. sym (get_or-eq_default c.before.args.numbers.now 0 c.if1.false)))
+    (λ c. sym (get_or-eq_default c.args.numbers.now 0 c.if-at-numbers.false)))

@@ -4,11 +4,11 @@ use Rattle.entries.specs.Given.{release_count}
 use Rattle.entries.proofs.given.release_count.Statement.{statement}
 use Rattle.entries.proofs.given.release_count.Tie as tie
 
-returns : tie.Need-returns
+returns : tie.Need-returns-then-count-eq0
 unfolding release_count
 returns c = omega arith
 
-returns-2 : tie.Need-returns-2
+returns-2 : tie.Need-returns
 unfolding release_count
 returns-2 c = omega arith
 

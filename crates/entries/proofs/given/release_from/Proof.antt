@@ -6,10 +6,10 @@ use Rattle.entries.proofs.given.release_from.Tie as tie
 returns : tie.Need-returns
 returns c =
     rw (
-      c.number-at3.ensures,
-      c.before.need-from.ensures,
-      c.before.before.number-at2.ensures,
-      c.before.before.before.number_at.ensures,
+      c.number_at-2.ensures,
+      c.need_from.ensures,
+      c.number_at-place.ensures,
+      c.number_at.ensures,
     )
 
 pub release_from_spec : {M : Type 1} → statement M

@@ -10,29 +10,29 @@ use Rattle.entries.proofs.given.releases_given.Tie as tie
 abbrev stored : List ℕ → ℕ → List Release
 stored numbers i = filled 1000 no_release (map (λ k. release_from numbers (k * 4)) (up_from 0 i))
 
-abbrev invariant-loop : tie.invariant-loop
+abbrev invariant-loop : tie.invariant-loop-i
 invariant-loop numbers count end list₀ i₀ list i = (i ≤ end) × (list ≡ stored numbers i)
 
-abbrev decreases-loop : tie.decreases-loop
+abbrev decreases-loop : tie.decreases-loop-i
 decreases-loop numbers count end list₀ i₀ list i = end - i
 
-few : (o : tie.At-loop invariant-loop decreases-loop) → o.before.held.result ≤ 1000
-few o = omega (arith, o.before.held.ensures)
+few : (o : tie.At-loop-i invariant-loop decreases-loop) → o.held-end.result ≤ 1000
+few o = omega (arith, o.held-end.ensures)
 
-loop-again : tie.Need-loop-preserved invariant-loop decreases-loop
+loop-again : tie.Need-loop-i-preserved invariant-loop decreases-loop
 loop-again c =
     let o = c.before.before in
     let few = few o in (
       omega arith,
-      given-more 1000 no_release _ o.loop.i _ _ (omega arith) o.loop.invariant.1 c.release-from.ensures,
+      given-more 1000 no_release _ o.loop-i.i _ _ (omega arith) o.loop-i.invariant.1 c.release_from.ensures,
     )
 
 returns : tie.Need-returns invariant-loop decreases-loop
 unfolding releases_given
 returns c =
     let o = c.before in
-    let all : o.loop.i ≡ o.before.held.result = omega arith in
-    rw (o.loop.invariant.1, all, o.before.held.ensures, o.before.before.release-count.ensures)
+    let all : o.loop-i.i ≡ o.held-end.result = omega arith in
+    rw (o.loop-i.invariant.1, all, o.held-end.ensures, o.release_count-count.ensures)
 
 pub releases_given_spec : {M : Type 1} → statement M
 releases_given_spec =

@@ -8,6 +8,6 @@ assign_row_spec =
     tie.close (tie.spec
     (λ c. search rules) (λ c κs. search rules) (λ c. search rules) (λ c. search rules) (λ c κs. search rules)
     (λ c. search rules) (λ c κs. search rules)
-    (λ c. rw c.before.before.a.given.1 c.refused-row.ensures)
-    (λ c. rw (c.before.before.before.before.before.a2.given.1, c.before.before.assign.given.1) c.row_of.ensures)
-    (λ c. rw (c.before.before.before.before.a2.given.1, c.before.enum_told.given.1) c.row-of2.ensures))
+    (λ c. rw c.in-Refused.is c.refused_row.ensures)
+    (λ c. rw (c.in-Given.is, c.in-Takers.is) c.row_of.ensures)
+    (λ c. rw (c.in-Given.is, c.in-Nobody.is) c.row_of-in-Nobody.ensures))

@@ -7,5 +7,5 @@ pub checked_row_spec : {M : Type 1} → statement M
 checked_row_spec =
     tie.close (tie.spec
     (λ c. search rules) (λ c κs. search rules) (λ c. search rules) (λ c κs. search rules)
-    (λ c. rw c.before.enum_told.given.1 c.row_of.ensures)
-    (λ c. rw c.before.before.c.given.1 c.refused-row.ensures))
+    (λ c. rw c.in-Lawful.is c.row_of.ensures)
+    (λ c. rw c.in-Refused.is c.refused_row.ensures))

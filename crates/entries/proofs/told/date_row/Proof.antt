@@ -7,5 +7,5 @@ pub date_row_spec : {M : Type 1} → statement M
 date_row_spec =
     tie.close (tie.spec
     (λ c. search rules) (λ c κs. search rules) (λ c. search rules) (λ c κs. search rules)
-    (λ c. rw c.before.before.w.given.1 c.row_of.ensures)
-    (λ c. rw c.before.before.w2.given.1 c.refused-row.ensures))
+    (λ c. rw c.in-Is.is c.row_of.ensures)
+    (λ c. rw c.in-Refused.is c.refused_row.ensures))

@@ -8,6 +8,6 @@ outcome_row_spec =
     tie.close (tie.spec
     (λ c. search rules) (λ c κs. search rules) (λ c. search rules) (λ c. search rules) (λ c κs. search rules)
     (λ c. search rules) (λ c κs. search rules)
-    (λ c. rw c.before.before.o.given.1 c.refused-row.ensures)
-    (λ c. rw (c.before.before.before.before.before.o2.given.1, c.before.before.outcome.given.1) c.row_at.ensures)
-    (λ c. rw (c.before.before.before.before.before.o2.given.1, c.before.before.outcome2.given.1) c.row_of.ensures))
+    (λ c. rw c.in-Refused.is c.refused_row.ensures)
+    (λ c. rw (c.in-Given.is, c.in-Miss.is) c.row_at.ensures)
+    (λ c. rw (c.in-Given.is, c.in-Clean.is) c.row_of.ensures))

@@ -6,4 +6,4 @@ use Rattle.entries.proofs.told.refused_row.Tie as tie
 pub refused_row_spec : {M : Type 1} → statement M
 refused_row_spec =
     tie.close (tie.spec
-    (λ c κs. search rules) (λ c κs. search rules) (λ c. rw c.before.fault-number.ensures at c.row_at.ensures))
+    (λ c κs. search rules) (λ c κs. search rules) (λ c. rw c.fault_number.ensures at c.row_at.ensures))

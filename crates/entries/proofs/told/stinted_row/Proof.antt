@@ -7,4 +7,4 @@ pub stinted_row_spec : {M : Type 1} → statement M
 stinted_row_spec =
     tie.close (tie.spec
     (λ c. search rules) (λ c κs. search rules) (λ c. search rules)
-    (λ c. rw c.before.before.s.given.1 c.refused-row.ensures) (λ c. rw c.before.s2.given.1))
+    (λ c. rw c.in-Refused.is c.refused_row.ensures) (λ c. rw c.in-Listed.is))

@@ -6,5 +6,5 @@ use Rattle.entries.proofs.told.tell.Tie as tie
 pub tell_spec : {M : Type 1} → statement M
 tell_spec =
     tie.close (tie.spec
-    (λ c. none_told _ _ c.if1.true) (λ c. search rules) (λ c. simp length-set (omega arith))
-    (λ c. simp length-set (omega arith)) (λ c. search rules) (λ c. search rules) (λ c. four-told _ _ c.if1.false))
+    (λ c. none_told _ _ (omega arith)) (λ c. search rules) (λ c. simp length-set (omega arith))
+    (λ c. simp length-set (omega arith)) (λ c. search rules) (λ c. search rules) (λ c. four-told _ _ (omega arith)))

@@ -4,7 +4,7 @@ use Rattle.lines.specs.Pages.{text_of}
 use Rattle.entries.proofs.told.tell_text.Statement.{statement}
 use Rattle.entries.proofs.told.tell_text.Tie as tie
 
-slice-aggregate-put-text : tie.Need-slice-aggregate-put-text
+slice-aggregate-put-text : tie.Need-slice_bounds-put_text-end
 slice-aggregate-put-text c =
     let start = c.before.before.before in
     sym (length-take-le start.args.written.len start.args.written.bytes start.requires)
@@ -12,7 +12,7 @@ slice-aggregate-put-text c =
 returns : tie.Need-returns
 unfolding text_of
 returns c =
-    let told = c.before.before.put-text.ensures in
+    let told = c.put_text.ensures in
     (told.0, told.1.0)
 
 pub tell_text_spec : {M : Type 1} → statement M

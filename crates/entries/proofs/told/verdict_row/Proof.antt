@@ -8,7 +8,7 @@ verdict_row_spec =
     tie.close (tie.spec
     (λ c. search rules) (λ c κs. search rules) (λ c. search rules) (λ c. search rules) (λ c κs. search rules)
     (λ c. search rules) (λ c κs. search rules) (λ c. search rules) (λ c κs. search rules)
-    (λ c. rw c.before.before.v.given.1 c.refused-row.ensures)
-    (λ c. rw (c.before.before.before.before.v2.given.1, c.before.enum_told.given.1) c.row_of.ensures)
-    (λ c. rw (c.before.before.before.before.before.v2.given.1, c.before.before.verdict.given.1) c.row-of2.ensures)
-    (λ c. rw (c.before.before.before.before.before.v2.given.1, c.before.before.verdict2.given.1) c.row-of3.ensures))
+    (λ c. rw c.in-Refused.is c.refused_row.ensures)
+    (λ c. rw (c.in-Given.is, c.in-Overload.is) c.row_of.ensures)
+    (λ c. rw (c.in-Given.is, c.in-Fail.is) c.row_of-in-Fail.ensures)
+    (λ c. rw (c.in-Given.is, c.in-Pass.is) c.row_of-in-Pass.ensures))
