@@ -1,6 +1,5 @@
 //! Where a verdict comes from, as `clerk why` and `clerk demand` write it.
 
-use crate::refused::named;
 use crate::rules::frames::read;
 use crate::rules::plan::{Length, Plan};
 use crate::rules::rule::{blocking_limit, demand, jobs, load, verdict, Verdict, PAGE};
@@ -9,12 +8,9 @@ use crate::saving::Saved;
 /// The column in which the numbers of a sum end.
 const COLUMN: usize = 41;
 
-/// What is written for a file; of a refused one the refusal with its reason.
+/// What is written for a file, or its refusal.
 pub fn explained(text: &[u8]) -> Saved {
-    match read(text) {
-        Ok(plan) => Ok(why(&plan).into_bytes()),
-        Err(refusal) => Ok(named(text, refusal).into_bytes()),
-    }
+    read(text).map(|plan| why(&plan).into_bytes())
 }
 
 pub fn staircase(text: &[u8]) -> Saved {

@@ -72,6 +72,7 @@ fn main() -> ExitCode {
         Some(Task::Run(path)) => show_plan(&path, running::told),
         Some(Task::Slack(path)) => show_plan(&path, slack::answer::told),
         Some(Task::Why(path)) => show_text(&path, explaining::explained),
+        Some(Task::Reason(path)) => show_text(&path, refused::reasoned),
         Some(Task::Demand(path)) => show_text(&path, explaining::staircase),
         Some(Task::Visits(path)) => show_text(&path, visited),
         Some(Task::CheckVisits(plan, visits)) => check_visits(&plan, &visits),

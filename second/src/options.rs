@@ -19,6 +19,7 @@ pub const USAGE: &str =
        second --run FILE
        second --slack FILE
        second --why FILE
+       second --reason FILE
        second --demand FILE
        second --visits FILE
        second --check-visits FILE VISITS
@@ -45,6 +46,7 @@ pub enum Task {
     Run(PathBuf),
     Slack(PathBuf),
     Why(PathBuf),
+    Reason(PathBuf),
     Demand(PathBuf),
     Visits(PathBuf),
     CheckVisits(PathBuf, PathBuf),
@@ -163,6 +165,7 @@ pub fn task(mut words: impl Iterator<Item = String>) -> Option<Task> {
             "--run" => return words.next().map(|path| Task::Run(path.into())),
             "--slack" => return words.next().map(|path| Task::Slack(path.into())),
             "--why" => return words.next().map(|path| Task::Why(path.into())),
+            "--reason" => return words.next().map(|path| Task::Reason(path.into())),
             "--demand" => return words.next().map(|path| Task::Demand(path.into())),
             "--visits" => return words.next().map(|path| Task::Visits(path.into())),
             "--check-visits" => {

@@ -1,10 +1,17 @@
-//! Why a file is refused, by name, as `clerk why` writes it behind the refusal.
+//! Why a file is refused, by name, as the room naming writes it behind the refusal.
 
 use crate::rules::frames::{read, Refusal};
 use crate::rules::plan::{BatteryString, Plan};
+use crate::saving::Saved;
+
+/// The line of a refused file; of any other nothing.
+pub fn reasoned(text: &[u8]) -> Saved {
+    let line = read(text).err().map(|refusal| named(text, refusal));
+    Ok(line.unwrap_or_default().into_bytes())
+}
 
 /// The line of a refusal, with the first rule of its number that the file breaks.
-pub fn named(text: &[u8], refusal: Refusal) -> String {
+fn named(text: &[u8], refusal: Refusal) -> String {
     let Refusal { number, line } = refusal;
     let file = File::new(text);
     let reason = match number {

@@ -1,198 +1,225 @@
 // The crew's board: `board FILE` reads a plan from FILE, and a start date and a diary from standard input, and writes the board. What
 // cannot be read is named on standard error and gets no board.
-ghost use Rattle.std.specs.Prelude.{◌≤◌, length};
+#![tactic(auto)]
+
+ghost use Rattle.std.specs.Prelude.{◌<◌, ◌≤◌, IfOk, length, take};
+ghost use Rattle.std.specs.Io.KnownBytes.{Consumes, IsAtEnd};
 
 use boards::Board;
 use days::Day;
 use faults::{Checked, Fault};
 use lines::Page;
+use std::env::FillError;
+use std::fs::File;
+use std::io::{ErrorKind, Print, Read};
+use std::process::ExitCode;
+use std::rt::Env;
+use std::{io, str};
 
 // How it ended.
-const ANSWERED: u8 = 0;
-
-const REFUSED: u8 = 1;
-
-const UNREAD: u8 = 2;
-
-const UNWRITTEN: u8 = 3;
-
-// Where the status goes: the language has none of its own.
-const STATUS_FILENO: i32 = 3;
+#[derive(Clone, Copy, PartialEq, Eq, PartialOrd, Ord)]
+enum End {
+    Answered,
+    Refused,
+    Unread,
+    Unwritten,
+}
 
 // Whether the first word is empty. It names no file then: the command ./board starts so and wants the status.
-fn asked_for_status() -> bool {
-    let mut word = [0u8; 1];
-    if os::arg(1, &mut word) != 0 {
-        return false;
+fn asked_for_status(rt: &HostRuntime) -> bool {
+    matches!(rt.arg(1, &mut [0u8; 1]), Ok(0))
+}
+
+// What could not be read and what could not be written are one status.
+fn status(end: End) -> ExitCode {
+    ExitCode::from(match end {
+        End::Answered => 0,
+        End::Refused => 1,
+        End::Unread | End::Unwritten => 2,
+    })
+}
+
+// Whether the program was started with a word at this place, its own name being at 0.
+fn has_word(rt: &HostRuntime, i: usize) -> bool {
+    !matches!(rt.arg(i, &mut []), Err(FillError::NotPresent))
+}
+
+// Puts what a reader gives at the start of the room, up to its end or to the room's, and says how many bytes.
+#[tactic(auto, using(base::proofs::RoomFilled::room_filled))]
+fn fill<R: Read>(from: &mut R, room: &mut [u8]) -> io::Result<usize>
+    ensures within { IfOk result (λ n. n ≤ length room.new) }
+    ensures bytes { IfOk result (λ n. Consumes (R.remaining from.old) (R.remaining from.new) (take n room.new)) }
+    ensures whole { IfOk result (λ n. n < length room.new → IsAtEnd (R.remaining from.new)) }
+{
+    let mut count = 0;
+    for _ in 0..room.len() {
+        if count >= room.len() {
+            break;
+        }
+        let n = from.read(&mut room[count..])?;
+        if n == 0 {
+            break;
+        }
+        count += n;
     }
-    os::errno() == 0
+    Ok(count)
 }
 
-// As one digit: what could not be read and what could not be written are one status.
-fn tell(end: u8) {
-    if end == ANSWERED {
-        io::write_all(STATUS_FILENO, b"0");
-    } else if end == REFUSED {
-        io::write_all(STATUS_FILENO, b"1");
-    } else {
-        io::write_all(STATUS_FILENO, b"2");
-    }
+fn write(rt: &HostRuntime, text: &[u8]) -> bool {
+    rt.write_all(text).is_ok()
 }
 
-// Whether there is nothing more to read. A read that fails, as of a folder, is no end.
-fn ended(fd: i32) -> bool {
-    let mut more = [0u8; 1];
-    libc::read(fd, &mut more) == 0
-}
-
-fn write(text: &[u8]) -> bool {
-    io::write_all(libc::STDOUT_FILENO, text)
-}
-
-fn write_page(page: Page) -> bool
+fn write_page(rt: &HostRuntime, page: Page) -> bool
     requires { page.len ≤ length page.bytes }
 {
     let n = page.len;
     let bytes = page.bytes;
-    write(&bytes[..n])
+    write(rt, &bytes[..n])
 }
 
-fn write_refusal(fault: Fault) -> u8 {
-    if write_page(lines::number_line(fault)) {
-        return REFUSED;
+fn write_refusal(rt: &HostRuntime, fault: Fault) -> End {
+    if write_page(rt, lines::number_line(fault)) {
+        return End::Refused;
     }
-    UNWRITTEN
+    End::Unwritten
 }
 
 // What stands behind the last day.
-fn write_end(board: Board) -> u8 {
+fn write_end(rt: &HostRuntime, board: Board) -> End {
     let mut page = [0u8; 600];
     let n = boards::board_end(board, &mut page);
-    if write(&page[..n]) {
-        return ANSWERED;
+    if write(rt, &page[..n]) {
+        return End::Answered;
     }
-    UNWRITTEN
+    End::Unwritten
 }
 
 // Page after page, until one has no days.
-fn write_board(board: Board, list: &[u32]) -> u8 {
+fn write_board(rt: &HostRuntime, board: Board, list: &[u32]) -> End {
     let mut from: u32 = 0;
     while from <= 146_096 {
         let mut page = [0u8; 65536];
         let filled = boards::board_page(board, list, Day(from), &mut page);
         let n = filled.length;
-        if !write(&page[..n]) {
-            return UNWRITTEN;
+        if !write(rt, &page[..n]) {
+            return End::Unwritten;
         }
         if filled.days == 0 {
-            return write_end(board);
+            return write_end(rt, board);
         }
         from += filled.days as u32;
     }
-    write_end(board)
+    write_end(rt, board)
 }
 
-fn write_answer(board: Board, list: &[u32]) -> u8 {
+fn write_answer(rt: &HostRuntime, board: Board, list: &[u32]) -> End {
     let checked = board.checked;
     match checked {
-        Checked::Refused { fault, at: _ } => write_refusal(fault),
-        Checked::Lawful => write_board(board, list),
+        Checked::Refused { fault, at: _ } => write_refusal(rt, fault),
+        Checked::Lawful => write_board(rt, board, list),
     }
 }
 
-fn complain(what: &[u8], name: &[u8], why: &[u8]) {
-    io::write_all(libc::STDERR_FILENO, b"board: ");
-    io::write_all(libc::STDERR_FILENO, what);
-    io::write_all(libc::STDERR_FILENO, name);
-    io::write_all(libc::STDERR_FILENO, why);
-    io::write_all(libc::STDERR_FILENO, b"\n");
+fn complain(rt: &HostRuntime, what: &[u8], name: &[u8], why: &[u8]) {
+    let stderr = rt.stderr();
+    let _ = stderr.write_all(b"board: ");
+    let _ = stderr.write_all(what);
+    let _ = stderr.write_all(name);
+    let _ = stderr.write_all(why);
+    let _ = stderr.write_all(b"\n");
 }
 
-// The system's reason is that of its last call.
-fn cannot_read(name: &[u8]) {
-    let reason = os::errno();
-    if reason == libc::ENOENT {
-        complain(b"cannot read ", name, b": no such file");
-    } else if reason == libc::EISDIR {
-        complain(b"cannot read ", name, b": a folder");
-    } else if reason == libc::EACCES {
-        complain(b"cannot read ", name, b": no permission");
-    } else {
-        complain(b"cannot read ", name, b"");
-    }
+// The system's number for a file that may not be read; std's kind has another number beside it.
+const EACCES: i32 = 13;
+
+fn cannot_read(rt: &HostRuntime, name: &[u8], reason: &io::Error) -> End {
+    let denied = reason.raw_os_error() == Some(EACCES);
+    let why: &[u8] = match reason.kind() {
+        ErrorKind::NotFound => b": no such file",
+        ErrorKind::IsADirectory => b": a folder",
+        ErrorKind::PermissionDenied if denied => b": no permission",
+        _ => b"",
+    };
+    complain(rt, b"cannot read ", name, why);
+    End::Unread
 }
 
 // The input, and then the board of a plan's text. Of a longer input the first 4096 bytes decide (boards/proofs/LongInput.antt).
-fn answer_plan(plan: &[u8]) -> u8 {
+fn answer_plan(rt: &HostRuntime, plan: &[u8]) -> End {
     let mut input = [0u8; 4096];
-    let n = io::read_full(libc::STDIN_FILENO, &mut input);
-    if n < 4096 {
-        if !ended(libc::STDIN_FILENO) {
-            cannot_read(b"standard input");
-            return UNREAD;
+    match fill(&mut rt.stdin(), &mut input) {
+        Ok(n) => {
+            let mut list = [0u32; 15005];
+            let board = boards::board_read(plan, &input[..n], &mut list);
+            write_answer(rt, board, &list)
         }
+        Err(e) => cannot_read(rt, b"standard input", &e),
     }
-    let mut list = [0u32; 15005];
-    let board = boards::board_read(plan, &input[..n], &mut list);
-    write_answer(board, &list)
+}
+
+// std opens a file by a name that is text.
+fn open(rt: &HostRuntime, name: &[u8]) -> io::Result<File> {
+    match str::from_utf8(name) {
+        Ok(name) => File::open(rt, name),
+        Err(_) => Err(io::Error::from(ErrorKind::InvalidFilename)),
+    }
+}
+
+// The bytes of the file of this name, as many as there is room for.
+fn read_file(rt: &HostRuntime, name: &[u8], room: &mut [u8]) -> io::Result<usize>
+    ensures { IfOk result (λ n. n ≤ length room.new) }
+{
+    let mut file = open(rt, name)?;
+    fill(&mut file, room)
 }
 
 // One byte more than the longest text is enough to refuse a longer one.
-fn answer_from(fd: i32, name: &[u8]) -> u8 {
+fn answer_file(rt: &HostRuntime, name: &[u8]) -> End {
     let mut text = [0u8; 65537];
-    let n = io::read_full(fd, &mut text);
-    if n < 65537 {
-        if !ended(fd) {
-            cannot_read(name);
-            return UNREAD;
-        }
+    match read_file(rt, name, &mut text) {
+        Ok(n) => answer_plan(rt, &text[..n]),
+        Err(e) => cannot_read(rt, name, &e),
     }
-    answer_plan(&text[..n])
-}
-
-fn answer_file(name: &[u8]) -> u8 {
-    let fd = os::open_read(name);
-    if fd < 0 {
-        cannot_read(name);
-        return UNREAD;
-    }
-    let end = answer_from(fd, name);
-    libc::close(fd);
-    end
 }
 
 // The word at a place names the plan file, and it is the last.
-fn answer_named(i: usize) -> u8
+fn answer_named(rt: &HostRuntime, i: usize) -> End
     requires { i ≤ 2 }
 {
-    if os::arg_count() != i + 1 {
-        complain(b"one plan file is wanted; board --help says more", b"", b"");
-        return UNREAD;
+    if !has_word(rt, i) || has_word(rt, i + 1) {
+        complain(
+            rt,
+            b"one plan file is wanted; board --help says more",
+            b"",
+            b"",
+        );
+        return End::Unread;
     }
-    let mut word = io::buffer();
-    let n = os::arg(i, &mut word);
+    let mut word = [0u8; 4096];
+    let n = rt.arg(i, &mut word).unwrap_or(0);
     if n == 0 {
-        complain(b"a file's name is empty or too long", b"", b"");
-        return UNREAD;
+        complain(rt, b"a file's name is empty or too long", b"", b"");
+        return End::Unread;
     }
-    answer_file(&word[..n])
+    answer_file(rt, &word[..n])
 }
 
 // A board that cannot be written is said once.
-fn answer_and_say(i: usize) -> u8
+fn answer_and_say(rt: &HostRuntime, i: usize) -> End
     requires { i ≤ 2 }
 {
-    let end = answer_named(i);
-    if end == UNWRITTEN {
-        complain(b"the board could not be written", b"", b"");
+    let end = answer_named(rt, i);
+    if end == End::Unwritten {
+        complain(rt, b"the board could not be written", b"", b"");
     }
     end
 }
 
-fn main() {
-    if asked_for_status() {
-        tell(answer_and_say(2));
-    } else {
-        answer_and_say(1);
+// Without that first word the program ends with 0 whatever it answered.
+fn main(rt: HostRuntime) -> ExitCode {
+    if asked_for_status(&rt) {
+        return status(answer_and_say(&rt, 2));
     }
+    answer_and_say(&rt, 1);
+    ExitCode::SUCCESS
 }

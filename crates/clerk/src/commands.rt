@@ -1,5 +1,8 @@
 // A command is its words, each ended by a byte 0: the words of a start, or those of a line in a list of commands.
-ghost use Rattle.io.specs.Counts.{IsPrefixLen};
+ghost use Rattle.std.specs.Counts.{IsPrefixLen};
+
+use std::env::FillError;
+use std::rt::Env;
 
 // The first bytes of a text, or all of it where it has fewer.
 pub(crate) fn first(text: &[u8], n: usize) -> &[u8] {
@@ -13,57 +16,21 @@ pub(crate) fn first(text: &[u8], n: usize) -> &[u8] {
 pub(crate) fn find(text: &[u8], b: u8) -> usize
     ensures { IsPrefixLen result text.now }
 {
-    let mut i: usize = 0;
-    while i < text.len() {
-        if text[i] == b {
-            return i;
-        }
-        i += 1;
-    }
-    i
+    text.iter().position(|x| *x == b).unwrap_or(text.len())
 }
 
 // A word of a command, counted from 0; an empty one where there is none.
 pub(crate) fn word(command: &[u8], k: usize) -> &[u8] {
-    let mut rest = command;
-    let mut i: usize = 0;
-    while i < k {
-        let end = find(rest, 0);
-        if rest.len() <= end {
-            return &rest[..0];
-        }
-        rest = &rest[end + 1..];
-        i += 1;
-    }
-    let end = find(rest, 0);
-    &rest[..end]
+    command.split(|b| *b == 0).nth(k).unwrap_or(&[])
 }
 
 // How many words a command has.
 pub(crate) fn word_count(command: &[u8]) -> usize {
-    let mut count: usize = 0;
-    let mut i: usize = 0;
-    while i < command.len() {
-        if command[i] == 0 {
-            count += 1;
-        }
-        i += 1;
-    }
-    count
+    command.iter().filter(|b| **b == 0).count()
 }
 
 pub(crate) fn same(a: &[u8], b: &[u8]) -> bool {
-    if a.len() != b.len() {
-        return false;
-    }
-    let mut i: usize = 0;
-    while i < a.len() {
-        if a[i] != b[i] {
-            return false;
-        }
-        i += 1;
-    }
-    true
+    a == b
 }
 
 // A word that is a number in decimal digits: below 2^64, or larger.
@@ -74,24 +41,13 @@ pub(crate) enum Number {
     Malformed,
 }
 
-fn is_digit(b: u8) -> bool {
-    if b < b'0' {
-        return false;
-    }
-    b <= b'9'
-}
-
 // A number that is too large as far as it was read.
 fn larger(rest: &[u8]) -> Number {
-    let mut i: usize = 0;
-    while i < rest.len() {
-        let b = rest[i];
-        if !is_digit(b) {
-            return Number::Malformed;
-        }
-        i += 1;
+    if rest.iter().all(|b| b.is_ascii_digit()) {
+        Number::Larger
+    } else {
+        Number::Malformed
     }
-    Number::Larger
 }
 
 pub(crate) fn decimal(word: &[u8]) -> Number {
@@ -99,8 +55,7 @@ pub(crate) fn decimal(word: &[u8]) -> Number {
         return Number::Malformed;
     }
     let mut value: u64 = 0;
-    let mut i: usize = 0;
-    while i < word.len() {
+    for i in 0..word.len() {
         let digit = wide(word[i]);
         if digit < 48 {
             return Number::Malformed;
@@ -113,7 +68,6 @@ pub(crate) fn decimal(word: &[u8]) -> Number {
             return larger(&word[i..]);
         }
         value = value * 10 + d;
-        i += 1;
     }
     Number::Is { value }
 }
@@ -122,15 +76,23 @@ fn wide(b: u8) -> u64 {
     b as u64
 }
 
+// How many words this start has, the program's own name among them.
+pub(crate) fn arg_count(rt: &HostRuntime) -> usize {
+    for i in 0..usize::MAX {
+        if let Err(FillError::NotPresent) = rt.arg(i, &mut []) {
+            return i;
+        }
+    }
+    usize::MAX
+}
+
 // The words of this start from the `from`-th on, in lent room; their length, or 0 where one is empty or there is too little room.
-pub(crate) fn taken(from: usize, room: &mut [u8]) -> usize
+pub(crate) fn taken(rt: &HostRuntime, from: usize, room: &mut [u8]) -> usize
     ensures { IsPrefixLen result room.new }
 {
-    let count = os::arg_count();
     let mut at: usize = 0;
-    let mut i = from;
-    while i < count {
-        let n = os::arg(i, &mut room[at..]);
+    for i in from..arg_count(rt) {
+        let n = rt.arg(i, &mut room[at..]).unwrap_or(0);
         if n == 0 {
             return 0;
         }
@@ -140,7 +102,6 @@ pub(crate) fn taken(from: usize, room: &mut [u8]) -> usize
         }
         room[at] = 0;
         at += 1;
-        i += 1;
     }
     at
 }

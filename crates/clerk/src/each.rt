@@ -2,29 +2,29 @@
 use super::commands::{find, word_count};
 use super::files::{Got, read_named};
 use super::say;
-use super::say::larger;
+use super::say::{End, larger};
 use super::words::answer;
 
-pub(crate) fn each(command: &[u8]) -> u8 {
+pub(crate) fn each(rt: &HostRuntime, command: &[u8]) -> End {
     if 2 < word_count(command) {
-        return say::complain(b"each [COMMANDS]");
+        return say::complain(rt, b"each [COMMANDS]");
     }
     let mut text = [0u8; 65537];
-    let got = read_named(command, &mut text);
+    let got = read_named(rt, command, &mut text);
     let Got::Bytes { count } = got else {
-        return say::FAILED;
+        return End::Failed;
     };
     if 65536 < count {
-        return say::complain(b"the commands have more than 65536 bytes");
+        return say::complain(rt, b"the commands have more than 65536 bytes");
     }
     // the last line may lack its end
     text[count] = b'\n';
-    answer_lines(&mut text, count)
+    answer_lines(rt, &mut text, count)
 }
 
 // The lines that start among the first `count` bytes, up to the first answer that cannot be written.
-fn answer_lines(text: &mut [u8], count: usize) -> u8 {
-    let mut end = say::ANSWERED;
+fn answer_lines(rt: &HostRuntime, text: &mut [u8], count: usize) -> End {
+    let mut end = End::Answered;
     let mut from: usize = 0;
     while from < count {
         let stop = from + find(&text[from..], b'\n');
@@ -32,8 +32,8 @@ fn answer_lines(text: &mut [u8], count: usize) -> u8 {
             return end;
         }
         let next = stop + 1;
-        end = larger(end, answer_line(&mut text[from..next]));
-        if end == say::UNWRITTEN {
+        end = larger(end, answer_line(rt, &mut text[from..next]));
+        if end == End::Unwritten {
             return end;
         }
         from = next;
@@ -41,21 +41,19 @@ fn answer_lines(text: &mut [u8], count: usize) -> u8 {
     end
 }
 
-fn answer_line(line: &mut [u8]) -> u8 {
-    let repeated = say::answer(line);
-    if repeated != say::ANSWERED {
+fn answer_line(rt: &HostRuntime, line: &mut [u8]) -> End {
+    let repeated = say::answer(rt, line);
+    if repeated != End::Answered {
         return repeated;
     }
     split(line);
-    answer(line)
+    answer(rt, line)
 }
 
 // A line as a command: a 0 for each space, and for the line's end.
 fn split(line: &mut [u8]) {
-    let mut i: usize = 0;
-    while i < line.len() {
-        line[i] = unspaced(line[i]);
-        i += 1;
+    for b in line {
+        *b = unspaced(*b);
     }
 }
 

@@ -1,5 +1,7 @@
 // The clerk: `clerk WORD ..`, for all that is done with plan files and dates. One start, one answer on standard output; what cannot be
 // answered is named by one line on standard error.
+#![tactic(auto)]
+
 mod commands;
 mod dates;
 mod drawing;
@@ -21,51 +23,50 @@ mod visiting;
 mod whiteboard;
 mod words;
 
-use commands::{same, taken, word};
+use commands::{arg_count, same, taken, word};
 use each::each;
-use say::complain;
+use say::{End, complain};
+use std::process::ExitCode;
+use std::rt::Env;
 use words::answer;
 
 // Whether the first word is empty. It is none of the clerk's then: the command ./clerk starts so and wants the status.
-fn asked_for_status() -> bool {
-    let mut word = [0u8; 1];
-    if os::arg(1, &mut word) != 0 {
-        return false;
-    }
-    os::errno() == 0
+fn asked_for_status(rt: &HostRuntime) -> bool {
+    matches!(rt.arg(1, &mut [0u8; 1]), Ok(0))
 }
 
 // The command that stands in the words from the `from`-th on.
-fn answer_from(from: usize) -> u8 {
-    if os::arg_count() <= from {
-        return complain(b"no word; clerk help lists them");
+fn answer_from(rt: &HostRuntime, from: usize) -> End {
+    if arg_count(rt) <= from {
+        return complain(rt, b"no word; clerk help lists them");
     }
     let mut room = [0u8; 8192];
-    let n = taken(from, &mut room);
+    let n = taken(rt, from, &mut room);
     if n == 0 {
-        return complain(b"a word is empty or too long");
+        return complain(rt, b"a word is empty or too long");
     }
     let command = &room[..n];
     if same(word(command, 0), b"each") {
-        each(command)
+        each(rt, command)
     } else {
-        answer(command)
+        answer(rt, command)
     }
 }
 
 // An answer that cannot be written is said once.
-fn answer_and_say(from: usize) -> u8 {
-    let end = answer_from(from);
-    if end == say::UNWRITTEN {
-        return complain(b"the answer could not be written");
+fn answer_and_say(rt: &HostRuntime, from: usize) -> End {
+    let end = answer_from(rt, from);
+    if end == End::Unwritten {
+        return complain(rt, b"the answer could not be written");
     }
     end
 }
 
-fn main() {
-    if asked_for_status() {
-        say::tell(answer_and_say(2));
-    } else {
-        answer_and_say(1);
+// Without that first word the program ends with 0 whatever it answered.
+fn main(rt: HostRuntime) -> ExitCode {
+    if asked_for_status(&rt) {
+        return say::status(answer_and_say(&rt, 2));
     }
+    answer_and_say(&rt, 1);
+    ExitCode::SUCCESS
 }

@@ -2,25 +2,26 @@
 use super::commands::{first, word_count};
 use super::files::{Got, read_named};
 use super::say;
+use super::say::End;
 use missed::Missed;
 
-pub(crate) fn miss(command: &[u8]) -> u8 {
+pub(crate) fn miss(rt: &HostRuntime, command: &[u8]) -> End {
     if 2 < word_count(command) {
-        return say::complain(b"miss [FILE]");
+        return say::complain(rt, b"miss [FILE]");
     }
     let mut text = [0u8; 65537];
-    let got = read_named(command, &mut text);
+    let got = read_named(rt, command, &mut text);
     let Got::Bytes { count } = got else {
-        return say::FAILED;
+        return End::Failed;
     };
     let mut page = [0u8; 65536];
     let found = missed::miss(first(&text, count), &mut page, 0);
     match found {
-        Missed::Refused { fault, at } => say::refused(fault, at),
-        Missed::Passes => say::nothing(b"none: the plan passes"),
-        Missed::Never => say::nothing(b"none: it fails, and no list misses"),
-        Missed::NoneFound => say::nothing(b"none found"),
-        Missed::TooMany => say::nothing(b"none written: the list has over 1000 releases"),
-        Missed::Text { length } => say::answer(first(&page, length)),
+        Missed::Refused { fault, at } => say::refused(rt, fault, at),
+        Missed::Passes => say::nothing(rt, b"none: the plan passes"),
+        Missed::Never => say::nothing(rt, b"none: it fails, and no list misses"),
+        Missed::NoneFound => say::nothing(rt, b"none found"),
+        Missed::TooMany => say::nothing(rt, b"none written: the list has over 1000 releases"),
+        Missed::Text { length } => say::answer(rt, first(&page, length)),
     }
 }

@@ -2,54 +2,54 @@
 use super::commands::{same, word, word_count};
 use super::plans::open_by;
 use super::say;
-use super::say::larger;
+use super::say::{End, larger};
 use matching::{Matched, Matching};
 
-pub(crate) fn same_strings(command: &[u8]) -> u8 {
+pub(crate) fn same_strings(rt: &HostRuntime, command: &[u8]) -> End {
     if word_count(command) != 3 {
-        return say::complain(b"same FILE FILE");
+        return say::complain(rt, b"same FILE FILE");
     }
     let one = word(command, 1);
     let other = word(command, 2);
     if same(one, b"-") {
         if same(other, b"-") {
-            return say::complain(b"same FILE FILE: one of the two at most is -");
+            return say::complain(rt, b"same FILE FILE: one of the two at most is -");
         }
     }
-    compare(one, other)
+    compare(rt, one, other)
 }
 
 // The first of the two that is refused, or cannot be read, ends it.
-fn compare(one: &[u8], other: &[u8]) -> u8 {
-    let first = open_by(one);
+fn compare(rt: &HostRuntime, one: &[u8], other: &[u8]) -> End {
+    let first = open_by(rt, one);
     let end = first.end;
-    if end != say::ANSWERED {
-        return ended(end, one);
+    if end != End::Answered {
+        return ended(rt, end, one);
     }
-    let second = open_by(other);
+    let second = open_by(rt, other);
     let end = second.end;
-    if end != say::ANSWERED {
-        return ended(end, other);
+    if end != End::Answered {
+        return ended(rt, end, other);
     }
     let p = first.plan;
     let q = second.plan;
-    answer_matched(matching::same_strings(p, q))
+    answer_matched(rt, matching::same_strings(p, q))
 }
 
 // Of two files a refusal does not say which; what cannot be read has been named.
-fn ended(end: u8, name: &[u8]) -> u8 {
-    if end == say::REFUSED {
-        return say::refused_file(name);
+fn ended(rt: &HostRuntime, end: End, name: &[u8]) -> End {
+    if end == End::Refused {
+        return say::refused_file(rt, name);
     }
     end
 }
 
-fn answer_matched(m: Matched) -> u8 {
+fn answer_matched(rt: &HostRuntime, m: Matched) -> End {
     let matching = m.matching;
-    let end = say::answer_page(matching::matched_line(m));
+    let end = say::answer_page(rt, matching::matched_line(m));
     match matching {
         Matching::Same { .. } => end,
-        Matching::Alone { .. } => larger(say::REFUSED, end),
-        Matching::Counts { .. } => larger(say::REFUSED, end),
+        Matching::Alone { .. } => larger(End::Refused, end),
+        Matching::Counts { .. } => larger(End::Refused, end),
     }
 }

@@ -2,16 +2,17 @@
 use super::commands::word_count;
 use super::plans::open_plan;
 use super::say;
+use super::say::End;
 
-pub(crate) fn quick_verdict(command: &[u8]) -> u8 {
+pub(crate) fn quick_verdict(rt: &HostRuntime, command: &[u8]) -> End {
     if 2 < word_count(command) {
-        return say::complain(b"quick [FILE]");
+        return say::complain(rt, b"quick [FILE]");
     }
-    let opened = open_plan(command);
+    let opened = open_plan(rt, command);
     let end = opened.end;
-    if end != say::ANSWERED {
+    if end != End::Answered {
         return end;
     }
     let plan = opened.plan;
-    say::answer_page(lines::verdict_written(verdict::quick(plan)))
+    say::answer_page(rt, lines::verdict_written(verdict::quick(plan)))
 }

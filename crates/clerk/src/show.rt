@@ -2,49 +2,48 @@
 use super::commands::word_count;
 use super::plans::open_plan;
 use super::say;
-use super::say::larger;
+use super::say::{End, larger};
 use rules::{Plan, Releases};
 
-pub(crate) fn show(command: &[u8]) -> u8 {
+pub(crate) fn show(rt: &HostRuntime, command: &[u8]) -> End {
     if 2 < word_count(command) {
-        return say::complain(b"show [FILE]");
+        return say::complain(rt, b"show [FILE]");
     }
-    let opened = open_plan(command);
+    let opened = open_plan(rt, command);
     let end = opened.end;
-    if end != say::ANSWERED {
+    if end != End::Answered {
         return end;
     }
     let plan = opened.plan;
     let releases = opened.releases;
-    let head = say::answer_page(showing::plan_shown(plan));
-    let strings = show_strings(plan);
-    let load = say::answer_page(showing::load_shown(plan));
-    let list = show_releases(releases);
+    let head = say::answer_page(rt, showing::plan_shown(plan));
+    let strings = show_strings(rt, plan);
+    let load = say::answer_page(rt, showing::load_shown(plan));
+    let list = show_releases(rt, releases);
     larger(larger(head, strings), larger(load, list))
 }
 
 // By place.
-fn show_strings(plan: Plan) -> u8 {
+fn show_strings(rt: &HostRuntime, plan: Plan) -> End {
     let n = plan.n;
-    let mut end = say::ANSWERED;
-    let mut passed: usize = 0;
-    while passed < n {
-        passed += 1;
-        end = larger(end, say::answer_page(showing::string_shown(plan, passed)));
+    let mut end = End::Answered;
+    for passed in 1..=n {
+        end = larger(
+            end,
+            say::answer_page(rt, showing::string_shown(plan, passed)),
+        );
     }
     end
 }
 
 // In the order of the list.
-fn show_releases(releases: Releases) -> u8 {
+fn show_releases(rt: &HostRuntime, releases: Releases) -> End {
     let count = releases.count;
-    let mut end = say::ANSWERED;
-    let mut passed: usize = 0;
-    while passed < count {
-        passed += 1;
+    let mut end = End::Answered;
+    for passed in 1..=count {
         end = larger(
             end,
-            say::answer_page(showing::release_shown(releases, passed)),
+            say::answer_page(rt, showing::release_shown(releases, passed)),
         );
     }
     end

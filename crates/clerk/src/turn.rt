@@ -2,21 +2,22 @@
 use super::commands::{first, word_count};
 use super::files::{Got, read_named};
 use super::say;
+use super::say::End;
 use writing::Saved;
 
 // Turned into version 01, or into version 02; `wanted` is how the command is to be said.
-pub(crate) fn turn(command: &[u8], to_01: bool, wanted: &[u8]) -> u8 {
+pub(crate) fn turn(rt: &HostRuntime, command: &[u8], to_01: bool, wanted: &[u8]) -> End {
     if 2 < word_count(command) {
-        return say::complain(wanted);
+        return say::complain(rt, wanted);
     }
     let mut text = [0u8; 65537];
-    let got = read_named(command, &mut text);
+    let got = read_named(rt, command, &mut text);
     let Got::Bytes { count } = got else {
-        return say::FAILED;
+        return End::Failed;
     };
     let mut page = [0u8; 65536];
     let saved = turned(first(&text, count), &mut page, to_01);
-    answer_turned(saved, &page)
+    answer_turned(rt, saved, &page)
 }
 
 fn turned(text: &[u8], page: &mut [u8], to_01: bool) -> Saved {
@@ -27,9 +28,9 @@ fn turned(text: &[u8], page: &mut [u8], to_01: bool) -> Saved {
 }
 
 // The turned text at the head of the page, or the refusal.
-fn answer_turned(saved: Saved, page: &[u8]) -> u8 {
+fn answer_turned(rt: &HostRuntime, saved: Saved, page: &[u8]) -> End {
     match saved {
-        Saved::Refused { fault, at } => say::refused(fault, at),
-        Saved::Text { length } => say::answer(first(page, length)),
+        Saved::Refused { fault, at } => say::refused(rt, fault, at),
+        Saved::Text { length } => say::answer(rt, first(page, length)),
     }
 }

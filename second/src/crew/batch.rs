@@ -18,8 +18,8 @@ use std::path::{Path, PathBuf};
 use std::process::{Command, Stdio};
 use std::time::Instant;
 
-/// Many starts by one shell: a start with an empty first word tells its status on descriptor 3, where standard error goes too, and what
-/// the system says of its end stands behind that.
+/// Many starts by one shell: a start with an empty first word ends with its status. What it says on standard error goes to descriptor 3, and
+/// the status stands behind that.
 const STARTS: &str = r#"exec 3>"$2"
 while read -r name; do
     "$1" "" "$name.plan" <"$name.input" >"$name.board" 2>&3
@@ -148,7 +148,7 @@ fn compare_told(job: &Comparison, folder: &Path, cases: &[Case], told: &[u8]) ->
     let mut rest = told;
     for (at, case) in cases.iter().enumerate() {
         let status = if case.refused { 1 } else { 0 };
-        let line = format!("{status} ended 0\n");
+        let line = format!(" ended {status}\n");
         // the last line is all that is left
         match rest.strip_prefix(line.as_bytes()) {
             Some(after) if at + 1 < cases.len() || after.is_empty() => rest = after,
