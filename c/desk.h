@@ -1,4 +1,4 @@
-/* The planning desk for C and C++ programs. `rt staticlib entries` proves the crate entries and writes target/staticlib/libentries.a, for
+/* The planning desk for C and C++ programs. `tools/build entries archive` proves the entries and writes target/staticlib/libentries.a, for
  * x86-64 Linux; it wants nothing beside it but the C library. c/example.c shows each entry, c/example.rs the same from Rust.
  *
  * A plan is a row of numbers: N, then T, C, D, X, A and J of each string, by place: 1 + 6 n numbers for n strings.
