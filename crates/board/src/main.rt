@@ -23,6 +23,7 @@ enum End {
     Refused,
     Unread,
     Unwritten,
+    Gone,
 }
 
 // Whether the first word is empty. It names no file then: the command ./board starts so and wants the status.
@@ -35,7 +36,7 @@ fn status(end: End) -> ExitCode {
     ExitCode::from(match end {
         End::Answered => 0,
         End::Refused => 1,
-        End::Unread | End::Unwritten => 2,
+        End::Unread | End::Unwritten | End::Gone => 2,
     })
 }
 
@@ -65,11 +66,22 @@ fn fill<R: Read>(from: &mut R, room: &mut [u8]) -> io::Result<usize>
     Ok(count)
 }
 
-fn write(rt: &HostRuntime, text: &[u8]) -> bool {
-    rt.write_all(text).is_ok()
+// Whoever reads has gone, as head does, and needs no word.
+fn unwritten(e: &io::Error) -> End {
+    if e.kind() == ErrorKind::BrokenPipe {
+        return End::Gone;
+    }
+    End::Unwritten
 }
 
-fn write_page(rt: &HostRuntime, page: Page) -> bool
+fn write(rt: &HostRuntime, text: &[u8]) -> End {
+    match rt.write_all(text) {
+        Ok(()) => End::Answered,
+        Err(e) => unwritten(&e),
+    }
+}
+
+fn write_page(rt: &HostRuntime, page: Page) -> End
     requires { page.len ≤ length page.bytes }
 {
     let n = page.len;
@@ -78,20 +90,17 @@ fn write_page(rt: &HostRuntime, page: Page) -> bool
 }
 
 fn write_refusal(rt: &HostRuntime, fault: Fault) -> End {
-    if write_page(rt, lines::number_line(fault)) {
-        return End::Refused;
+    match write_page(rt, lines::number_line(fault)) {
+        End::Answered => End::Refused,
+        ended => ended,
     }
-    End::Unwritten
 }
 
 // What stands behind the last day.
 fn write_end(rt: &HostRuntime, board: Board) -> End {
     let mut page = [0u8; 600];
     let n = boards::board_end(board, &mut page);
-    if write(rt, &page[..n]) {
-        return End::Answered;
-    }
-    End::Unwritten
+    write(rt, &page[..n])
 }
 
 // Page after page, until one has no days.
@@ -101,8 +110,9 @@ fn write_board(rt: &HostRuntime, board: Board, list: &[u32]) -> End {
         let mut page = [0u8; 65536];
         let filled = boards::board_page(board, list, Day(from), &mut page);
         let n = filled.length;
-        if !write(rt, &page[..n]) {
-            return End::Unwritten;
+        let ended = write(rt, &page[..n]);
+        if ended != End::Answered {
+            return ended;
         }
         if filled.days == 0 {
             return write_end(rt, board);

@@ -33,7 +33,7 @@ fn answer_lines(rt: &HostRuntime, text: &mut [u8], count: usize) -> End {
         }
         let next = stop + 1;
         end = larger(end, answer_line(rt, &mut text[from..next]));
-        if end == End::Unwritten {
+        if End::Unwritten <= end {
             return end;
         }
         from = next;

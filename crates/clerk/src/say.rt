@@ -5,7 +5,7 @@ use days::Day;
 use faults::Fault;
 use lines::Page;
 use rules::Answer;
-use std::io::Print;
+use std::io::{self, ErrorKind, Print};
 use std::process::ExitCode;
 
 // How a command ended; of several the largest. End::Refused is also the end of one that has nothing to write, as no list that misses, and
@@ -16,6 +16,7 @@ pub(crate) enum End {
     Refused,
     Failed,
     Unwritten,
+    Gone,
 }
 
 // What could not be read, understood or written is one status.
@@ -23,7 +24,7 @@ pub(crate) fn status(end: End) -> ExitCode {
     ExitCode::from(match end {
         End::Answered => 0,
         End::Refused => 1,
-        End::Failed | End::Unwritten => 2,
+        End::Failed | End::Unwritten | End::Gone => 2,
     })
 }
 
@@ -32,8 +33,16 @@ pub(crate) fn larger(a: End, b: End) -> End {
 }
 
 pub(crate) fn answer(rt: &HostRuntime, text: &[u8]) -> End {
-    if rt.write_all(text).is_ok() {
-        return End::Answered;
+    match rt.write_all(text) {
+        Ok(()) => End::Answered,
+        Err(e) => unwritten(&e),
+    }
+}
+
+// Whoever reads has gone, as head does, and needs no word.
+fn unwritten(e: &io::Error) -> End {
+    if e.kind() == ErrorKind::BrokenPipe {
+        return End::Gone;
     }
     End::Unwritten
 }

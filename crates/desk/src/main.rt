@@ -21,6 +21,7 @@ enum End {
     Refused,
     Unread,
     Unwritten,
+    Gone,
 }
 
 fn larger(a: End, b: End) -> End {
@@ -37,7 +38,7 @@ fn status(end: End) -> ExitCode {
     ExitCode::from(match end {
         End::Answered => 0,
         End::Refused => 1,
-        End::Unread | End::Unwritten => 2,
+        End::Unread | End::Unwritten | End::Gone => 2,
     })
 }
 
@@ -72,11 +73,22 @@ fn fill<R: Read>(from: &mut R, room: &mut [u8]) -> io::Result<usize>
     Ok(count)
 }
 
-fn write(rt: &HostRuntime, text: &[u8]) -> bool {
-    rt.write_all(text).is_ok()
+// Whoever reads has gone, as head does, and needs no word.
+fn unwritten(e: &io::Error) -> End {
+    if e.kind() == ErrorKind::BrokenPipe {
+        return End::Gone;
+    }
+    End::Unwritten
 }
 
-fn write_page(rt: &HostRuntime, page: Page) -> bool
+fn write(rt: &HostRuntime, text: &[u8]) -> End {
+    match rt.write_all(text) {
+        Ok(()) => End::Answered,
+        Err(e) => unwritten(&e),
+    }
+}
+
+fn write_page(rt: &HostRuntime, page: Page) -> End
     requires { page.len ≤ length page.bytes }
 {
     let n = page.len;
@@ -84,9 +96,10 @@ fn write_page(rt: &HostRuntime, page: Page) -> bool
     write(rt, &bytes[..n])
 }
 
-fn write_title(rt: &HostRuntime, name: &[u8]) -> bool {
-    if !write(rt, name) {
-        return false;
+fn write_title(rt: &HostRuntime, name: &[u8]) -> End {
+    let ended = write(rt, name);
+    if ended != End::Answered {
+        return ended;
     }
     write(rt, b"\n")
 }
@@ -99,10 +112,7 @@ fn end_of(answer: Answer) -> End {
 }
 
 fn write_answer(rt: &HostRuntime, answer: Answer) -> End {
-    if write_page(rt, lines::written(answer)) {
-        return end_of(answer);
-    }
-    End::Unwritten
+    larger(end_of(answer), write_page(rt, lines::written(answer)))
 }
 
 // The answer for what a reader gives, under its name where that is asked; the error of a read that fails.
@@ -116,8 +126,9 @@ fn answer_from(
     let mut text = [0u8; 65537];
     let n = fill(from, &mut text)?;
     if titled {
-        if !write_title(rt, name) {
-            return Ok(End::Unwritten);
+        let ended = write_title(rt, name);
+        if ended != End::Answered {
+            return Ok(ended);
         }
     }
     Ok(write_answer(rt, answers::answer(&text[..n])))
@@ -203,7 +214,7 @@ fn answer_all(rt: &HostRuntime, from: usize, count: usize) -> End {
     let mut end = End::Answered;
     for i in from..count {
         end = larger(end, answer_named(rt, i, several));
-        if end == End::Unwritten {
+        if End::Unwritten <= end {
             return end;
         }
     }
