@@ -43,7 +43,8 @@ pub(crate) fn list_sets(rt: &HostRuntime, command: &[u8]) -> End {
     }
 }
 
-// Ten strings have 1,024 sets; behind the last one there is nothing to write.
+// Ten strings have 1,024 sets; behind the last one there is nothing to write. A set may take its time: none is judged for a reader who has
+// gone.
 fn show_sets(rt: &HostRuntime, plan: Plan, found: Assign) -> End {
     let mut end = End::Answered;
     for passed in 1..=1024 {
@@ -52,6 +53,9 @@ fn show_sets(rt: &HostRuntime, plan: Plan, found: Assign) -> End {
             return end;
         }
         end = larger(end, say::answer_page(rt, line));
+        if end == End::Gone {
+            return end;
+        }
     }
     end
 }
