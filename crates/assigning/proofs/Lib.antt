@@ -1,3 +1,3 @@
--- AsWritten: what is answered is what is to be answered. OfText: what each answer means.
-pub mod AsWritten
+-- AsRead: what was read decides. OfText: what each answer means.
+pub mod AsRead
 pub mod OfText

@@ -2,10 +2,10 @@
 --     assigned_says a        the refusal; that no set passes; or the length of the text
 use Rattle.faults.specs.Checks.{fault_number}
 use Rattle.rules.specs.Said.{Noted, refused_with, text, none_found}
-use Rattle.assigning.specs.declared.Assigned.{Assigned}
-use Rattle.assigning.specs.declared.Assigned.TheVariants.{Refused, Nobody, Text}
+use Rattle.std.specs.Prelude.{Ok, Err, Some, None}
+use Rattle.assigning.specs.Assigned.{Assigned}
 
 abbrev pub assigned_says : Assigned → Noted
-assigned_says (Refused f at) = refused_with (fault_number f) at
-assigned_says Nobody = none_found
-assigned_says (Text len) = text len
+assigned_says (Err e) = refused_with (fault_number e.fault) e.at
+assigned_says (Ok None) = none_found
+assigned_says (Ok (Some len)) = text len

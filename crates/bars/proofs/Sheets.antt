@@ -1,14 +1,15 @@
 -- What the sheet of a run holds, by how the run ended; and what the answer for its stints says of the checks.
 use Rattle.base.proofs.Prelude.{ℕ, ◌-◌, ◌≤◌, ◌≡◌, sym, ap, ◌∙◌, leb, leb-true, List, [], ◌∷◌, ◌++◌, arith, length, take}
+use Rattle.faults.specs.Checks.{Refused, Lawful, Checked}
+use Rattle.std.specs.Prelude.{Ok, Err, Result}
+use Rattle.faults.specs.declared.Refusal.{Refusal}
 use borrow.Author.Tests.{leb-false}
 use mathlib.Core.List.{flat_map}
 use Rattle.base.proofs.Lists.{by_bool}
 use Rattle.days.specs.{declared.Day.Day, declared.Length.Length, Days.day}
-use Rattle.faults.specs.{declared.Fault.Fault, declared.Checked.Checked, declared.Checked.TheVariants.{Lawful, Refused}}
+use Rattle.faults.specs.declared.Fault.{Fault}
 use Rattle.faults.proofs.Checks.{by-checked}
 use Rattle.rules.specs.{declared.Plan.Plan, declared.Release.Release, declared.Releases.Releases, declared.Outcome.Outcome, declared.Outcome.TheVariants.{Miss, Clean}, Release.releases_of, Run.{miss_day, run_of}, Stints.{days_run, run_stints, stints_numbers, stints_answer}, Refusal.{run_check, run_answer}}
-use Rattle.rules.specs.declared.Stinted.TheVariants as stinted
-use Rattle.rules.specs.declared.AskedOutcome.TheVariants as asked
 use Rattle.laws.proofs.{Releases.run_check-lawful, Answers.run-lawful}
 use Rattle.stretch.specs.Stints.{spelled}
 use Rattle.stretch.proofs.RunStints.{run-stints-spell}
@@ -99,39 +100,35 @@ module _ (p : Plan) (rs : List Release) where
 
 module _ (p : Plan) (rs : Releases) (list : List ℕ) (room : length list ≡ 15005) where
   -- a list of 15,005 numbers is never too short: what is refused is what the checks refuse
-  pub refused-by : (f : Fault) (at : ℕ) → stinted.Refused f at ≡ stints_answer p rs (length list) → run_check p rs ≡ Refused f at
-  refused-by f at said =
+  pub refused-by : (e : Refusal) → Err e ≡ stints_answer p rs (length list) → run_check p rs ≡ Err e
+  refused-by e said =
       by-checked (run_check p rs)
       (λ run.
       let few = few-here p rs (run_check-lawful p rs run) in
-      let other = said ∙ sym (stints-fit p rs list run (omega arith)).0 in
-      let z : ◌≡◌ {A = ℕ} 0 1 = cc in
-      absurd (omega arith))
-      (λ g place refused.
-      let same = said ∙ sym (stints-refused p rs list g place refused).0 in
-      let fault : g ≡ f = cc in
-      let there : place ≡ at = cc in
-      refused ∙ ap (λ x. Refused x place) fault ∙ ap (Refused f) there)
+      absurd (never e _ (said ∙ sym (stints-fit p rs list run (omega arith)).0)))
+      (λ g place refused. refused ∙ same e g place (said ∙ sym (stints-refused p rs list g place refused).0))
+    where
+      never : (e : Refusal) (n : ℕ) → ◌≡◌ {A = Result ℕ Refusal} (Err e) (Ok n) → ⊥
+      never e n h = cc
 
-pub outcome-is : (p : Plan) (rs : Releases) (o : Outcome) → run_check p rs ≡ Lawful → asked.Given o ≡ run_answer p rs
+      same : (e : Refusal) (g : Fault) (at : ℕ) → ◌≡◌ {A = Result ℕ Refusal} (Err e) (Refused g at)
+          → ◌≡◌ {A = Checked} (Refused g at) (Err e)
+      same e g at h =
+          let is : e ≡ record { fault = g; at = at } = cc in
+          rw is
+
+pub outcome-is : (p : Plan) (rs : Releases) (o : Outcome) → run_check p rs ≡ Lawful → Ok o ≡ run_answer p rs
     → o ≡ run_of p (releases_of rs)
-outcome-is p rs o lawful said =
-    let same = said ∙ run-lawful p rs lawful in
-    cc
+outcome-is p rs o lawful said = same o _ (said ∙ run-lawful p rs lawful)
+  where
+    same : (o u : Outcome) → ◌≡◌ {A = Result Outcome Refusal} (Ok o) (Ok u) → o ≡ u
+    same o u h = cc
 
-pub not-refused : {A : Type 0} (p : Plan) (rs : Releases) (f : Fault) (at : ℕ) → run_check p rs ≡ Lawful
-    → asked.Refused f at ≡ run_answer p rs → A
-not-refused p rs f at lawful said =
-    let other = said ∙ run-lawful p rs lawful in
-    let z : ◌≡◌ {A = ℕ} 0 1 = cc in
-    absurd (omega arith)
-
--- what is refused is not lawful
-pub refused-not : {A : Type 0} (a : Checked) (f : Fault) (at : ℕ) → a ≡ Refused f at → a ≡ Lawful → A
-refused-not a f at off on =
-    let other = sym off ∙ on in
-    let z : ◌≡◌ {A = ℕ} 0 1 = cc in
-    absurd (omega arith)
+pub never-refused : (p : Plan) (rs : Releases) (e : Refusal) → run_check p rs ≡ Lawful → Err e ≡ run_answer p rs → ⊥
+never-refused p rs e lawful said = never e _ (said ∙ run-lawful p rs lawful)
+  where
+    never : (e : Refusal) (o : Outcome) → ◌≡◌ {A = Result Outcome Refusal} (Err e) (Ok o) → ⊥
+    never e o h = cc
 
 -- the stints of a list that holds their numbers are the run's
 pub stints-of-run : (p : Plan) (rs : List Release) (numbers rest : List ℕ) (n : ℕ) → numbers ≡ stints_numbers (run_stints p rs) ++ rest

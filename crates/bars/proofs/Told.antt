@@ -1,6 +1,8 @@
 -- What is written for a check: a text where it finds nothing, else the refusal's line; and the row of a string, by what the sheet says.
 use Rattle.base.proofs.Prelude.{ℕ, ◌≤◌, ◌≡◌, sym, ap, ◌∙◌, List, [], map, arith, length, length-take, length-take-le}
-use Rattle.faults.specs.{declared.Fault.Fault, declared.Checked.Checked, declared.Checked.TheVariants.{Lawful, Refused}}
+use Rattle.std.specs.Prelude.{Err}
+use Rattle.faults.specs.Checks.{Lawful, Checked}
+use Rattle.faults.specs.declared.Refusal.{Refusal}
 use Rattle.rules.specs.{declared.Plan.Plan, declared.Release.Release, Run.history, Stints.days_run, Plan.{strings_of, no_string}, Lines.refused_line}
 use Rattle.showing.specs.Shown.{in_place, on_text}
 use Rattle.showing.proofs.InPlace.{in_place-there, in_place-none}
@@ -10,8 +12,8 @@ use Rattle.bars.specs.{declared.Column.Column, declared.sheet.Sheet.Sheet, Bars.
 pub told-lawful : (a : Checked) (text : List ℕ) → a ≡ Lawful → text ≡ on_text a text
 told-lawful a text is = rw is
 
-pub told-refused : (a : Checked) (text : List ℕ) (f : Fault) (at : ℕ) → a ≡ Refused f at → refused_line f at ≡ on_text a text
-told-refused a text f at is = rw is
+pub told-refused : (a : Checked) (text : List ℕ) (e : Refusal) → a ≡ Err e → refused_line e.fault e.at ≡ on_text a text
+told-refused a text e is = rw is
 
 -- the bars by the stints of the list are those of the run
 pub row_told : (p : Plan) (rs : List Release) (s : Sheet) (list : List ℕ) → SheetOf p rs s list → (i : ℕ)

@@ -1,5 +1,5 @@
 // The bars of a string, a cell for each column, from the stints of a run in a list of numbers and from its releases.
-ghost use Rattle.std.specs.Prelude.{◌≡◌, cond, ◌≤◌, min, take, get_or};
+ghost use Rattle.std.specs.Prelude.{◌≡◌, cond, ◌≤◌, take, get_or};
 ghost use Rattle.base.specs.Count.{count_of};
 ghost use Rattle.rules.specs.declared.Use.TheVariants.{Idle};
 ghost use Rattle.rules.specs.Release.{releases_of};
@@ -11,26 +11,17 @@ use super::columns::Drawn;
 use rules::{Plan, Release, Releases, Use};
 use run::stint_at;
 
-fn smaller(a: u32, b: u32) -> u32
-    ensures exact { result ≡ min a b }
-{
-    if a < b { a } else { b }
-}
-
 // What the bank did on day t, by the stints in the list; nothing where they do not reach it.
 fn use_on(list: &[u32], stints: usize, t: u32) -> Use
     ensures exact { result ≡ get_or (uses_told list.now stints) t Idle }
 {
     let mut left = t;
-    let mut passed: usize = 0;
-    while passed < stints {
-        let stint = stint_at(list, passed);
-        let long = stint.length.0;
-        if left < long {
+    for i in 0..stints {
+        let stint = stint_at(list, i);
+        if left < stint.length.0 {
             return stint.used;
         }
-        left -= long;
-        passed += 1;
+        left -= stint.length.0;
     }
     Use::Idle
 }
@@ -60,14 +51,11 @@ fn worked_before(list: &[u32], stints: usize, k: usize, t: u32) -> u32
 {
     let mut left = t;
     let mut work: u32 = 0;
-    let mut passed: usize = 0;
-    while passed < stints {
-        let stint = stint_at(list, passed);
-        let used = stint.used;
-        let days = smaller(left, stint.length.0);
-        work += share(used, k, days);
+    for i in 0..stints {
+        let stint = stint_at(list, i);
+        let days = left.min(stint.length.0);
+        work += share(stint.used, k, days);
         left -= days;
-        passed += 1;
     }
     work
 }
@@ -216,14 +204,9 @@ pub(crate) fn row_cells(
     requires up_to_seventy { UpToSeventy drawn }
     ensures exact { take drawn.count result ≡ cells_of p (releases_of rs) (uses_told list.now stints) days place drawn }
 {
-    let count = drawn.count;
-    let columns = drawn.columns;
     let mut cells = [b' '; 70];
-    let mut i: usize = 0;
-    while i < count {
-        let c = columns[i];
+    for (i, c) in drawn.columns[..drawn.count].iter().enumerate() {
         cells[i] = bar_on(p, rs, list, stints, days, place, c.first);
-        i += 1;
     }
     cells
 }

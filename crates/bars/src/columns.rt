@@ -1,11 +1,11 @@
 // The columns of the bars, from the stints of a run.
-ghost use Rattle.std.specs.Prelude.{◌≡◌, cond, ◌&&◌, ◌+◌, ◌≤◌, ltb, take};
+ghost use Rattle.std.specs.Prelude.{◌≡◌, ◌&&◌, ◌+◌, ◌≤◌, ltb, take};
 ghost use mathlib.Core.List.{[], ◌∷◌, ◌++◌, map, flat_map};
 ghost use Rattle.base.specs.Count.{up_from};
 ghost use Rattle.rules.specs.Run.{is_idle};
 ghost use Rattle.visits.specs.inner.Own.{stints_in, StintsEnd};
 ghost use Rattle.bars.specs.Bars.{column, stint_columns, day_mark};
-ghost use Rattle.bars.specs.inner.Drawing.{cols_of, UpToSeventy, Drawing};
+ghost use Rattle.bars.specs.inner.Drawing.{cols_of, UpToSeventy, Drawing, missed_column, MissEnds};
 
 use super::Column;
 use rules::{Stint, Use};
@@ -26,95 +26,82 @@ fn is_long_idle(used: Use, length: u32) -> bool
 {
     match used {
         Use::Idle => 9 < length,
-        Use::Work {
-            place: _,
-            serves: _,
-        } => false,
-        Use::Move {
-            place: _,
-            serves: _,
-        } => false,
+        _ => false,
     }
 }
 
-// Nothing is drawn yet.
-pub(crate) fn none_drawn() -> Drawn
-    ensures exact { Drawing result [] }
-{
-    Drawn {
-        count: 0,
-        columns: [NO_COLUMN; 70],
+impl Drawn {
+    // Nothing is drawn yet.
+    fn none() -> Drawn
+        ensures exact { Drawing result [] }
+    {
+        Drawn {
+            count: 0,
+            columns: [NO_COLUMN; 70],
+        }
+    }
+
+    // One column more, where there is room.
+    fn with_column(self, first: u32, days: u32) -> Drawn
+        requires up_to_seventy { UpToSeventy self }
+        requires le_days { 1 ≤ days }
+        requires days_bound { first + days ≤ 1000001 }
+        ensures exact { Drawing result (cols_of self ++ (column first days ∷ [])) }
+    {
+        if self.count == 70 {
+            return self;
+        }
+        let mut columns = self.columns;
+        columns[self.count] = Column { first, days };
+        Drawn {
+            count: self.count + 1,
+            columns,
+        }
+    }
+
+    // The days of a stint, a column each, as long as there is room.
+    fn with_days(self, first: u32, length: u32) -> Drawn
+        requires up_to_seventy { UpToSeventy self }
+        requires length_bound { first + length ≤ 1000000 }
+        ensures exact { Drawing result (cols_of self ++ map (λ t. column t 1) (up_from first length)) }
+    {
+        let mut next = self;
+        for passed in 0..length {
+            next = next.with_column(first + passed, 1);
+        }
+        next
+    }
+
+    // The columns of a stint behind those that are drawn.
+    fn with_stint(self, s: Stint) -> Drawn
+        requires up_to_seventy { UpToSeventy self }
+        requires length_bound { s.first.0 + s.length.0 ≤ 1000000 }
+        ensures exact { Drawing result (cols_of self ++ stint_columns s) }
+    {
+        if self.count == 70 {
+            return self;
+        }
+        if is_long_idle(s.used, s.length.0) {
+            return self.with_column(s.first.0, s.length.0);
+        }
+        self.with_days(s.first.0, s.length.0)
     }
 }
 
-// One column more, where there is room.
-fn behind(drawn: Drawn, first: u32, days: u32) -> Drawn
-    requires up_to_seventy { UpToSeventy drawn }
-    requires le_days { 1 ≤ days }
-    requires days_bound { first + days ≤ 1000001 }
-    ensures exact { Drawing result (cols_of drawn ++ (column first days ∷ [])) }
-{
-    let count = drawn.count;
-    let mut columns = drawn.columns;
-    if count == 70 {
-        return drawn;
-    }
-    columns[count] = Column { first, days };
-    Drawn {
-        count: count + 1,
-        columns,
-    }
-}
-
-// The days of a stint, a column each, as long as there is room.
-fn days_behind(drawn: Drawn, first: u32, length: u32) -> Drawn
-    requires up_to_seventy { UpToSeventy drawn }
-    requires length_bound { first + length ≤ 1000000 }
-    ensures exact { Drawing result (cols_of drawn ++ map (λ t. column t 1) (up_from first length)) }
-{
-    let mut next = drawn;
-    let mut passed: u32 = 0;
-    while passed < length {
-        next = behind(next, first + passed, 1);
-        passed += 1;
-    }
-    next
-}
-
-// The columns of a stint behind those that are drawn.
-fn stint_behind(drawn: Drawn, s: Stint) -> Drawn
-    requires up_to_seventy { UpToSeventy drawn }
-    requires length_bound { s.first.0 + s.length.0 ≤ 1000000 }
-    ensures exact { Drawing result (cols_of drawn ++ stint_columns s) }
-{
-    let used = s.used;
-    let first = s.first.0;
-    let length = s.length.0;
-    if drawn.count == 70 {
-        return drawn;
-    }
-    if is_long_idle(used, length) {
-        return behind(drawn, first, length);
-    }
-    days_behind(drawn, first, length)
-}
-
-// The columns of the run whose stints are in the list; a miss on the day `end` has its own.
-pub(crate) fn drawn_from(list: &[u32], stints: usize, missed: bool, end: u32) -> Drawn
+// The columns of the run whose stints are in the list; a miss has its own, on its day.
+pub(crate) fn drawn_from(list: &[u32], stints: usize, missed: Option<u32>) -> Drawn
     requires stints_end { StintsEnd list.now stints }
-    requires end_bound { end ≤ 1000000 }
-    ensures exact { Drawing result (flat_map stint_columns (stints_in list.now stints) ++ cond missed (column end 1 ∷ []) []) }
+    requires end_bound { MissEnds missed }
+    ensures exact { Drawing result (flat_map stint_columns (stints_in list.now stints) ++ missed_column missed) }
 {
-    let mut drawn = none_drawn();
-    let mut passed: usize = 0;
-    while passed < stints {
-        drawn = stint_behind(drawn, stint_at(list, passed));
-        passed += 1;
+    let mut drawn = Drawn::none();
+    for i in 0..stints {
+        drawn = drawn.with_stint(stint_at(list, i));
     }
-    if missed {
-        return behind(drawn, end, 1);
+    match missed {
+        Some(day) => drawn.with_column(day, 1),
+        None => drawn,
     }
-    drawn
 }
 
 // What stands above a column.
@@ -124,7 +111,7 @@ fn day_mark(c: Column) -> u8
     if 1 < c.days {
         return b'~';
     }
-    48 + (c.first % 10) as u8
+    b'0' + (c.first % 10) as u8
 }
 
 // The marks above the columns.
@@ -132,14 +119,9 @@ pub(crate) fn day_marks(drawn: Drawn) -> [u8; 70]
     requires { UpToSeventy drawn }
     ensures exact { take drawn.count result ≡ map day_mark (cols_of drawn) }
 {
-    let count = drawn.count;
-    let columns = drawn.columns;
     let mut marks = [b' '; 70];
-    let mut i: usize = 0;
-    while i < count {
-        let c = columns[i];
-        marks[i] = day_mark(c);
-        i += 1;
+    for (i, c) in drawn.columns[..drawn.count].iter().enumerate() {
+        marks[i] = day_mark(*c);
     }
     marks
 }

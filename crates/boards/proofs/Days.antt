@@ -1,7 +1,9 @@
 -- The parts of a day's lines: how long they are, and how the lines of tests follow each other.
-use Rattle.base.proofs.Prelude.{ℕ, zero, suc, ◌+◌, ◌*◌, ◌≤◌, ◌<◌, min, ◌≡◌, refl, sym, ◌∙◌, Bool, true, false, cond, List, [], ◌∷◌, ◌++◌, append-nil, arith, add-one, dec_le, length, get_or, take, drop, length-append, drop-cons, take_all}
+use Rattle.base.proofs.Prelude.{ℕ, zero, suc, ◌+◌, ◌*◌, ◌≤◌, ◌<◌, min, ◌≡◌, refl, sym, ap, ◌∙◌, Bool, true, false, List, [], ◌∷◌, ◌++◌, append-nil, arith, add-one, dec_le, length, get_or, take, drop, length-append, append_assoc, take-suc, take-append-drop, take_all}
 use mathlib.Core.List.{flat_map}
 use Rattle.base.specs.{Count.keep, Digits.places_of}
+use Rattle.std.specs.List.{count_by}
+use Rattle.std.proofs.lemmas.List.Recursion.{is_count_by}
 use Rattle.base.proofs.Lists.{by_bool}
 use Rattle.calendar.specs.{declared.Date.Date, declared.Weekday.Weekday, declared.Weekday.TheVariants.{Saturday, Sunday, Monday, Tuesday, Wednesday, Thursday, Friday}, Weekdays.{week, weekday_of}, Texts.{digits, date_text, yearly_text}}
 use Rattle.rules.specs.Lines.{bytes_of, worded_in}
@@ -91,19 +93,33 @@ day-long head tail d ts fifteen =
 
 -- ---- One test after another
 
-module _ (ts : List Test) (z : Test) (i : ℕ) (inside : i < length ts) where
-  pub test-next : drop i ts ≡ get_or ts i z ∷ drop (i + 1) ts
-  test-next = rw (add-one i) (drop-cons ts i z inside)
+module _ (head : List ℕ) (d : Date) where
+  tests-append : (ts us : List Test) → tests_text head d (ts ++ us) ≡ tests_text head d ts ++ tests_text head d us
+  tests-append [] us = rw (tests-none head d)
+  tests-append (t ∷ ts) us =
+      let one = tests_text head d (t ∷ []) in
+      tests-next head d t (ts ++ us)
+      ∙ ap (λ l. one ++ l) (tests-append ts us)
+      ∙ sym (append_assoc one (tests_text head d ts) (tests_text head d us))
+      ∙ ap (λ l. l ++ tests_text head d us) (sym (tests-next head d t ts))
 
-  pub count_next : (f : Test → Bool)
-      → length (keep f (drop i ts)) ≡ cond (f (get_or ts i z)) 1 0 + length (keep f (drop (i + 1) ts))
-  unfolding keep
-  count_next f =
-      rw test-next (by_bool (f (get_or ts i z)) (λ h. rw h (omega arith)) (λ h. rw h (omega arith)))
+  pub test-more : (ts : List Test) (z : Test) (i : ℕ) → i < length ts
+      → tests_text head d (take (i + 1) ts) ≡ tests_text head d (take i ts) ++ tests_text head d (get_or ts i z ∷ [])
+  test-more ts z i inside =
+      let one : take (i + 1) ts ≡ take i ts ++ (get_or ts i z ∷ []) = rw (add-one i) (take-suc ts i z inside) in
+      ap (tests_text head d) one ∙ tests-append (take i ts) (get_or ts i z ∷ [])
 
-pub one-or-none : (b : Bool) → cond b 1 0 ≤ 1
-one-or-none true = omega arith
-one-or-none false = omega arith
+  pub tests-within : (ts : List Test) (i : ℕ) → length (tests_text head d (take i ts)) ≤ length (tests_text head d ts)
+  tests-within ts i =
+      let whole = ap (λ l. length (tests_text head d l)) (take-append-drop i ts) in
+      let parts = ap length (tests-append (take i ts) (drop i ts)) in
+      omega (arith, whole, parts, length-append (tests_text head d (take i ts)) (tests_text head d (drop i ts)))
+
+-- how many are kept
+pub kept-counted : (f : Test → Bool) (ts : List Test) → count_by f ts ≡ length (keep f ts)
+unfolding keep
+kept-counted f ts =
+    sym (is_count_by (λ xs. length (keep f xs)) f refl (λ x xs. by_bool (f x) (λ t. rw t (omega arith)) (λ e. rw e)) ts)
 
 -- of twenty the first `count`
 pub first-twenty : (count : ℕ) (ts : List Test) → length ts ≡ 20 → take (min count 20) ts ≡ take count ts

@@ -1,75 +1,77 @@
 -- A plan file and an input: the first refusal decides, and where there is none the run gives the board.
-use Rattle.base.proofs.Prelude.{ℕ, ◌≡◌, sym, ap, ◌∙◌, List, arith, length}
-use Rattle.days.specs.declared.Day.{Day}
-use Rattle.faults.specs.{declared.Fault.Fault, declared.Checked.TheVariants.{Lawful, Refused}}
-use Rattle.faults.proofs.Checks.{by-checked, then-first}
-use Rattle.rules.specs.{declared.Plan.Plan, declared.Releases.Releases, declared.Reading.Reading, Refusal.{run_check, run_answer}, Release.releases_of, Stints.{run_stints, stints_check, stints_answer, stints_listed}, Text.reading_of}
-use Rattle.rules.specs.declared.Stinted.TheVariants as stinted
+use Rattle.base.proofs.Prelude.{ℕ, ◌≡◌, sym, ◌∙◌, List, length}
+use Rattle.std.specs.Prelude.{Result, Ok, Err}
+use Rattle.faults.specs.{declared.Refusal.Refusal, Checks.Lawful}
+use Rattle.faults.proofs.Checks.{then-first, err-not-ok}
+use Rattle.rules.specs.{declared.PlanFile.PlanFile, declared.Plan.Plan, declared.Releases.Releases, declared.Outcome.Outcome, Release.releases_of, Run.run_of, Refusal.{run_check, run_answer}, Stints.{run_stints, stints_check, stints_answer, stints_listed}, Text.{Reading, reading_of, said_in}}
 use Rattle.laws.proofs.Answers.{run-lawful}
-use Rattle.boards.specs.{declared.Diary.Diary, declared.Input.Input, Input.input_reading, Whole.{refused_board, board_with, board_over, board_reading, over_listed, board_listed}, inner.Walk.board_ended}
+use Rattle.boards.specs.{declared.CrewInput.CrewInput, Input.{Input, input_reading, entered_in}, Whole.{board_in, board_with, board_over, board_reading, over_listed, board_listed}}
+use Rattle.boards.proofs.Answered.{check-refused, check-lawful}
 
-listed-not-refused : (n : ℕ) (f : Fault) (at : ℕ) → stinted.Listed n ≡ stinted.Refused f at → ⊥
-listed-not-refused n f at e =
-    let z : ◌≡◌ {A = ℕ} 0 1 = cc in
-    omega arith
+-- where the stints are counted the run is not refused
+module _ (p : Plan) (rs : Releases) (room n : ℕ) (counted : Ok n ≡ stints_answer p rs room) where
+  both : (stints_check p rs room ≡ Lawful) × (length (run_stints p (releases_of rs)) ≡ n)
+  unfolding stints_answer
+  both = check-lawful (stints_check p rs room) _ n (sym counted)
 
-module _ (p : Plan) (rs : Releases) (start : Day) (diary : Diary) (room : ℕ) where
-  pub with-refused : (f : Fault) (at : ℕ) → stints_answer p rs room ≡ stinted.Refused f at
-      → refused_board f at ≡ board_with p rs start diary room
-  unfolding stints_answer board_with
-  with-refused f at h =
-      by-checked (stints_check p rs room)
-      (λ c. absurd (listed-not-refused _ f at (rw c at h)))
-      (λ g to c.
-      let said : stinted.Refused g to ≡ stinted.Refused f at = rw c at h in
-      let fault : g ≡ f = cc in
-      let place : to ≡ at = cc in
-      rw (c, fault, place))
+  ran : run_answer p rs ≡ Ok (run_of p (releases_of rs))
+  unfolding stints_check
+  ran = run-lawful p rs (then-first (run_check p rs) _ both.0)
 
-  pub with-listed : (n : ℕ) → stints_answer p rs room ≡ stinted.Listed n
-      → board_ended start diary n (run_answer p rs) ≡ board_with p rs start diary room
-  unfolding stints_answer board_with board_ended
-  with-listed n h =
-      by-checked (stints_check p rs room)
-      (λ c.
-      let said : stinted.Listed (length (run_stints p (releases_of rs))) ≡ stinted.Listed n = rw c at h in
-      let count : length (run_stints p (releases_of rs)) ≡ n = cc in
-      rw (run-lawful p rs (lawful c), c, count))
-      (λ g to c. absurd (listed-not-refused n g to (sym (rw c at h))))
-    where
-      lawful : stints_check p rs room ≡ Lawful → run_check p rs ≡ Lawful
-      lawful c = unfold stints_check in then-first (run_check p rs) _ c
+  pub boards-run-given : (e : Refusal) → Err e ≡ run_answer p rs → ⊥
+  boards-run-given e h = err-not-ok e _ (h ∙ ran)
 
--- the input decides
-module _ (p : Plan) (rs : Releases) (text list : List ℕ) (i : Input) (read : i ≡ input_reading p.run.0 text) where
-  pub over-refused : (f : Fault) (at : ℕ) → i.checked ≡ Refused f at
-      → (refused_board f at ≡ board_over p rs text (length list)) × (list ≡ over_listed p rs text list)
-  unfolding board_over over_listed
-  over-refused f at h =
-      let found = ap (λ (j : Input). j.checked) (sym read) ∙ h in
-      (rw found, rw found)
+  run-is : (o : Outcome) → Ok o ≡ run_answer p rs → run_of p (releases_of rs) ≡ o
+  run-is o h =
+      let there : ◌≡◌ {A = Result Outcome Refusal} (Ok o) (Ok (run_of p (releases_of rs))) = h ∙ ran in
+      cc
 
-  pub over-lawful : i.checked ≡ Lawful
-      → (board_with p rs i.start i.diary (length list) ≡ board_over p rs text (length list))
-      × (stints_listed p rs list ≡ over_listed p rs text list)
-  unfolding board_over over_listed
-  over-lawful h =
-      let found = ap (λ (j : Input). j.checked) (sym read) ∙ h in
-      (rw (read, found), rw found)
+module _ (plan text list : List ℕ) where
+  abbrev r : Reading
+  r = reading_of plan
 
--- before it the plan
-module _ (plan text list : List ℕ) (r : Reading) (read : r ≡ reading_of plan) where
-  pub file-refused : (f : Fault) (at : ℕ) → r.checked ≡ Refused f at
-      → (refused_board f at ≡ board_reading plan text (length list)) × (list ≡ board_listed plan text list)
+  pub plan-refused : (e : Refusal) → Err e ≡ said_in r
+      → (Err e ≡ board_in (board_reading plan text (length list))) × (list ≡ board_listed plan text list)
   unfolding board_reading board_listed
-  file-refused f at h =
-      let found = ap (λ (s : Reading). s.checked) (sym read) ∙ h in
-      (rw found, rw found)
+  plan-refused e h = let c = check-refused r.checked _ e (sym h) in (rw c, rw c)
 
-  pub file-lawful : r.checked ≡ Lawful
-      → (board_over r.plan r.releases text (length list) ≡ board_reading plan text (length list))
-      × (over_listed r.plan r.releases text list ≡ board_listed plan text list)
-  unfolding board_reading board_listed
-  file-lawful h =
-      let found = ap (λ (s : Reading). s.checked) (sym read) ∙ h in
-      (rw (read, found), rw (read, found))
+  module _ (file : PlanFile) (read : Ok file ≡ said_in r) where
+    lawful : (r.checked ≡ Lawful) × (record { plan = r.plan; releases = r.releases } ≡ file)
+    lawful = check-lawful r.checked _ file (sym read)
+
+    abbrev i : Input
+    i = input_reading r.plan.run.0 text
+
+    pub input-refused : (e : Refusal) → Err e ≡ entered_in (input_reading file.plan.run.0 text)
+        → (Err e ≡ board_in (board_reading plan text (length list))) × (list ≡ board_listed plan text list)
+    unfolding board_reading board_listed board_over over_listed
+    input-refused e h =
+        let c = check-refused i.checked _ e (sym (rw (← lawful.1) at h)) in
+        (rw (lawful.0, c), rw (lawful.0, c))
+
+    module _ (entered : CrewInput) (said : Ok entered ≡ entered_in (input_reading file.plan.run.0 text)) where
+      there : (i.checked ≡ Lawful) × (record { start = i.start; diary = i.diary } ≡ entered)
+      there = check-lawful i.checked _ entered (sym (rw (← lawful.1) at said))
+
+      pub boards_listed : stints_listed file.plan file.releases list ≡ board_listed plan text list
+      unfolding board_listed over_listed
+      boards_listed = rw (← lawful.1, lawful.0, there.0)
+
+      pub boards-stints-refused : (e : Refusal) → Err e ≡ stints_answer file.plan file.releases (length list)
+          → Err e ≡ board_in (board_reading plan text (length list))
+      unfolding board_reading board_over board_with stints_answer
+      boards-stints-refused e h =
+          let c = check-refused (stints_check r.plan r.releases (length list)) _ e (sym (rw (← lawful.1) at h)) in
+          rw (lawful.0, there.0, c)
+
+      pub board-given : (n : ℕ) (o : Outcome) → Ok n ≡ stints_answer file.plan file.releases (length list)
+          → Ok o ≡ run_answer file.plan file.releases
+          → Ok (record { start = entered.start; diary = entered.diary; stints = n; outcome = o })
+          ≡ board_in (board_reading plan text (length list))
+      unfolding board_reading board_over board_with
+      board-given n o counted ran =
+          let some = rw (← lawful.1) at counted in
+          let went = rw (← lawful.1) at ran in
+          let fits = both r.plan r.releases (length list) n some in
+          let ends = run-is r.plan r.releases (length list) n some o went in
+          rw (lawful.0, there.0, fits.0, fits.1, ends, ← there.1)

@@ -1,18 +1,20 @@
 -- What a line of the input gives: the parts of a form, and the checks in their order.
-use Rattle.base.proofs.Prelude.{ℕ, ◌+◌, ◌-◌, ◌≤◌, ◌<◌, ◌≡◌, refl, sym, ap, ◌∙◌, Bool, true, false, List, [], ◌∷◌, ◌++◌, arith, leb, le-leb, lt-leb, length, take, drop, drop-drop}
+use Rattle.base.proofs.Prelude.{ℕ, ◌+◌, ◌≤◌, ◌≡◌, refl, sym, ap, ◌∙◌, Bool, true, false, List, [], ◌∷◌, ◌++◌, arith, leb, length, take, drop, drop-drop}
+use Rattle.calendar.specs.declared.Date.{Date}
+use Rattle.faults.specs.Checks.{Refused}
+use Rattle.faults.specs.declared.Refusal.{Refusal}
+use Rattle.std.specs.Prelude.{Ok, Err, Result}
 use lib.Seq.{take-take}
 use Rattle.base.proofs.{Lists.{by_bool, and_left, and_right}, Parts.take-drop-take}
 use Rattle.days.specs.declared.Day.{Day}
-use Rattle.faults.specs.declared.Fault.TheVariants.{NoSuchDate, NoSuchEdition}
-use Rattle.calendar.specs.{declared.WhichDate.WhichDate, declared.WhichDay.WhichDay, Dates.date_exists, Numbers.last_day, Yearly.{no_edition, in_no_year}, Refusals.day_answer, Texts.{number, fits, fits_at, yearly_form, edition_form, date_form, date_in, yearly_in, date_reading, yearly_reading, edition_reading}}
-use Rattle.calendar.specs.declared.WhichDate.TheVariants as which-date
-use Rattle.calendar.specs.declared.WhichDay.TheVariants as which-day
+use Rattle.faults.specs.declared.Fault.TheVariants.{NoSuchDate}
+use Rattle.calendar.specs.Dates.{date_exists}
+use Rattle.calendar.specs.Yearly.{no_edition, in_no_year}
+use Rattle.calendar.specs.Refusals.{day_answer}
+use Rattle.calendar.specs.Texts.{number, fits, fits_at, yearly_form, edition_form, date_form, date_in, yearly_in, date_reading, yearly_reading, edition_reading}
 use Rattle.calendar.proofs.Texts.{date_reading-is, date_reading-form, date_reading-none, yearly_reading-is, yearly_reading-none, edition_reading-is, edition_reading-none}
 use Rattle.rules.specs.Text.{Line}
 use Rattle.boards.specs.{Input.{start_right, diary_form, set_for, test_in, test_right, test_check}, inner.Walk.{start_of, within_of, no_day, noted_of, noted_from}}
-use Rattle.boards.specs.declared.entered.Noted.TheVariants as noted
-use Rattle.calendar.specs.declared.WhichYearly.TheVariants as which-yearly
-use Rattle.calendar.specs.declared.WhichEdition.TheVariants as which-edition
 
 -- ---- Forms
 
@@ -56,26 +58,20 @@ module _ (bytes : List ℕ) (ended : Bool) (j : ℕ) where
   abbrev line : Line
   line = record { bytes = bytes; ended = ended }
 
-  pub unformed : fits diary_form bytes ≡ false → noted.Refused NoSuchDate ≡ noted_of j line
+  pub unformed : fits diary_form bytes ≡ false → Refused NoSuchDate 0 ≡ noted_of j line
   unfolding noted_of test_check test_right
   unformed e = rw e
 
   module _ (form : fits diary_form bytes ≡ true) where
     -- an edition that is neither
     other-edition : no_edition (number (drop 6 bytes)) ≡ true
-        → noted_from (yearly_reading (take 5 bytes)) (edition_reading (drop 6 bytes)) ended j ≡ noted_of j line
+        → noted_from (edition_reading (drop 6 bytes)) (yearly_reading (take 5 bytes)) ended j ≡ noted_of j line
     unfolding noted_from noted_of test_check test_right test_in
     other-edition other =
-        let left : noted_from (yearly_reading (take 5 bytes)) (edition_reading (drop 6 bytes)) ended j ≡ noted.Refused NoSuchEdition =
-        rw (edition_reading-none (drop 6 bytes) (edition-form bytes form) other) (refused (yearly_reading (take 5 bytes))) in
-        left ∙ rw (form, other)
-      where
-        refused : (on : _) → noted_from on (which-edition.Refused NoSuchEdition 0) ended j ≡ noted.Refused NoSuchEdition
-        refused (which-yearly.Is on) = refl
-        refused (which-yearly.Refused f at) = refl
+        rw (edition_reading-none (drop 6 bytes) (edition-form bytes form) other, form, other)
 
     known-edition : no_edition (number (drop 6 bytes)) ≡ false
-        → noted_from (yearly_reading (take 5 bytes)) (edition_reading (drop 6 bytes)) ended j ≡ noted_of j line
+        → noted_from (edition_reading (drop 6 bytes)) (yearly_reading (take 5 bytes)) ended j ≡ noted_of j line
     unfolding noted_from noted_of test_check test_right test_in
     known-edition known =
         let said = edition_reading-is (drop 6 bytes) (edition-form bytes form) known in
@@ -84,7 +80,7 @@ module _ (bytes : List ℕ) (ended : Bool) (j : ℕ) where
         (λ some. rw (said, yearly_reading-is (take 5 bytes) (date-form bytes form) some, form, known, sym (date-in bytes), some)
         (by_bool ended (λ t. rw t (by_bool (leb j 20) (λ u. rw u) (λ e. rw e))) (λ e. rw e)))
 
-    pub formed-noted : noted_from (yearly_reading (take 5 bytes)) (edition_reading (drop 6 bytes)) ended j ≡ noted_of j line
+    pub formed-noted : noted_from (edition_reading (drop 6 bytes)) (yearly_reading (take 5 bytes)) ended j ≡ noted_of j line
     formed-noted = by_bool (no_edition (number (drop 6 bytes))) other-edition known-edition
 
 -- ---- The start
@@ -94,24 +90,12 @@ module _ (n : ℕ) where
   unfolding start_of start_right
   no_end bytes = refl
 
-  pub long-run : (k : Day) → last_day < n → no_day ≡ within_of n (which-day.Is k)
-  unfolding within_of
-  long-run k h = rw (lt-leb (k.0 + n) last_day (omega arith))
-
-  pub late-start : (k : Day) → last_day - n < k.0 → no_day ≡ within_of n (which-day.Is k)
-  unfolding within_of
-  late-start k h = rw (lt-leb (k.0 + n) last_day (omega arith))
-
-  pub good_start : (k : Day) → n ≤ last_day → k.0 ≤ last_day - n → which-day.Is k ≡ within_of n (which-day.Is k)
-  unfolding within_of
-  good_start k h g = rw (le-leb (k.0 + n) last_day (omega arith))
-
   -- of what the calendar reads
-  unfoldable pub started : WhichDate → WhichDay
-  started (which-date.Is d) = within_of n (day_answer d)
-  started (which-date.Refused f at) = which-day.Refused f at
+  unfoldable pub started : Result Date Refusal → Result Day Refusal
+  started (Ok d) = within_of n (day_answer d)
+  started (Err e) = Err e
 
-  pub with-end : (bytes : List ℕ) (date : WhichDate) → date ≡ date_reading bytes
+  pub with-end : (bytes : List ℕ) (date : Result Date Refusal) → date ≡ date_reading bytes
       → started date ≡ start_of n (record { bytes = bytes; ended = true })
   unfolding started start_of start_right within_of day_answer
   with-end bytes date is =

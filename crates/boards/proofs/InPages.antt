@@ -1,15 +1,23 @@
 -- The whole: where nothing is refused, the pages in a row and the line of a miss are the board.
 use Rattle.base.proofs.Prelude.{ℕ, ◌+◌, ◌-◌, ◌*◌, ◌≤◌, ◌≡◌, ap, ◌∙◌, not, ◌&&◌, List, [], ◌∷◌, ◌++◌, arith, leb, le-leb, le-ltb, leb-true, not-false, length, drop, take_all, length-append}
+use Rattle.faults.specs.Checks.{Lawful}
 use mathlib.Core.Path.{ap₂}
 use Rattle.base.proofs.Lists.{by_bool, and_right}
-use Rattle.faults.specs.{declared.Fault.TheVariants.NoSuchDate, declared.Checked.TheVariants.Lawful, Checks.{then, refuse_if, or_refused}}
+use Rattle.faults.specs.declared.Fault.TheVariants.{NoSuchDate}
+use Rattle.faults.specs.Checks.{then, refuse_if, or_refused}
 use Rattle.faults.proofs.Checks.{refused-not-lawful, by-checked, then-first, refuse_if-not}
 use Rattle.calendar.specs.{Dates.date_exists, Numbers.{day_number, date_of, last_day}, Texts.{fits, date_form, date_in}}
-use Rattle.rules.specs.{declared.Plan.Plan, declared.Release.Release, declared.Releases.Releases, declared.Reading.Reading, Release.releases_of, Run.{history, late_on, miss_day, run_of}, Stints.{days_run, run_stints, stints_numbers, stints_check, stints_listed}, Text.{Line, lines_of, reading_of}}
+use Rattle.rules.specs.declared.Plan.{Plan}
+use Rattle.rules.specs.declared.Release.{Release}
+use Rattle.rules.specs.declared.Releases.{Releases}
+use Rattle.rules.specs.Text.{Reading, Line, lines_of, reading_of}
+use Rattle.rules.specs.Release.{releases_of}
+use Rattle.rules.specs.Run.{history, late_on, miss_day, run_of}
+use Rattle.rules.specs.Stints.{days_run, run_stints, stints_numbers, stints_check, stints_listed}
 use Rattle.laws.proofs.{Lawful.LawfulPlan, Releases.{LawfulRun, run_check-lawful}, ReadLawful.read-lawful, History.history-length}
 use Rattle.run.proofs.Answering.{few-here}
 use Rattle.lines.specs.Board.{missed_line, number_line}
-use Rattle.boards.specs.{declared.Board.Board, declared.Input.Input, Input.{start_right, start_check, start_said, diary_check, input_check, input_reading}, Board.{date_head, miss_line_of, board_from, board_end, board_of, tests_of}, Paging.{in_calendar, page_uses, pages_from}, Whole.{board_with, board_over, board_reading, over_listed, board_listed, board_text, end_text}, inner.Daily.head_with}
+use Rattle.boards.specs.{declared.Board.Board, Input.{Input, start_right, start_check, start_said, diary_check, input_check, input_reading}, Board.{date_head, miss_line_of, board_from, board_end, board_of, tests_of}, Paging.{in_calendar, page_uses, pages_from}, Whole.{Given, board_with, board_over, board_reading, over_listed, board_listed, board_text, end_text}, inner.Daily.head_with}
 use Rattle.boards.proofs.{Days.head-long, Rows.{Roomy, pages-in-row, uses-back}, Roomy.{history-places, missed-short, all-roomy, few-tests}}
 
 -- ---- The run within the calendar
@@ -71,19 +79,20 @@ module _ (p : Plan) (rs : Releases) (i : Input) (list : List ℕ) (room n : ℕ)
     abbrev releases : List Release
     releases = releases_of rs
 
+    abbrev answer : Given
+    answer = board_with p rs i.start i.diary (length list)
+
     abbrev board : Board
-    board = board_with p rs i.start i.diary (length list)
+    board = answer.board
 
     abbrev lent : List ℕ
     lent = stints_listed p rs list
 
-    made : board
+    made : answer
         ≡ record {
           checked = Lawful;
-          start = i.start;
-          diary = i.diary;
-          stints = length (run_stints p releases);
-          outcome = run_of p releases;
+          board =
+              record { start = i.start; diary = i.diary; stints = length (run_stints p releases); outcome = run_of p releases };
         }
     unfolding board_with
     made = rw fit
@@ -98,27 +107,31 @@ module _ (p : Plan) (rs : Releases) (i : Input) (list : List ℕ) (room n : ℕ)
         take_all (last_day + 1 - (i.start.0 + 0)) (history p releases (days_run p releases))
         (omega (arith, history-length p releases (days_run p releases)))
 
+    built : board
+        ≡ record { start = i.start; diary = i.diary; stints = length (run_stints p releases); outcome = run_of p releases }
+    built = ap (λ (g : Given). g.board) made
+
     uses : page_uses board lent 0 ≡ history p releases (days_run p releases)
     unfolding page_uses run_stints
     uses =
-        rw (made, held)
+        rw (built, held)
         (ap (λ us. in_calendar (i.start.0 + 0) (drop 0 us)) (uses-back (history p releases (days_run p releases)) _) ∙ days-there)
 
     pub run-in-pages : days_run p releases ≤ n → Roomy (tests_of i.diary) room i.start.0 (history p releases (days_run p releases))
-        → or_refused (λ f at. number_line f) board.checked (pages_from n board lent room 0 ++ end_text board.start.0 board.outcome)
+        → or_refused (λ f at. number_line f) answer.checked (pages_from n board lent room 0 ++ end_text board.start.0 board.outcome)
         ≡ board_of i.start.0 i.diary p releases
     unfolding board_of
     run-in-pages enough roomy =
         let few : length (page_uses board lent 0) ≤ n = omega (arith, ap length uses, history-length p releases (days_run p releases)) in
-        let start_is : board.start.0 + 0 ≡ i.start.0 = ap (λ (b : Board). b.start.0 + 0) made ∙ omega arith in
-        let diary-is : board.diary ≡ i.diary = ap (λ (b : Board). b.diary) made in
+        let start_is : board.start.0 + 0 ≡ i.start.0 = ap (λ (g : Given). g.board.start.0 + 0) made ∙ omega arith in
+        let diary-is : board.diary ≡ i.diary = ap (λ (g : Given). g.board.diary) made in
         let pages = pages-in-row board lent room n 0 few (rw (uses, start_is, diary-is) roomy) in
         let end : end_text board.start.0 board.outcome ≡ board_end i.start.0 (run_of p releases) =
-        ap (λ (b : Board). end_text b.start.0 b.outcome) made ∙ end_is p releases i.start.0 there in
+        ap (λ (g : Given). end_text g.board.start.0 g.board.outcome) made ∙ end_is p releases i.start.0 there in
         let days : pages_from n board lent room 0 ≡ board_from i.start.0 (tests_of i.diary) (history p releases (days_run p releases)) =
         pages ∙ rw (uses, start_is, diary-is) in
         let said = pages_from n board lent room 0 ++ end_text board.start.0 board.outcome in
-        ap (λ (b : Board). or_refused (λ f at. number_line f) b.checked said) made ∙ ap₂ (λ l m. l ++ m) days end
+        ap (λ (g : Given). or_refused (λ f at. number_line f) g.checked said) made ∙ ap₂ (λ l m. l ++ m) days end
 
 -- ---- Of texts
 
@@ -129,7 +142,7 @@ module _ (plan text list : List ℕ) (enough : 15005 ≤ length list) where
   abbrev input : Input
   input = input_reading r.plan.run.0 text
 
-  abbrev given : Board
+  abbrev given : Given
   given = board_reading plan text (length list)
 
   lawful : r.checked ≡ Lawful → LawfulRun r.plan r.releases
@@ -153,7 +166,7 @@ module _ (plan text list : List ℕ) (enough : 15005 ≤ length list) where
   -- the number of the refusal, or the pages and what stands behind them, are all that is written
   pub board-in-pages : (room n : ℕ) → 600 ≤ room → last_day ≤ n
       → or_refused (λ f at. number_line f) given.checked
-      (pages_from n given (board_listed plan text list) room 0 ++ end_text given.start.0 given.outcome)
+      (pages_from n given.board (board_listed plan text list) room 0 ++ end_text given.board.start.0 given.board.outcome)
       ≡ board_text plan text
   unfolding board_reading board_over board_listed over_listed board_text
   board-in-pages room n large many =
@@ -172,7 +185,7 @@ module _ (plan text list : List ℕ) (enough : 15005 ≤ length list) where
       (λ f at a. rw a)
 
   -- a page of 600 bytes has room for the line of a miss
-  pub end_fits : given.checked ≡ Lawful → length (end_text given.start.0 given.outcome) ≤ 600
+  pub end_fits : given.checked ≡ Lawful → length (end_text given.board.start.0 given.board.outcome) ≤ 600
   unfolding board_reading board_over board_with
   end_fits h =
       by-checked r.checked

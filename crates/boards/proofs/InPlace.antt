@@ -1,7 +1,6 @@
 -- Texts put into a page from a place on, one behind the other.
 use Rattle.base.proofs.Prelude.{ℕ, ◌+◌, ◌-◌, ◌≤◌, ◌≡◌, sym, ap, ◌∙◌, List, [], ◌++◌, append_assoc, arith, length, take, drop, length-append, length-drop, length-take-le, take_at, drop_at, drop-drop, take-append-drop, put_mid}
 use Rattle.base.specs.Count.{put_at}
-use Rattle.writing.proofs.Texts.{lent-part, lent_back}
 
 module _ (at : ℕ) (a xs : List ℕ) (room : at + length a ≤ length xs) where
   abbrev held : List ℕ
@@ -40,11 +39,8 @@ put_at-none at xs =
     let none : at + 0 ≡ at = omega arith in
     rw none (take-append-drop at xs)
 
--- a text that was written into the part of a page from a place on
-pub lent-put : (at : ℕ) (text page next : List ℕ) → at ≤ length page
-    → next ≡ text ++ drop (length text) (take (length page - at) (drop at page))
-    → put_mid at (length page - at) page next ≡ put_at at text page
-lent-put at text page next inside is =
-    lent_back at page next inside
-    ∙ ap (λ l. take at page ++ l)
-    (is ∙ ap (λ l. text ++ drop (length text) l) (lent-part at page) ∙ ap (λ l. text ++ l) (drop-drop (length text) at page))
+-- a text that was copied into its part of a page
+pub copied-in : (at : ℕ) (text page : List ℕ) → put_mid at (at + length text - at) page text ≡ put_at at text page
+copied-in at text page =
+    let size : at + length text - at ≡ length text = omega arith in
+    rw (size, drop-drop (length text) at page)

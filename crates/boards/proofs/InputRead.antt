@@ -1,15 +1,16 @@
 -- The input: the first line is the start, and the others are the diary.
 use Rattle.base.proofs.Prelude.{ℕ, ◌+◌, ◌≤◌, ◌≡◌, refl, sym, ap, ◌∙◌, true, false, cond, List, [], ◌∷◌, arith, ltb, length, take, drop}
+use Rattle.faults.specs.Checks.{Refused}
+use Rattle.std.specs.Prelude.{Result, Ok, Err}
 use Rattle.base.proofs.Lists.{by_bool, true-not-false}
 use Rattle.days.specs.{declared.Day.Day, Days.day}
-use Rattle.faults.specs.{declared.Fault.Fault, declared.Fault.TheVariants.NoSuchDate}
-use Rattle.faults.proofs.Checks.{by-checked}
+use Rattle.faults.specs.{declared.Refusal.Refusal, declared.Fault.TheVariants.NoSuchDate}
+use Rattle.faults.proofs.Checks.{by-checked, err-not-ok}
 use Rattle.calendar.specs.{Numbers.day_number, Texts.date_in}
-use Rattle.calendar.specs.declared.WhichDay.TheVariants as which-day
 use Rattle.rules.specs.Text.{Line, lines_of}
 use Rattle.register.specs.{Reader.line_long, inner.Fields.bytes_ahead}
 use Rattle.register.proofs.Walk.{first_line, lines-first}
-use Rattle.boards.specs.{Input.{start_right, start_check, start_said, diary_check, input_check, input_reading, refused_input}, inner.Walk.{start_of, noting_of, input_with}}
+use Rattle.boards.specs.{Input.{start_right, start_check, start_said, diary_check, input_check, input_reading, entered_in, refused_input}, inner.Walk.{start_of, noting_of, entered_with}}
 use Rattle.boards.proofs.Noting.{behind-is}
 
 module _ (n : ℕ) where
@@ -19,22 +20,15 @@ module _ (n : ℕ) where
   wrong [] e = refl
   wrong (b ∷ bs) e = rw (lines-first (b ∷ bs) (omega arith), e)
 
-  pub start-refused : (text : List ℕ) (f : Fault) (at : ℕ) → start_of n (first_line text) ≡ which-day.Refused f at
-      → refused_input f at ≡ input_reading n text
+  pub start-refused : (text : List ℕ) (e : Refusal) → start_of n (first_line text) ≡ Err e → Err e ≡ entered_in (input_reading n text)
   unfolding start_of
-  start-refused text f at h =
+  start-refused text e h =
       by_bool (start_right n (first_line text))
-      (λ t. absurd (never (rw t at h)))
-      (λ e.
-      let said : which-day.Refused NoSuchDate 0 ≡ which-day.Refused f at = rw e at h in
-      let fault : NoSuchDate ≡ f = cc in
-      let place : ◌≡◌ {A = ℕ} 0 at = cc in
-      rw (← fault, ← place) (wrong text e))
-    where
-      never : which-day.Is (day (day_number (date_in (first_line text).bytes))) ≡ which-day.Refused f at → ⊥
-      never e =
-          let z : ◌≡◌ {A = ℕ} 0 1 = cc in
-          omega arith
+      (λ t. absurd (err-not-ok e _ (sym (rw t at h))))
+      (λ f.
+      let there : ◌≡◌ {A = Result Day Refusal} (Refused NoSuchDate 0) (Err e) = rw f at h in
+      let same : record { fault = NoSuchDate; at = 0 } ≡ e = cc in
+      ap Err (sym same) ∙ ap entered_in (wrong text f))
 
   -- a text whose first line is right has a line
   some : (text : List ℕ) → start_right n (first_line text) ≡ true → 1 ≤ length text
@@ -48,28 +42,26 @@ module _ (n : ℕ) where
 
     -- the diary decides
     decided : start_right n (first_line text) ≡ true
-        → input_with (day (day_number (date_in (first_line text).bytes))) (noting_of rest) ≡ input_reading n text
-    unfolding input_reading input_check start_check start_said input_with noting_of
+        → entered_with (day (day_number (date_in (first_line text).bytes))) (noting_of rest) ≡ entered_in (input_reading n text)
+    unfolding input_reading input_check start_check start_said entered_with noting_of
     decided t =
         let lines = lines-first text (some text t) in
         by-checked (diary_check 1 rest) (λ c. rw (lines, t, c)) (λ f at c. rw (lines, t, c))
 
-    pub start-found : (d : Day) → start_of n (first_line text) ≡ which-day.Is d → input_with d (noting_of rest) ≡ input_reading n text
+    pub start-found : (d : Day) → start_of n (first_line text) ≡ Ok d → entered_with d (noting_of rest) ≡ entered_in (input_reading n text)
     unfolding start_of
     start-found d h =
         by_bool (start_right n (first_line text))
         (λ t.
-        let said : which-day.Is (day (day_number (date_in (first_line text).bytes))) ≡ which-day.Is d = rw t at h in
-        ap (λ e. input_with e (noting_of rest)) (sym (same (day (day_number (date_in (first_line text).bytes))) d said)) ∙ decided t)
+        let said : ◌≡◌ {A = Result Day Refusal} (Ok (day (day_number (date_in (first_line text).bytes)))) (Ok d) = rw t at h in
+        ap (λ e. entered_with e (noting_of rest)) (sym (same (day (day_number (date_in (first_line text).bytes))) d said)) ∙ decided t)
         (λ e. absurd (never d (rw e at h)))
       where
-        same : (e f : Day) → which-day.Is e ≡ which-day.Is f → e ≡ f
+        same : (e f : Day) → ◌≡◌ {A = Result Day Refusal} (Ok e) (Ok f) → e ≡ f
         same e f is = cc
 
-        never : (e : Day) → which-day.Refused NoSuchDate 0 ≡ which-day.Is e → ⊥
-        never e is =
-            let z : ◌≡◌ {A = ℕ} 0 1 = cc in
-            omega arith
+        never : (e : Day) → Refused NoSuchDate 0 ≡ Ok e → ⊥
+        never e is = err-not-ok _ e is
 
 -- ---- The first line, as it is cut from the text
 

@@ -1,5 +1,6 @@
--- The input. Entering: what a line gives. Noting: the diary, line after line. InputRead: the start, and then the diary. LongInput: its
--- head decides.
+-- The input. Answered: what an answer says of its check. Entering: what a line gives. Noting: the diary, line after line. InputRead: the
+-- start, and then the diary. LongInput: its head decides.
+pub mod Answered
 pub mod Entering
 pub mod Noting
 pub mod InputRead

@@ -1,9 +1,11 @@
 -- Of an input of more than 4,096 bytes the first 4,096 decide: a start and twenty lines have 171, the twenty-first line is refused by its
 -- shape, and a line that goes on beyond them has another shape, whether it is cut or not.
 use Rattle.base.proofs.Prelude.{ℕ, zero, suc, ◌+◌, ◌-◌, ◌*◌, ◌≤◌, ◌<◌, min, ◌≡◌, refl, sym, ap, ◌∙◌, true, false, ◌&&◌, List, [], ◌∷◌, arith, eqb, ltb, lt-ltb, dec_le, length, take, drop, length-take, length-take-le, length-drop, take_all}
+use Rattle.faults.specs.Checks.{Refused, Lawful}
 use lib.Seq.{take-take}
 use Rattle.base.proofs.Lists.{by_bool, and_left, and_right}
-use Rattle.faults.specs.{declared.Fault.Fault, declared.Fault.TheVariants.{TextTooLong, NoSuchDate}, declared.Checked.TheVariants.{Lawful, Refused}}
+use Rattle.faults.specs.declared.Fault.{Fault}
+use Rattle.faults.specs.declared.Fault.TheVariants.{TextTooLong, NoSuchDate}
 use Rattle.faults.proofs.Checks.{by-checked}
 use Rattle.calendar.specs.{Dates.date_exists, Texts.{fits, date_form, date_in}}
 use Rattle.calendar.proofs.Texts.{fits-length}

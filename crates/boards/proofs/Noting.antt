@@ -1,16 +1,20 @@
 -- The diary, line after line: what is decided at each, and what the lines so far come to.
-use Rattle.base.proofs.Prelude.{ℕ, suc, ◌+◌, ◌-◌, ◌≤◌, ◌<◌, ◌≡◌, sym, ap, ◌∙◌, Bool, true, false, not, cond, ◌&&◌, List, [], ◌∷◌, ◌++◌, map, map-append, arith, add-one, lt-ltb, le-ltb, ltb, leb, leb-true, not-false, dec_le, length, take, drop, get_or, set, length-drop, length-map, length-take-le, drop-drop, take-suc, take_all, get_or-drop}
+use Rattle.base.proofs.Prelude.{ℕ, suc, ◌+◌, ◌-◌, ◌≤◌, ◌<◌, ◌≡◌, sym, ap, ◌∙◌, true, not, cond, ◌&&◌, List, [], ◌∷◌, ◌++◌, map, map-append, arith, add-one, lt-ltb, le-ltb, ltb, leb, leb-true, not-false, dec_le, length, take, drop, get_or, set, length-drop, length-map, length-take-le, drop-drop, take-suc, take_all, get_or-drop}
+use Rattle.faults.specs.Checks.{Lawful}
 use mathlib.Core.Path.{ap₂}
 use Rattle.base.specs.Count.{filled}
 use Rattle.base.proofs.{Filling.filled-set, Lists.{and_left, and_right}}
-use Rattle.faults.specs.{declared.Fault.Fault, declared.Fault.TheVariants.{NoSuchDate, NoSuchEdition}, declared.Checked.TheVariants.{Lawful, Refused}, Checks.{then, refuse_if, or_refused}}
-use Rattle.faults.proofs.Checks.{then-second, refuse_if-not, or_refused-lawful}
+use Rattle.faults.specs.declared.Refusal.{Refusal}
+use Rattle.std.specs.Prelude.{Ok, Err}
+use Rattle.faults.specs.declared.Fault.TheVariants.{NoSuchDate, NoSuchEdition}
+use Rattle.faults.specs.Checks.{refuse_if}
+use Rattle.faults.proofs.Checks.{then-second, refuse_if-not}
 use Rattle.calendar.specs.{Yearly.{no_edition, in_no_year}, Texts.fits}
 use Rattle.rules.specs.Text.{Line}
 use Rattle.register.specs.{Reader.line_long, inner.Fields.bytes_ahead}
 use Rattle.register.proofs.{Splitting.ahead_within, Walk.first_line}
-use Rattle.boards.specs.{declared.Test.Test, Input.{diary_form, set_for, test_in, test_right, test_check, diary_check, diary_in, no_test}, inner.Walk.{noted_of, noting_of, refused_noting}}
-use Rattle.boards.specs.declared.entered.Noted.TheVariants as noted
+use Rattle.boards.specs.{declared.Test.Test, Input.{diary_form, set_for, test_in, test_right, test_check, diary_check, diary_in, no_test}, inner.Walk.{noted_of, noting_of}}
+use Rattle.boards.proofs.Answered.{check-refused, check-lawful}
 
 -- ---- The line at a place, as it is cut from the text
 
@@ -49,42 +53,14 @@ module _ (text : List ℕ) (at : ℕ) (inside : at ≤ length text) where
 
 -- ---- What a line gives
 
--- both refusals come with 0
-refusal : (a b : Bool) (t : Test) (f : Fault)
-    → or_refused (λ g at. noted.Refused g) (then (refuse_if a NoSuchEdition 0) (refuse_if b NoSuchDate 0)) (noted.Test t) ≡ noted.Refused f
-    → then (refuse_if a NoSuchEdition 0) (refuse_if b NoSuchDate 0) ≡ Refused f 0
-refusal true b t f h =
-    let same : NoSuchEdition ≡ f = cc in
-    ap (λ g. Refused g 0) same
-refusal false true t f h =
-    let same : NoSuchDate ≡ f = cc in
-    ap (λ g. Refused g 0) same
-refusal false false t f h =
-    let z : ◌≡◌ {A = ℕ} 0 1 = cc in
-    absurd (omega arith)
-
 module _ (j : ℕ) (line : Line) where
-  refused-check : (f : Fault) → noted_of j line ≡ noted.Refused f → test_check j line ≡ Refused f 0
-  unfolding noted_of test_check
-  refused-check f h =
-      let t = test_in line.bytes in
-      refusal (fits diary_form line.bytes && no_edition t.edition) (not (test_right j line)) t f h
-
-  lawful-check : (t : Test) → noted_of j line ≡ noted.Test t → (test_check j line ≡ Lawful) × (test_in line.bytes ≡ t)
+  refused-check : (e : Refusal) → noted_of j line ≡ Err e → test_check j line ≡ Err e
   unfolding noted_of
-  lawful-check t h =
-      let both =
-      or_refused-lawful (λ g at. noted.Refused g) (test_check j line) (noted.Test (test_in line.bytes)) (noted.Test t)
-      (λ f at e. never f e) h in
-      (both.0, same (test_in line.bytes) both.1)
-    where
-      never : (f : Fault) → noted.Refused f ≡ noted.Test t → ⊥
-      never f e =
-          let z : ◌≡◌ {A = ℕ} 0 1 = cc in
-          omega arith
+  refused-check e h = check-refused (test_check j line) (test_in line.bytes) e h
 
-      same : (s : Test) → noted.Test s ≡ noted.Test t → s ≡ t
-      same s e = cc
+  lawful-check : (t : Test) → noted_of j line ≡ Ok t → (test_check j line ≡ Lawful) × (test_in line.bytes ≡ t)
+  unfolding noted_of
+  lawful-check t h = check-lawful (test_check j line) (test_in line.bytes) t h
 
   right : test_check j line ≡ Lawful → test_right j line ≡ true
   unfolding test_check
@@ -106,7 +82,7 @@ module _ (j : ℕ) (line : Line) where
       leb-true j 20
       (and_right (fits diary_form line.bytes && not (in_no_year (set_for (test_in line.bytes))) && line.ended) (leb j 20) (right h))
 
-  pub few : (t : Test) → noted_of j line ≡ noted.Test t → j ≤ 20
+  pub few : (t : Test) → noted_of j line ≡ Ok t → j ≤ 20
   few t h = twenty (lawful-check t h).0
 
 -- ---- The lines so far
@@ -115,7 +91,7 @@ module _ (lines : List Line) where
   pub noting-all : (n : ℕ) (tests : List Test) → drop n lines ≡ [] → n ≤ length lines
       → diary_check 1 lines ≡ diary_check (n + 1) (drop n lines)
       → tests ≡ filled 20 no_test (diary_in (take n lines))
-      → record { checked = Lawful; diary = record { count = n; tests = tests } } ≡ noting_of lines
+      → Ok (record { count = n; tests = tests }) ≡ noting_of lines
   unfolding noting_of diary_check diary_in
   noting-all n tests none upto same said =
       let count : n ≡ length lines = omega (arith, length-drop n lines, ap length none) in
@@ -124,16 +100,16 @@ module _ (lines : List Line) where
       let long : n ≡ length (map (λ line. test_in line.bytes) lines) = count ∙ sym (length-map lines (λ line. test_in line.bytes)) in
       let tests-are : tests ≡ filled 20 no_test (map (λ line. test_in line.bytes) lines) =
       said ∙ ap (λ ls. filled 20 no_test (map (λ line. test_in line.bytes) ls)) all in
-      rw lawful (ap₂ (λ k ts. record { checked = Lawful; diary = record { count = k; tests = ts } }) long tests-are)
+      rw lawful (ap₂ (λ k ts. Ok (record { count = k; tests = ts })) long tests-are)
 
   module _ (n : ℕ) (line : Line) (rest : List Line) (here : drop n lines ≡ line ∷ rest)
       (same : diary_check 1 lines ≡ diary_check (n + 1) (drop n lines))
     where
-      pub noting-refused : (f : Fault) → noted_of (n + 1) line ≡ noted.Refused f → refused_noting f 0 ≡ noting_of lines
+      pub noting-refused : (e : Refusal) → noted_of (n + 1) line ≡ Err e → Err e ≡ noting_of lines
       unfolding noting_of diary_check
-      noting-refused f h = rw (same, here, refused-check (n + 1) line f h)
+      noting-refused e h = rw (same, here, refused-check (n + 1) line e h)
 
-      module _ (t : Test) (is : noted_of (n + 1) line ≡ noted.Test t) where
+      module _ (t : Test) (is : noted_of (n + 1) line ≡ Ok t) where
         pub later-lines : drop (n + 1) lines ≡ rest
         later-lines = sym (drop-drop 1 n lines) ∙ ap (drop 1) here
 

@@ -1,8 +1,8 @@
 -- A page of 600 bytes has room for any day of a run: its place is one of ten, and the diary has at most twenty tests.
 use Rattle.base.proofs.Prelude.{ℕ, zero, suc, ◌-◌, ◌≤◌, ◌≡◌, refl, ap, ◌∙◌, Bool, cond, List, [], ◌∷◌, arith, eqb, length, drop, set, length-append, length-map, length-set, length-take}
+use Rattle.faults.specs.Checks.{Lawful}
 use Rattle.base.specs.Count.{All, keep, filled}
 use Rattle.base.proofs.{Lists.by_bool, Order.all_append}
-use Rattle.faults.specs.declared.Checked.TheVariants.{Lawful}
 use Rattle.faults.proofs.Checks.{refused-not-lawful, by-checked, then-first, then-second}
 use Rattle.calendar.specs.Numbers.{date_of}
 use Rattle.rules.specs.{declared.Plan.Plan, declared.Release.Release, declared.Slot.Slot, declared.Use.Use, declared.Use.TheVariants.{Idle, Work, Move}, Plan.strings_of, Run.{none_ahead, late_slot, empty_slot, new_slot, join_from, joined, late_at, holder, payer, taken, next_up, given, spent, morning, state_at, use_on, late_on, history}, Stints.place_used, Lines.{bytes_of, decimal, worded_in}, Text.{Line, lines_of}}

@@ -13,14 +13,16 @@
 --     diary_in lines         the tests of the diary, in order
 --     diary_of ts            the diary of the tests ts, at most twenty; no_test stands where there is none
 --     input_reading n text   what reading the input gives, for a run of n days; on a refusal day 0 and an empty diary (refused_input)
+--     entered_in i           what is answered for it
 -- All refusals come with 0. Lines are those of a plan file: what stands up to its 0a, and only the last can lack one.
-use Rattle.std.specs.Prelude.{ℕ, suc, ◌+◌, Bool, not, ◌&&◌, List, [], ◌∷◌, map, leb, length, drop}
+use Rattle.std.specs.Prelude.{ℕ, suc, ◌+◌, Bool, not, ◌&&◌, List, [], ◌∷◌, map, leb, length, drop, Result, Ok}
+use Rattle.faults.specs.Checks.{Refused, Lawful, Checked}
+use Rattle.days.specs.declared.Day.{Day}
 use Rattle.days.specs.Days.{day}
+use Rattle.faults.specs.declared.Refusal.{Refusal}
 use Rattle.base.specs.Count.{filled}
 use Rattle.faults.specs.declared.Fault.{Fault}
 use Rattle.faults.specs.declared.Fault.TheVariants.{NoSuchDate, NoSuchEdition}
-use Rattle.faults.specs.declared.Checked.{Checked}
-use Rattle.faults.specs.declared.Checked.TheVariants.{Lawful, Refused}
 use Rattle.faults.specs.Checks.{then, refuse_if, or_refused}
 use Rattle.calendar.specs.Dates.{date_exists}
 use Rattle.calendar.specs.Numbers.{day_number, last_day}
@@ -30,7 +32,7 @@ use Rattle.rules.specs.Text.{Line, lines_of}
 use Rattle.calendar.specs.declared.YearlyDate.{YearlyDate}
 use Rattle.boards.specs.declared.Test.{Test}
 use Rattle.boards.specs.declared.Diary.{Diary}
-use Rattle.boards.specs.declared.Input.{Input}
+use Rattle.boards.specs.declared.CrewInput.{CrewInput}
 
 -- ---- The start
 
@@ -90,6 +92,12 @@ no_test = record { month = 0; day = 0; edition = 0 }
 abbrev pub diary_of : List Test → Diary
 diary_of ts = record { count = length ts; tests = filled 20 no_test ts }
 
+-- what reading gives: whether it is lawful, and then the start and the diary
+pub record Input : Type 0 where
+  pub checked : Checked
+  pub start : Day
+  pub diary : Diary
+
 abbrev pub refused_input : Fault → ℕ → Input
 refused_input f at = record { checked = Refused f at; start = day 0; diary = diary_of [] }
 
@@ -98,3 +106,6 @@ input_reading n text =
     let lines = lines_of text in
     or_refused refused_input (input_check n lines)
     (record { checked = Lawful; start = day (start_said lines); diary = diary_of (diary_in (drop 1 lines)) })
+
+abbrev pub entered_in : Input → Result CrewInput Refusal
+entered_in i = or_refused Refused i.checked (Ok (record { start = i.start; diary = i.diary }))

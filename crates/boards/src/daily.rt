@@ -1,5 +1,5 @@
 // A day of the board: its line, and one for each yearly test that falls on it.
-ghost use Rattle.std.specs.Prelude.{◌≡◌, cond, [], ◌∷◌, ◌++◌, ◌+◌, ◌-◌, ◌*◌, ◌%◌, ◌≤◌, min, length, replicate};
+ghost use Rattle.std.specs.Prelude.{◌≡◌, count_by, [], ◌∷◌, ◌++◌, ◌+◌, ◌-◌, ◌*◌, ◌%◌, ◌≤◌, length, replicate};
 ghost use Rattle.base.specs.Count.{keep, put_at};
 ghost use Rattle.calendar.specs.Numbers.{date_of, last_day};
 ghost use Rattle.boards.specs.Board.{tests_of};
@@ -7,28 +7,25 @@ ghost use Rattle.boards.specs.Paging.{fitted, days_fitted};
 ghost use Rattle.boards.specs.inner.Daily.{head_with, yearly_tail, falls_by, tests_text, day_text, put_from};
 
 use super::{Diary, Filled, Test};
-use calendar::{Date, WhichDate, YearlyDate, falls_on};
+use calendar::{Date, YearlyDate, falls_on};
 use days::Day;
-use lines::{put_text, used_line};
+use lines::used_line;
 use rules::Use;
 
 // The date of a day of the calendar.
+#[tactic(auto, unfolding(calendar::specs::Refusals::date_answer))]
 pub(crate) fn date_on(day: u32) -> Date
     requires { day ≤ last_day }
     ensures exact { result ≡ date_of day }
 {
-    let which = Date::from_day(Day(day));
-    match which {
-        WhichDate::Is(d) => d,
-        WhichDate::Refused { fault: _, at: _ } => Date::first(),
-    }
+    Date::from_day(Day(day)).unwrap_or(Date::EPOCH)
 }
 
 // The last digit of a number.
 fn figure(n: u32) -> u8
     ensures exact { result ≡ 0x30 + n % 10 }
 {
-    48 + (n % 10) as u8
+    b'0' + (n % 10) as u8
 }
 
 // A date and its weekday, each with a space behind it.
@@ -42,17 +39,17 @@ pub(crate) fn head(d: Date, day: u32) -> [u8; 15]
         figure(d.year / 10 / 10),
         figure(d.year / 10),
         figure(d.year),
-        45,
+        b'-',
         figure(d.month / 10),
         figure(d.month),
-        45,
+        b'-',
         figure(d.day / 10),
         figure(d.day),
-        32,
+        b' ',
         names[at],
         names[at + 1],
         names[at + 2],
-        32,
+        b' ',
     ]
 }
 
@@ -61,23 +58,24 @@ fn yearly_tail(t: Test) -> [u8; 13]
     ensures exact { result ≡ yearly_tail t }
 {
     [
-        121,
-        101,
-        97,
-        114,
-        108,
-        121,
-        32,
+        b'y',
+        b'e',
+        b'a',
+        b'r',
+        b'l',
+        b'y',
+        b' ',
         figure(t.month / 10),
         figure(t.month),
-        45,
+        b'-',
         figure(t.day / 10),
         figure(t.day),
-        10,
+        b'\n',
     ]
 }
 
 // Whether a test falls on a date.
+#[tactic(auto, unfolding(crate::specs::inner::Daily::falls_by))]
 fn falls(t: Test, d: Date) -> bool
     ensures exact { result ≡ falls_by d t }
 {
@@ -94,7 +92,9 @@ fn put(page: &mut [u8], at: usize, text: &[u8]) -> usize
     ensures next { result ≡ at + length text.now }
     ensures stored { page.new ≡ put_at at text.now page.old }
 {
-    at + put_text(text, &mut page[at..])
+    let next = at + text.len();
+    page[at..next].copy_from_slice(text);
+    next
 }
 
 // A line: its head and what stands behind.
@@ -120,18 +120,11 @@ fn put_test(page: &mut [u8], at: usize, head: [u8; 15], t: Test, d: Date) -> usi
     at
 }
 
-// How many tests count.
-fn counted(count: usize) -> usize
-    ensures exact { result ≡ min count 20 }
+// How many of some tests fall on a date.
+fn falls_in(tests: &[Test], d: Date) -> usize
+    ensures exact { result ≡ count_by (falls_by d) tests.now }
 {
-    if count < 20 { count } else { 20 }
-}
-
-// 1 for one, 0 for none.
-fn one(falls: bool) -> usize
-    ensures exact { result ≡ cond falls 1 0 }
-{
-    if falls { 1 } else { 0 }
+    tests.iter().filter(|t| falls(**t, d)).count()
 }
 
 // How many tests of a diary fall on a date.
@@ -139,15 +132,7 @@ fn falling(diary: Diary, d: Date) -> usize
     ensures exact { result ≡ length (keep (falls_by d) (tests_of diary)) }
     ensures few { result ≤ 20 }
 {
-    let n = counted(diary.count);
-    let tests = diary.tests;
-    let mut found: usize = 0;
-    let mut i: usize = 0;
-    while i < n {
-        found += one(falls(tests[i], d));
-        i += 1;
-    }
-    found
+    falls_in(&diary.tests[..diary.count.min(20)], d)
 }
 
 // The lines of the tests of a diary that fall on a date.
@@ -156,13 +141,9 @@ fn put_tests(page: &mut [u8], at: usize, head: [u8; 15], diary: Diary, d: Date) 
     ensures next { result ≡ at + length (tests_text head d (tests_of diary)) }
     ensures stored { page.new ≡ put_at at (tests_text head d (tests_of diary)) page.old }
 {
-    let n = counted(diary.count);
-    let tests = diary.tests;
     let mut place = at;
-    let mut i: usize = 0;
-    while i < n {
-        place = put_test(page, place, head, tests[i], d);
-        i += 1;
+    for t in &diary.tests[..diary.count.min(20)] {
+        place = put_test(page, place, head, *t, d);
     }
     place
 }

@@ -1,14 +1,13 @@
 // The crew's board (document 02, W-214): a start date and a diary, read, and the days of a run, written page by page.
 #![tactic(auto)]
 
-mod daily;
-mod entered;
-mod paging;
-mod whole;
+mod daily; // daily.rt: a day of the board
+mod entered; // entered.rt: standard input
+mod paging; // paging.rt: pages of the board
+mod whole; // whole.rt: a plan file and an input
 
 use days::Day;
 pub use entered::input_read;
-use faults::Checked;
 pub use paging::{board_end, board_page};
 use rules::Outcome;
 pub use whole::board_read;
@@ -35,10 +34,9 @@ pub struct Diary {
     pub tests: [Test; 20],
 }
 
-// What standard input says: whether it is lawful and, where it is, the day of the start and the diary.
+// What standard input says: the day of the start and the diary.
 #[derive(Clone, Copy)]
-pub struct Input {
-    pub checked: Checked,
+pub struct CrewInput {
     pub start: Day,
     pub diary: Diary,
 }
@@ -46,7 +44,6 @@ pub struct Input {
 // A board to be written: the day of the start, the diary, how many stints of the run a lent list holds, and how the run ended.
 #[derive(Clone, Copy)]
 pub struct Board {
-    pub checked: Checked,
     pub start: Day,
     pub diary: Diary,
     pub stints: usize,

@@ -1,5 +1,5 @@
 // Pages of a board, from the stints of a run in a lent list: five numbers each.
-ghost use Rattle.std.specs.Prelude.{◌≡◌, ◌-◌, min, length};
+ghost use Rattle.std.specs.Prelude.{◌≡◌, length};
 ghost use Rattle.lines.specs.Pages.{length_told, page_told};
 ghost use Rattle.boards.specs.Paging.{page_filled, page_after};
 ghost use Rattle.boards.specs.Whole.{end_text};
@@ -14,19 +14,6 @@ use run::stint_at;
 const LAST_DAY: u32 = 146_096;
 
 const NOTHING: Filled = Filled { days: 0, length: 0 };
-
-fn smaller(a: u32, b: u32) -> u32
-    ensures exact { result ≡ min a b }
-{
-    if a < b { a } else { b }
-}
-
-// How much larger a is.
-fn less(a: u32, b: u32) -> u32
-    ensures exact { result ≡ a - b }
-{
-    if a < b { 0 } else { a - b }
-}
 
 // The days of the board from a day of its run on, whole days, as many as fit the page. The list holds the run's stints.
 pub fn board_page(b: Board, list: &[u32], from: Day, page: &mut [u8]) -> Filled
@@ -55,22 +42,15 @@ pub fn board_page(b: Board, list: &[u32], from: Day, page: &mut [u8]) -> Filled
         let stint = stint_at(list, i);
         let long = stint.length.0;
         let used = stint.used;
-        let left = less(long, skip);
-        let filled = put_days(
-            page,
-            at,
-            day,
-            smaller(left, LAST_DAY + 1 - day),
-            used,
-            diary,
-        );
+        let left = long.saturating_sub(skip);
+        let filled = put_days(page, at, day, left.min(LAST_DAY + 1 - day), used, diary);
         at += filled.length;
         days += filled.days;
         if filled.days < left as usize {
             return Filled { days, length: at };
         }
         day += left;
-        skip = less(skip, long);
+        skip = skip.saturating_sub(long);
         i += 1;
     }
     Filled { days, length: at }
@@ -106,10 +86,6 @@ pub fn board_end(b: Board, page: &mut [u8]) -> usize
     let outcome = b.outcome;
     match outcome {
         Outcome::Miss { day, place } => put_miss(start, day, place, page),
-        Outcome::Clean {
-            work: _,
-            moving: _,
-            idle: _,
-        } => 0,
+        Outcome::Clean { .. } => 0,
     }
 }

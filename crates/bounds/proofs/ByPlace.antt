@@ -1,8 +1,12 @@
 -- Laws for loops over the strings of a plan: the array of ten of which the first n count, one string after the other.
-use Rattle.base.proofs.Prelude.{ℕ, ◌+◌, ◌-◌, ◌≤◌, ◌<◌, min, ◌≡◌, sym, ◌∙◌, true, false, List, arith, dec_le, add-one, length, take, drop, get_or, length-take, get_or-eq_default, take_all, get_or-take}
+use Rattle.base.proofs.Prelude.{ℕ, suc, ◌+◌, ◌-◌, ◌≤◌, ◌<◌, min, ◌≡◌, sym, ◌∙◌, Bool, not, refl, List, [], ◌∷◌, arith, dec_le, length, take, length-take, get_or-eq_default, take_all}
+use Rattle.faults.specs.Checks.{Refused, Lawful, Checked}
 use Rattle.rules.specs.{declared.BatteryString.BatteryString, declared.Plan.Plan, Plan.{string_lawful, no_string, string_at}, Refusal.strings_check}
-use Rattle.faults.specs.{declared.Fault.TheVariants.OutOfBounds, declared.Checked.TheVariants.{Lawful, Refused}}
-use Rattle.base.proofs.FirstN.{part-cons, part_end}
+use Rattle.faults.specs.declared.Fault.TheVariants.{OutOfBounds}
+use Rattle.base.proofs.Lists.{by_bool}
+use Rattle.std.specs.Prelude.{Option, Some, None, position}
+use Rattle.std.specs.List.{position_from}
+use Rattle.std.proofs.lemmas.Iterator.Adapters.{position_from-zero}
 
 -- of m elements, as many as count are those up to the smaller of k and m
 pub take_min {ℓ} : {A : Type ℓ} (k m : ℕ) (xs : List A) → length xs ≡ m → take (min k m) xs ≡ take k xs
@@ -18,9 +22,6 @@ take_min k m xs e =
 
 -- ---- The string at a place
 
-pub string_at-is : (p : Plan) (i : ℕ) → 1 ≤ i → i ≤ p.n → string_at p i ≡ get_or p.strings (i - 1) no_string
-string_at-is p i h k = get_or-take p.n p.strings (i - 1) no_string (omega arith)
-
 pub string_at-out : (p : Plan) (i : ℕ) → length p.strings < i → string_at p i ≡ no_string
 string_at-out p i h =
     let past : length (take p.n p.strings) ≤ i - 1 = omega (arith, length-take p.n p.strings) in
@@ -28,16 +29,22 @@ string_at-out p i h =
 
 -- ---- strings_check
 
-pub strings_check-good : (k n i : ℕ) (xs : List BatteryString) → i < n → n ≤ length xs → string_lawful (get_or xs i no_string) ≡ true
-    → strings_check k (drop i (take n xs)) ≡ strings_check (k + 1) (drop (i + 1) (take n xs))
-unfolding strings_check
-strings_check-good k n i xs h m t = rw (part-cons n i xs no_string h m, add-one k, t)
+abbrev pub outside : BatteryString → Bool
+outside s = not (string_lawful s)
 
-pub strings_check-bad : (k n i : ℕ) (xs : List BatteryString) → i < n → n ≤ length xs → string_lawful (get_or xs i no_string) ≡ false
-    → strings_check k (drop i (take n xs)) ≡ Refused OutOfBounds k
-unfolding strings_check
-strings_check-bad k n i xs h m e = rw (part-cons n i xs no_string h m, e)
+-- what the check says of the string found, counted from 0
+abbrev pub at_place : ℕ → Option ℕ → Checked
+at_place k None = Lawful
+at_place k (Some i) = Refused OutOfBounds (i + k)
 
-pub strings_check-end : (k n i : ℕ) (xs : List BatteryString) → n ≤ i → strings_check k (drop i (take n xs)) ≡ Lawful
+-- the check finds the first string outside its bounds
+strings_check-from : (k i : ℕ) (ss : List BatteryString) → strings_check (i + k) ss ≡ at_place k (position_from outside i ss)
 unfolding strings_check
-strings_check-end k n i xs h = rw (part_end n i xs h)
+strings_check-from k i [] = refl
+strings_check-from k i (s ∷ ss) =
+    let later = strings_check-from k (i + 1) ss in
+    let next : suc (i + k) ≡ i + 1 + k = omega arith in
+    by_bool (string_lawful s) (λ t. rw (t, next) later) (λ e. rw e)
+
+pub strings_check-at : (ss : List BatteryString) → strings_check 1 ss ≡ at_place 1 (position outside ss)
+strings_check-at ss = rw (position_from-zero outside ss) (strings_check-from 1 0 ss)

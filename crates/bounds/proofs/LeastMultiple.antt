@@ -1,8 +1,7 @@
 -- H is the least common multiple of all T: the numbers that every T divides are the multiples of one number.
 --     period s          T of s
---     Done xs n h i     h, 1 to 100,000, is the least common multiple of the first i of n strings
-use Rattle.base.proofs.Prelude.{ℕ, ◌+◌, ◌≤◌, ◌<◌, ◌≡◌, refl, sym, ap, ◌∙◌, ◌↔◌, true, false, List, [], ◌∷◌, arith, add-one, dvd_refl, le_of_dvd, length, take, get_or}
-use lib.Seq.{take-take}
+--     Done ss h i       h, 1 to 100,000, is the least common multiple of the first i strings
+use Rattle.base.proofs.Prelude.{ℕ, ◌+◌, ◌≤◌, ◌<◌, ◌≡◌, refl, sym, ap, ◌∙◌, ◌↔◌, true, false, List, [], ◌∷◌, arith, add-one, dvd_refl, le_of_dvd, length, take, take_all, get_or}
 use Rattle.base.specs.{Divisors.divides, Multiples.{lcm, lcm_of, CommonMultiple}}
 use Rattle.base.proofs.{Divisors.divides-is, Multiples.{lcm_of-dvd-iff, lcm_of-take, lcm_of-past}}
 use Rattle.rules.specs.{declared.BatteryString.BatteryString, declared.Plan.Plan, Plan.{strings_of, no_string, common_multiple, multiple_of}}
@@ -68,46 +67,39 @@ module _ (p : Plan) where
 
 -- ---- String after string
 
-pub record Done (xs : List BatteryString) (n h i : ℕ) : Type 0 where
-  pub within : i ≤ n
-  pub few : n ≤ length xs
+pub record Done (ss : List BatteryString) (h i : ℕ) : Type 0 where
+  pub within : i ≤ length ss
   pub low : 1 ≤ h
   pub high : h ≤ 100000
-  pub least : h ≡ lcm_of period (take i xs)
+  pub least : h ≡ lcm_of period (take i ss)
 
-module _ (xs : List BatteryString) (n : ℕ) where
-  pub done-start : n ≤ length xs → Done xs n 1 0
+module _ (ss : List BatteryString) where
+  pub done-start : Done ss 1 0
   unfolding lcm_of
-  done-start few = record { within = omega arith; few = few; low = omega arith; high = omega arith; least = refl }
+  done-start = record { within = omega arith; low = omega arith; high = omega arith; least = refl }
 
   -- the end: H is found
-  pub done_end : (p : Plan) (h i : ℕ) → take n xs ≡ strings_of p → Done xs n h i → n ≤ i → h ≡ multiple_of p
+  pub done_end : (p : Plan) (h i : ℕ) → ss ≡ strings_of p → Done ss h i → length ss ≤ i → h ≡ multiple_of p
   done_end p h i counted d last =
-      let all : i ≡ n = omega arith in
-      let is : h ≡ lcm_of period (strings_of p) = d.least ∙ ap (λ k. lcm_of period (take k xs)) all ∙ ap (lcm_of period) counted in
-      is ∙ sym (multiple_of-lcm p (omega arith) (omega arith))
+      let is : h ≡ lcm_of period (strings_of p) = d.least ∙ ap (lcm_of period) (take_all i ss last) ∙ ap (lcm_of period) counted in
+      is ∙ sym (multiple_of-lcm p (omega (arith, d.low, is)) (omega (arith, d.high, is)))
 
   -- r is what the next string makes of h
-  module _ (h i r : ℕ) (d : Done xs n h i) (more : i < n) (next : r ≡ capped 100000 (lcm h (period (get_or xs i no_string)))) where
-    joined : r ≡ capped 100000 (lcm_of period (take (i + 1) xs))
-    joined =
-        let inside : i < length xs = omega arith in
-        next ∙ ap (capped 100000) (rw (d.least, add-one i) (sym (lcm_of-take period xs no_string i inside)))
+  module _ (h i r : ℕ) (d : Done ss h i) (more : i < length ss) (next : r ≡ capped 100000 (lcm h (period (get_or ss i no_string)))) where
+    joined : r ≡ capped 100000 (lcm_of period (take (i + 1) ss))
+    joined = next ∙ ap (capped 100000) (rw (d.least, add-one i) (sym (lcm_of-take period ss no_string i more)))
 
-    pub done_next : r ≤ 100000 → Done xs n r (i + 1)
+    pub done_next : r ≤ 100000 → Done ss r (i + 1)
     done_next high =
-        let whole = capped-whole 100000 (lcm_of period (take (i + 1) xs)) (omega (arith, joined)) in
+        let whole = capped-whole 100000 (lcm_of period (take (i + 1) ss)) (omega (arith, joined)) in
         record {
           within = omega arith;
-          few = d.few;
           low = omega (arith, joined, whole.0, whole.1);
           high = high;
           least = joined ∙ whole.1;
         }
 
-    pub done-past : (p : Plan) → take n xs ≡ strings_of p → 100000 < r → r ≡ multiple_of p
+    pub done-past : (p : Plan) → ss ≡ strings_of p → 100000 < r → r ≡ multiple_of p
     done-past p counted over =
-        let first : take (i + 1) (strings_of p) ≡ take (i + 1) xs = ap (take (i + 1)) (sym counted)
-        ∙ take-take (i + 1) n xs (omega arith) in
-        let out = capped-past 100000 (lcm_of period (take (i + 1) xs)) (omega (arith, joined)) in
-        joined ∙ capped-out 100000 _ out ∙ sym (multiple_of-past p (i + 1) (rw first out))
+        let out = capped-past 100000 (lcm_of period (take (i + 1) ss)) (omega (arith, joined)) in
+        joined ∙ capped-out 100000 _ out ∙ sym (multiple_of-past p (i + 1) (rw (← counted) out))

@@ -1,5 +1,4 @@
 pub mod ByPlace
 pub mod LeastMultiple
 pub mod Seen
-pub mod InTime
 pub mod ReleaseWalk

@@ -1,12 +1,13 @@
 -- Laws of what the code remembers of the releases seen: it decides the next release as the list itself does.
 --     Admitted p latest last r   the facts that admits tests
-use Rattle.base.proofs.Prelude.{ℕ, zero, suc, ◌+◌, ◌-◌, ◌≤◌, ◌<◌, ◌≡◌, refl, sym, ap, ◌∙◌, Bool, true, false, not, ◌&&◌, List, [], ◌∷◌, arith, dec_le, add-one, lt-ltb, le-ltb, ltb-true, ltb-false, eq-eqb, ne_eqb, not-true, ltb, eqb, length, take, drop, get_or}
+use Rattle.base.proofs.Prelude.{ℕ, zero, suc, ◌+◌, ◌-◌, ◌≤◌, ◌<◌, ◌≡◌, refl, sym, ap, ◌∙◌, Bool, true, false, not, ◌&&◌, List, [], ◌∷◌, arith, dec_le, add-one, le-ltb, ltb-true, ltb-false, eq-eqb, ne_eqb, not-true, ltb, eqb, length, drop, drop-cons, drop_of_length-le, get_or}
+use Rattle.std.specs.Prelude.{Some, None, Option}
 use Rattle.days.specs.{declared.Day.Day, declared.Length.Length}
 use Rattle.rules.specs.{declared.BatteryString.BatteryString, declared.Plan.Plan, declared.Release.Release, Plan.string_at, Release.{too_close, out_of_order, release_lawful, unlawful_from, no_release}}
 use Rattle.faults.specs.Checks.{in_bounds}
 use Rattle.faults.proofs.Checks.{in_bounds-low, in_bounds-high, in_bounds-yes}
-use Rattle.base.proofs.{FirstN.{part-cons, part_end}, Lists.{by_bool, and_left, and_right, true-not-false}}
-use Rattle.bounds.specs.{declared.releases.Last.Last, declared.releases.Last.TheVariants.{Never, On}, inner.Seen.{latest_of, last_of, remembered_of, too_soon, admits}}
+use Rattle.base.proofs.{Lists.{by_bool, and_left, and_right, true-not-false}}
+use Rattle.bounds.specs.inner.Seen.{latest_of, last_of, remembered_of, too_soon, admits}
 use Rattle.bounds.proofs.ByPlace.{string_at-out}
 
 -- ---- The list, and what is remembered of it
@@ -28,7 +29,7 @@ admits-is p seen r = rw (order_is r seen, apart-is (string_at p r.place).t r see
 
 -- ---- The facts that the code tests
 
-pub record Admitted (p : Plan) (latest : Day) (last : Last) (r : Release) : Type 0 where
+pub record Admitted (p : Plan) (latest : Day) (last : Option Day) (r : Release) : Type 0 where
   pub place_low : 1 ≤ r.place
   pub place_high : r.place ≤ p.n
   pub need_low : 1 ≤ r.need.0
@@ -39,7 +40,7 @@ pub record Admitted (p : Plan) (latest : Day) (last : Last) (r : Release) : Type
   pub in_order : latest.0 ≤ r.day.0
   pub apart : too_soon last r.due (string_at p r.place).t ≡ false
 
-module _ (p : Plan) (latest : Day) (last : Last) (r : Release) where
+module _ (p : Plan) (latest : Day) (last : Option Day) (r : Release) where
   P : Bool
   P = in_bounds 1 r.place p.n
 
@@ -85,20 +86,6 @@ module _ (p : Plan) (latest : Day) (last : Last) (r : Release) where
   pub admits-not : (Admitted p latest last r → ⊥) → admits p latest last r ≡ false
   admits-not out = by_bool (admits p latest last r) (λ t. absurd (out (admits-facts t))) (λ e. e)
 
-  -- all tests but the last have passed
-  pub admits-late : 1 ≤ r.place → r.place ≤ p.n → 1 ≤ r.need.0 → r.need.0 ≤ (string_at p r.place).c.0
-      → r.day.0 < p.run.0 → latest.0 ≤ r.day.0 → too_soon last r.due (string_at p r.place).t ≡ false
-      → admits p latest last r ≡ in_bounds r.due.0 r.day.0 (r.due.0 + (string_at p r.place).j.0)
-  unfolding admits
-  admits-late a b d e f g i =
-      let place = in_bounds-yes 1 r.place p.n a b in
-      let need = in_bounds-yes 1 r.need.0 (string_at p r.place).c.0 d e in
-      let run = lt-ltb r.day.0 p.run.0 f in
-      let order = le-ltb r.day.0 latest.0 g in
-      by_bool (in_bounds r.due.0 r.day.0 (r.due.0 + (string_at p r.place).j.0))
-      (λ t. rw (place, need, run, t, order, i))
-      (λ no. rw (place, need, run, no))
-
 -- ---- A list walked from its head: what is seen before place i, the latest first
 
 pub seen_to : List Release → ℕ → List Release
@@ -118,7 +105,7 @@ unfolding latest_of
 latest_of-next rs i = rw (seen_to-next rs i)
 
 pub last_of-same : (rs : List Release) (i : ℕ) → last_of (get_or rs i no_release).place (seen_to rs (i + 1))
-    ≡ On (get_or rs i no_release).due
+    ≡ Some (get_or rs i no_release).due
 unfolding last_of
 last_of-same rs i = rw (seen_to-next rs i, eq-eqb (get_or rs i no_release).place (get_or rs i no_release).place refl)
 
@@ -127,24 +114,23 @@ pub last_of-other : (rs : List Release) (i k : ℕ) → ((get_or rs i no_release
 unfolding last_of
 last_of-other rs i k other = rw (seen_to-next rs i, ne_eqb (get_or rs i no_release).place k other)
 
-module _ (p : Plan) (rs : List Release) (end i : ℕ) (inside : i < end) (fits : end ≤ length rs) where
+module _ (p : Plan) (rs : List Release) (i : ℕ) (inside : i < length rs) where
   pub unlawful_from-good : (k : ℕ) → release_lawful p (seen_to rs i) (get_or rs i no_release) ≡ true
-      → unlawful_from p (seen_to rs i) k (drop i (take end rs)) ≡ unlawful_from p (seen_to rs (i + 1)) (k + 1) (drop (i + 1) (take end rs))
+      → unlawful_from p (seen_to rs i) k (drop i rs) ≡ unlawful_from p (seen_to rs (i + 1)) (k + 1) (drop (i + 1) rs)
   unfolding unlawful_from
-  unlawful_from-good k t = rw (part-cons end i rs no_release inside fits, t, seen_to-next rs i, add-one k)
+  unlawful_from-good k t = rw (drop-cons rs i no_release inside, t, seen_to-next rs i, add-one k, add-one i)
 
   pub unlawful_from-bad : (k : ℕ) → release_lawful p (seen_to rs i) (get_or rs i no_release) ≡ false
-      → unlawful_from p (seen_to rs i) k (drop i (take end rs)) ≡ k
+      → unlawful_from p (seen_to rs i) k (drop i rs) ≡ k
   unfolding unlawful_from
-  unlawful_from-bad k e = rw (part-cons end i rs no_release inside fits, e)
+  unlawful_from-bad k e = rw (drop-cons rs i no_release inside, e)
 
-pub unlawful_from-end : (p : Plan) (rs : List Release) (end i k : ℕ) → end ≤ i → unlawful_from p (seen_to rs i) k (drop i (take end rs)) ≡ 0
+pub unlawful_from-end : (p : Plan) (rs : List Release) (i k : ℕ) → length rs ≤ i → unlawful_from p (seen_to rs i) k (drop i rs) ≡ 0
 unfolding unlawful_from
-unlawful_from-end p rs end i k h =
-    rw (part_end end i rs h)
+unlawful_from-end p rs i k h = rw (drop_of_length-le rs h)
 
 -- what is admitted has one of the ten places
-pub admitted-few : (p : Plan) (latest : Day) (last : Last) (r : Release) → length p.strings ≡ 10 → Admitted p latest last r
+pub admitted-few : (p : Plan) (latest : Day) (last : Option Day) (r : Release) → length p.strings ≡ 10 → Admitted p latest last r
     → r.place ≤ 10
 admitted-few p latest last r ten h =
     elim (dec_le r.place 10) [ yes few ↦ few | no many ↦ absurd (nowhere (omega arith)) ]
@@ -157,8 +143,8 @@ admitted-few p latest last r ten h =
         omega arith
 
 -- a place that no plan has is refused, whatever is remembered
-pub admits-remembered : (p : Plan) (seen : List Release) (last : List Last) (r : Release) → length p.strings ≡ 10
-    → ((k : ℕ) → k < 10 → get_or last k Never ≡ last_of (k + 1) seen)
+pub admits-remembered : (p : Plan) (seen : List Release) (last : List (Option Day)) (r : Release) → length p.strings ≡ 10
+    → ((k : ℕ) → k < 10 → get_or last k None ≡ last_of (k + 1) seen)
     → admits p (latest_of seen) (remembered_of last r.place) r ≡ release_lawful p seen r
 unfolding remembered_of
 admits-remembered p seen last r ten kept =
@@ -168,9 +154,9 @@ admits-remembered p seen last r ten kept =
     let high = in_bounds-high 1 r.place 10 t in
     let back : r.place - 1 + 1 ≡ r.place = omega arith in
     rw (t, kept (r.place - 1) (omega arith), back) (admits-is p seen r))
-    (λ e. rw e (out Never e ∙ sym (sym (admits-is p seen r) ∙ out (last_of r.place seen) e)))
+    (λ e. rw e (out None e ∙ sym (sym (admits-is p seen r) ∙ out (last_of r.place seen) e)))
   where
-    out : (v : Last) → in_bounds 1 r.place 10 ≡ false → admits p (latest_of seen) v r ≡ false
+    out : (v : Option Day) → in_bounds 1 r.place 10 ≡ false → admits p (latest_of seen) v r ≡ false
     out v e =
         admits-not p (latest_of seen) v r
         (λ h. true-not-false (sym (in_bounds-yes 1 r.place 10 h.place_low (admitted-few p (latest_of seen) v r ten h)) ∙ e))

@@ -1,74 +1,41 @@
 // The bounds on a string, and the first string of a plan outside them.
-ghost use Rattle.std.specs.Prelude.{◌≡◌, min};
+ghost use Rattle.std.specs.Prelude.{◌≡◌, ◌<◌, not, position, IfSome};
 ghost use Rattle.rules.specs.Plan.{strings_of, string_lawful};
 ghost use Rattle.rules.specs.Refusal.{strings_check};
 
-use faults::{Checked, Fault};
+use faults::{Checked, Fault, Refusal};
 use rules::{BatteryString, Plan};
 
 // Whether T, D, J, C, X and the moving cost are within their bounds.
+#[tactic(auto, unfolding(rules::specs::Plan::string_lawful, rules::specs::Plan::cost_lawful))]
 pub fn string_lawful(s: BatteryString) -> bool
     ensures exact { result ≡ string_lawful s }
 {
-    let t = s.t.0;
-    let d = s.d.0;
-    let c = s.c.0;
-    let x = s.x;
-    let a = s.a.0;
-    let j = s.j.0;
-    if t < 1 {
-        return false;
-    }
-    if 1000 < t {
-        return false;
-    }
-    if d < 1 {
-        return false;
-    }
-    if t < d {
-        return false;
-    }
-    if d <= j {
-        return false;
-    }
-    if c < 1 {
-        return false;
-    }
-    if d - j < c {
-        return false;
-    }
-    if 1 < x {
-        return false;
-    }
-    if 1000 < a {
-        return false;
-    }
-    true
+    (1..=1000).contains(&s.t.0)
+        && (1..=s.t.0).contains(&s.d.0)
+        && s.j < s.d
+        && (1..=s.d.0 - s.j.0).contains(&s.c.0)
+        && s.x <= 1
+        && s.a.0 <= 1000
 }
 
-// How many of the ten strings count: n, or all ten where n is larger.
-pub(crate) fn counted(p: Plan) -> usize
-    ensures exact { result ≡ min p.n 10 }
+// Where the first string outside its bounds stands, counted from 0.
+fn first_outside(p: Plan) -> Option<usize>
+    ensures exact { result ≡ position (λ s. not (string_lawful s)) (strings_of p) }
+    ensures within { IfSome result (λ i. i < p.n) }
 {
-    if p.n < 10 { p.n } else { 10 }
+    p.strings.iter().take(p.n).position(|s| !string_lawful(*s))
 }
 
 // The first string outside its bounds, by place.
 pub(crate) fn strings_check(p: Plan) -> Checked
     ensures exact { result ≡ strings_check 1 (strings_of p) }
 {
-    let n = counted(p);
-    let strings = p.strings;
-    let mut i: usize = 0;
-    while i < n {
-        let s = strings[i];
-        if !string_lawful(s) {
-            return Checked::Refused {
-                fault: Fault::OutOfBounds,
-                at: i + 1,
-            };
-        }
-        i += 1;
+    match first_outside(p) {
+        Some(i) => Err(Refusal {
+            fault: Fault::OutOfBounds,
+            at: i + 1,
+        }),
+        None => Ok(()),
     }
-    Checked::Lawful
 }

@@ -1,21 +1,19 @@
 -- Laws of the calendar's answers: which case holds.
 use Rattle.base.proofs.Prelude.{ℕ, ◌≤◌, ◌<◌, ◌≡◌, refl, sym, ap, ◌∙◌, ◌↔◌, Bool, true, false, ◌||◌, List, ◌++◌, arith, dec_le, ltb, length, drop, le-leb, lt-leb, lt-ltb, le-ltb}
+use Rattle.faults.specs.Checks.{Refused}
+use Rattle.std.specs.Prelude.{Ok}
 use Rattle.base.proofs.Lists.{by_bool, true-not-false}
 use Rattle.days.specs.{declared.Day.Day, Days.day}
 use Rattle.faults.specs.{declared.Fault.Fault, declared.Fault.TheVariants.{NoRoom, NoSuchDate, NoSuchEdition}}
-use Rattle.calendar.specs.{declared.Date.Date, declared.YearlyDate.YearlyDate, declared.Weekday.TheVariants.Saturday, Years.{leap_year, months_with, month_lengths, month_length}, Dates.{epoch, date_exists}, Numbers.{days_before_year, days_before_month, day_number, date_of, last_day}, Weekdays.weekday_of, Yearly.{no_edition, on_leap_day, in_no_year, yearly_days}, Refusals.{date_answer, day_answer, weekday_answer, yearly_check, listed_if, stored_if, yearly_answer, yearly_listed}, Said.{refused, days, date_says, day_says, weekday_says, listed_says}}
+use Rattle.calendar.specs.{declared.Date.Date, declared.YearlyDate.YearlyDate, declared.Weekday.TheVariants.Saturday, Years.{leap_year, months_with, month_lengths, month_length}, Dates.{epoch, date_exists}, Numbers.{days_before_year, days_before_month, day_number, date_of, last_day}, Weekdays.weekday_of, Yearly.{no_edition, on_leap_day, in_no_year, yearly_days}, Refusals.{date_answer, day_answer, weekday_answer, yearly_answer, yearly_listed}, Said.{refused, days, date_says, day_says, weekday_says, listed_says}}
 use Rattle.base.specs.Count.{sum_of, up_from}
 use Rattle.calendar.proofs.{BothWays.{date_of-exists, day_number-date_of, day_number-in-range, date_of-day_number}, Editions.editions-agree}
-use Rattle.calendar.specs.declared.WhichDate.TheVariants as which-date
-use Rattle.calendar.specs.declared.WhichDay.TheVariants as which-day
-use Rattle.calendar.specs.declared.WhichWeekday.TheVariants as which-weekday
-use Rattle.calendar.specs.declared.Listed.TheVariants as listed
 
-pub date_answer-is : (k : ℕ) → k ≤ last_day → date_answer k ≡ which-date.Is (date_of k)
+pub date_answer-is : (k : ℕ) → k ≤ last_day → date_answer k ≡ Ok (date_of k)
 unfolding date_answer
 date_answer-is k h = rw (le-leb k last_day h)
 
-pub date_answer-refused : (k : ℕ) → last_day < k → date_answer k ≡ which-date.Refused NoSuchDate 0
+pub date_answer-refused : (k : ℕ) → last_day < k → date_answer k ≡ Refused NoSuchDate 0
 unfolding date_answer
 date_answer-refused k h = rw (lt-leb k last_day h)
 
@@ -23,66 +21,66 @@ never : ◌≡◌ {A = ℕ} 0 1 → ⊥
 never z = omega arith
 
 -- a date that is answered is the day's own, and exists
-date_answer-date : (k : ℕ) (d : Date) → date_answer k ≡ which-date.Is d → (k ≤ last_day) × (d ≡ date_of k)
+date_answer-date : (k : ℕ) (d : Date) → date_answer k ≡ Ok d → (k ≤ last_day) × (d ≡ date_of k)
 date_answer-date k d h =
     elim (dec_le k last_day) [
       | yes within ↦ inside within (date_answer-is k within)
       | no over ↦ outside (date_answer-refused k (omega arith))
     ]
   where
-    inside : k ≤ last_day → date_answer k ≡ which-date.Is (date_of k) → (k ≤ last_day) × (d ≡ date_of k)
+    inside : k ≤ last_day → date_answer k ≡ Ok (date_of k) → (k ≤ last_day) × (d ≡ date_of k)
     inside within is =
         let same : d ≡ date_of k = cc in
         (within, same)
 
-    outside : date_answer k ≡ which-date.Refused NoSuchDate 0 → (k ≤ last_day) × (d ≡ date_of k)
+    outside : date_answer k ≡ Refused NoSuchDate 0 → (k ≤ last_day) × (d ≡ date_of k)
     outside is = absurd (never (cc))
 
-pub date_answer-exists : (k : ℕ) (d : Date) → date_answer k ≡ which-date.Is d → date_exists d ≡ true
+pub date_answer-exists : (k : ℕ) (d : Date) → date_answer k ≡ Ok d → date_exists d ≡ true
 date_answer-exists k d h =
     let is = date_answer-date k d h in
     ap date_exists is.1 ∙ date_of-exists k is.0
 
-pub day_answer-is : (d : Date) → date_exists d ≡ true → day_answer d ≡ which-day.Is (day (day_number d))
+pub day_answer-is : (d : Date) → date_exists d ≡ true → day_answer d ≡ Ok (day (day_number d))
 unfolding day_answer
 day_answer-is d h = rw h
 
-pub day_answer-refused : (d : Date) → date_exists d ≡ false → day_answer d ≡ which-day.Refused NoSuchDate 0
+pub day_answer-refused : (d : Date) → date_exists d ≡ false → day_answer d ≡ Refused NoSuchDate 0
 unfolding day_answer
 day_answer-refused d h = rw h
 
 -- a day that is answered is the date's own
-pub day_answer-day : (d : Date) (k : Day) → day_answer d ≡ which-day.Is k → (date_exists d ≡ true) × (k ≡ day (day_number d))
+pub day_answer-day : (d : Date) (k : Day) → day_answer d ≡ Ok k → (date_exists d ≡ true) × (k ≡ day (day_number d))
 day_answer-day d k h = by_bool (date_exists d) (λ t. there t (day_answer-is d t)) (λ f. none (day_answer-refused d f))
   where
-    there : date_exists d ≡ true → day_answer d ≡ which-day.Is (day (day_number d)) → (date_exists d ≡ true) × (k ≡ day (day_number d))
+    there : date_exists d ≡ true → day_answer d ≡ Ok (day (day_number d)) → (date_exists d ≡ true) × (k ≡ day (day_number d))
     there t is =
         let same : k ≡ day (day_number d) = cc in
         (t, same)
 
-    none : day_answer d ≡ which-day.Refused NoSuchDate 0 → (date_exists d ≡ true) × (k ≡ day (day_number d))
+    none : day_answer d ≡ Refused NoSuchDate 0 → (date_exists d ≡ true) × (k ≡ day (day_number d))
     none is = absurd (never (cc))
 
 -- there and back, and back and there
-pub day-and-back : (k : ℕ) (d : Date) → date_answer k ≡ which-date.Is d → day_answer d ≡ which-day.Is (day k)
+pub day-and-back : (k : ℕ) (d : Date) → date_answer k ≡ Ok d → day_answer d ≡ Ok (day k)
 day-and-back k d h =
     let is = date_answer-date k d h in
     let number = ap day_number is.1 ∙ day_number-date_of k is.0 in
-    day_answer-is d (date_answer-exists k d h) ∙ ap (λ n. which-day.Is (day n)) number
+    day_answer-is d (date_answer-exists k d h) ∙ ap (λ n. Ok (day n)) number
 
-pub date-and-back : (d : Date) (k : Day) → day_answer d ≡ which-day.Is k → date_answer k.0 ≡ which-date.Is d
+pub date-and-back : (d : Date) (k : Day) → day_answer d ≡ Ok k → date_answer k.0 ≡ Ok d
 date-and-back d k h =
     let is = day_answer-day d k h in
     let number = ap (λ (j : Day). j.0) is.1 in
     ap date_answer number
     ∙ date_answer-is (day_number d) (day_number-in-range d is.0)
-    ∙ ap which-date.Is (date_of-day_number d is.0)
+    ∙ ap Ok (date_of-day_number d is.0)
 
-pub weekday_answer-is : (d : Date) → date_exists d ≡ true → weekday_answer d ≡ which-weekday.Is (weekday_of (day_number d))
+pub weekday_answer-is : (d : Date) → date_exists d ≡ true → weekday_answer d ≡ Ok (weekday_of (day_number d))
 unfolding weekday_answer
 weekday_answer-is d h = rw h
 
-pub weekday_answer-refused : (d : Date) → date_exists d ≡ false → weekday_answer d ≡ which-weekday.Refused NoSuchDate 0
+pub weekday_answer-refused : (d : Date) → date_exists d ≡ false → weekday_answer d ≡ Refused NoSuchDate 0
 unfolding weekday_answer
 weekday_answer-refused d h = rw h
 
@@ -119,8 +117,8 @@ module _ (d : Date) where
           absurd (never (cc))) (λ none. none)
 
 -- the epoch is day 0, day 0 is the epoch, and it is a Saturday
-pub epoch-answers : (day_answer epoch ≡ which-day.Is (day 0)) × (date_answer 0 ≡ which-date.Is epoch)
-    × (weekday_answer epoch ≡ which-weekday.Is Saturday)
+pub epoch-answers : (day_answer epoch ≡ Ok (day 0)) × (date_answer 0 ≡ Ok epoch)
+    × (weekday_answer epoch ≡ Ok Saturday)
 unfolding
     day_answer date_answer weekday_answer date_exists day_number days_before_year days_before_month date_of weekday_of
     leap_year months_with month_lengths month_length sum_of up_from
@@ -142,26 +140,26 @@ module _ (ed : ℕ) (t : YearlyDate) (a e : ℕ) (list : List ℕ) where
   no_such = in_no_year t || ltb last_day a || ltb last_day e
 
   pub yearly-no-edition : no_edition ed ≡ true
-      → (yearly_answer ed t a e (length list) ≡ listed.Refused NoSuchEdition 0) × (yearly_listed ed t a e list ≡ list)
-  unfolding yearly_check listed_if stored_if yearly_answer yearly_listed
+      → (yearly_answer ed t a e (length list) ≡ Refused NoSuchEdition 0) × (yearly_listed ed t a e list ≡ list)
+  unfolding yearly_answer yearly_listed
   yearly-no-edition other = (rw other, rw other)
 
   pub yearly-no-such : no_edition ed ≡ false → no_such ≡ true
-      → (yearly_answer ed t a e (length list) ≡ listed.Refused NoSuchDate 0) × (yearly_listed ed t a e list ≡ list)
-  unfolding yearly_check listed_if stored_if yearly_answer yearly_listed
+      → (yearly_answer ed t a e (length list) ≡ Refused NoSuchDate 0) × (yearly_listed ed t a e list ≡ list)
+  unfolding yearly_answer yearly_listed
   yearly-no-such known bad = (rw (known, bad), rw (known, bad))
 
   pub yearly-no-room : no_edition ed ≡ false → no_such ≡ false → length list < length (yearly_days ed t a e)
-      → (yearly_answer ed t a e (length list) ≡ listed.Refused NoRoom 0) × (yearly_listed ed t a e list ≡ list)
-  unfolding yearly_check listed_if stored_if yearly_answer yearly_listed
+      → (yearly_answer ed t a e (length list) ≡ Refused NoRoom 0) × (yearly_listed ed t a e list ≡ list)
+  unfolding yearly_answer yearly_listed
   yearly-no-room known good short =
       let over = lt-ltb (length list) (length (yearly_days ed t a e)) short in
       (rw (known, good, over), rw (known, good, over))
 
   pub yearly-listed : no_edition ed ≡ false → no_such ≡ false → length (yearly_days ed t a e) ≤ length list
-      → (yearly_answer ed t a e (length list) ≡ listed.Days (length (yearly_days ed t a e)))
+      → (yearly_answer ed t a e (length list) ≡ Ok (length (yearly_days ed t a e)))
       × (yearly_listed ed t a e list ≡ yearly_days ed t a e ++ drop (length (yearly_days ed t a e)) list)
-  unfolding yearly_check listed_if stored_if yearly_answer yearly_listed
+  unfolding yearly_answer yearly_listed
   yearly-listed known good room =
       let fits = le-ltb (length list) (length (yearly_days ed t a e)) room in
       (rw (known, good, fits), rw (known, good, fits))
@@ -183,7 +181,7 @@ module _ (ed : ℕ) (t : YearlyDate) (a e : ℕ) (list : List ℕ) where
       ]))
 
   -- what is listed stands at the front, and the list's later places stay
-  pub listed-front : (n : ℕ) → yearly_answer ed t a e (length list) ≡ listed.Days n
+  pub listed-front : (n : ℕ) → yearly_answer ed t a e (length list) ≡ Ok n
       → (n ≡ length (yearly_days ed t a e)) × (yearly_listed ed t a e list ≡ yearly_days ed t a e ++ drop n list)
   listed-front n h = by outcome
     where
@@ -208,7 +206,7 @@ module _ (ed : ℕ) (t : YearlyDate) (a e : ℕ) (list : List ℕ) where
           front known good room count
 
   -- a test whose days are listed has a month and day that exist in some year
-  pub listed-exists : (n : ℕ) → yearly_answer ed t a e (length list) ≡ listed.Days n → in_no_year t ≡ false
+  pub listed-exists : (n : ℕ) → yearly_answer ed t a e (length list) ≡ Ok n → in_no_year t ≡ false
   listed-exists n h = by_bool (in_no_year t) (λ none. absurd (by none outcome)) (λ some. some)
     where
       by : in_no_year t ≡ true → Way → ⊥
@@ -224,7 +222,7 @@ module _ (ed : ℕ) (t : YearlyDate) (a e : ℕ) (list : List ℕ) where
       by none (all known good room) = true-not-false (sym (rw none) ∙ good)
 
   -- on a refusal nothing is written
-  pub refused-kept : (f : Fault) (at : ℕ) → yearly_answer ed t a e (length list) ≡ listed.Refused f at → yearly_listed ed t a e list ≡ list
+  pub refused-kept : (f : Fault) (at : ℕ) → yearly_answer ed t a e (length list) ≡ Refused f at → yearly_listed ed t a e list ≡ list
   refused-kept f at h = by outcome
     where
       by : Way → yearly_listed ed t a e list ≡ list
@@ -287,7 +285,7 @@ module _ (ed : ℕ) (t : YearlyDate) (a e : ℕ) (list : List ℕ) where
 pub answers_agree : (t : YearlyDate) → on_leap_day t ≡ false → (a e : ℕ) (list : List ℕ)
     → (yearly_answer 1 t a e (length list) ≡ yearly_answer 2 t a e (length list))
     × (yearly_listed 1 t a e list ≡ yearly_listed 2 t a e list)
-unfolding yearly_check listed_if stored_if yearly_answer yearly_listed
+unfolding yearly_answer yearly_listed
 answers_agree t other a e list =
     let same = editions-agree t other a e in
     (rw same, rw same)

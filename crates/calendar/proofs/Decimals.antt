@@ -1,15 +1,13 @@
 -- Day numbers as texts: what is read so far, and what is left.
---     digits_after n text    the number that digits write behind those that wrote n, as digits_number
-use Rattle.base.proofs.Prelude.{ℕ, ◌+◌, ◌-◌, ◌*◌, ◌≤◌, ◌<◌, min, ◌≡◌, refl, true, false, cond, List, [], ◌∷◌, arith, add-one, le-leb, lt-leb, length, get_or, drop, drop_of_length-le, drop-cons}
-use Rattle.days.specs.Days.{day}
+--     digits_after n text    the day that digits write behind those that wrote n, as digits_number
+use Rattle.base.proofs.Prelude.{ℕ, ◌+◌, ◌-◌, ◌*◌, ◌≤◌, ◌<◌, ◌≡◌, refl, true, false, ◌&&◌, cond, List, [], ◌∷◌, arith, add-one, leb, le-leb, lt-leb, length, get_or, drop, drop_of_length-le, drop-cons}
+use Rattle.std.specs.Prelude.{Some, None, Option}
 use Rattle.base.specs.{Count.every, Digits.{number_on, decimal_on}}
 use Rattle.base.proofs.Lists.{by_bool}
-use Rattle.faults.specs.declared.Fault.TheVariants.{NoSuchDate}
-use Rattle.calendar.specs.{Numbers.last_day, Texts.{fits_at, number, no_number, day_reading}, inner.Places.digits_number}
-use Rattle.calendar.specs.declared.WhichDay.TheVariants as which-day
+use Rattle.calendar.specs.{Numbers.last_day, Texts.fits_at, inner.Places.digits_number}
 
-unfoldable pub digits_after : ℕ → List ℕ → ℕ
-digits_after n text = cond (every (fits_at 0x30) text) (min (decimal_on n text) (last_day + 1)) (last_day + 1)
+unfoldable pub digits_after : ℕ → List ℕ → Option ℕ
+digits_after n text = cond (every (fits_at 0x30) text && leb (decimal_on n text) last_day) (Some (decimal_on n text)) None
 
 pub digits_after-start : (text : List ℕ) → digits_after 0 text ≡ digits_number text
 unfolding digits_after digits_number
@@ -21,10 +19,11 @@ decimal-grows n [] = omega arith
 decimal-grows n (b ∷ bs) = omega (arith, decimal-grows (n * 10 + (b - 0x30)) bs)
 
 -- once past the last day, the digits behind change nothing
-pub digits_after-over : (n : ℕ) (text : List ℕ) → last_day < n → digits_after n text ≡ last_day + 1
+pub digits_after-over : (n : ℕ) (text : List ℕ) → last_day < n → digits_after n text ≡ None
 unfolding digits_after
 digits_after-over n text over =
-    by_bool (every (fits_at 0x30) text) (λ t. rw t (omega (arith, decimal-grows n text))) (λ f. rw f)
+    let large = lt-leb (decimal_on n text) last_day (omega (arith, decimal-grows n text)) in
+    by_bool (every (fits_at 0x30) text) (λ t. rw (t, large)) (λ f. rw f)
 
 module _ (n : ℕ) (text : List ℕ) (i : ℕ) (h : i < length text) where
   pub digits_after-next : fits_at 0x30 (get_or text i 0) ≡ true
@@ -34,43 +33,10 @@ module _ (n : ℕ) (text : List ℕ) (i : ℕ) (h : i < length text) where
       let same : 10 * n + (get_or text i 0 - 0x30) ≡ n * 10 + (get_or text i 0 - 0x30) = omega arith in
       rw (add-one i, drop-cons text i 0 h, here, same)
 
-  pub digits_after-not : fits_at 0x30 (get_or text i 0) ≡ false → digits_after n (drop i text) ≡ last_day + 1
+  pub digits_after-not : fits_at 0x30 (get_or text i 0) ≡ false → digits_after n (drop i text) ≡ None
   unfolding digits_after every
   digits_after-not here = rw (drop-cons text i 0 h, here)
 
-pub digits_after-end : (n : ℕ) (text : List ℕ) (i : ℕ) → length text ≤ i → n ≤ last_day → digits_after n (drop i text) ≡ n
+pub digits_after-end : (n : ℕ) (text : List ℕ) (i : ℕ) → length text ≤ i → n ≤ last_day → digits_after n (drop i text) ≡ Some n
 unfolding digits_after every number_on
-digits_after-end n text i over within = rw (drop_of_length-le text over) (omega arith)
-
-digits_number-digits : (text : List ℕ) → every (fits_at 0x30) text ≡ true → digits_number text ≡ min (number text) (last_day + 1)
-unfolding digits_number
-digits_number-digits text h = rw h
-
-digits_number-other : (text : List ℕ) → every (fits_at 0x30) text ≡ false → digits_number text ≡ last_day + 1
-unfolding digits_number
-digits_number-other text h = rw h
-
--- ---- Reading
-
-pub day_reading-none : (text : List ℕ) → no_number text ≡ true → day_reading text ≡ which-day.Refused NoSuchDate 0
-unfolding day_reading
-day_reading-none text none = by_bool (every (fits_at 0x30) text) (λ t. rw (t, none)) (λ f. rw f)
-
-pub day_reading-over : (text : List ℕ) → last_day < digits_number text → day_reading text ≡ which-day.Refused NoSuchDate 0
-unfolding day_reading
-day_reading-over text over =
-    by_bool (every (fits_at 0x30) text)
-    (λ t.
-    let large = lt-leb (number text) last_day (omega (arith, digits_number-digits text t)) in
-    by_bool (no_number text) (λ n. rw (t, n)) (λ n. rw (t, n, large)))
-    (λ f. rw f)
-
-pub day_reading-is : (text : List ℕ) → no_number text ≡ false → digits_number text ≤ last_day
-    → day_reading text ≡ which-day.Is (day (digits_number text))
-unfolding day_reading
-day_reading-is text some within =
-    by_bool (every (fits_at 0x30) text)
-    (λ t.
-    let same : digits_number text ≡ number text = omega (arith, digits_number-digits text t) in
-    rw (t, some, le-leb (number text) last_day (omega arith), same))
-    (λ f. absurd (omega (arith, digits_number-other text f)))
+digits_after-end n text i over within = rw (drop_of_length-le text over, le-leb n last_day within)

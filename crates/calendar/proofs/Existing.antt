@@ -1,7 +1,7 @@
 -- What it is for a date to exist, as facts on numbers; and where its day number lies.
 --     Existing d            the bounds of d's year, month and day
-use Rattle.base.proofs.Prelude.{ℕ, suc, ◌+◌, ◌-◌, ◌≤◌, ◌<◌, ◌≡◌, refl, ap, true, false, ◌&&◌, arith, leb, le-leb}
-use Rattle.base.proofs.Lists.{by_bool, and_left, and_right, and_both}
+use Rattle.base.proofs.Prelude.{ℕ, suc, ◌+◌, ◌-◌, ◌≤◌, ◌<◌, ◌≡◌, refl, ap, true, ◌&&◌, arith}
+use Rattle.base.proofs.Lists.{and_left, and_right, and_both}
 use Rattle.faults.specs.Checks.{in_bounds}
 use Rattle.faults.proofs.Checks.{in_bounds-low, in_bounds-high, in_bounds-yes}
 use Rattle.calendar.specs.{declared.Date.Date, Years.{year_length, month_length}, Dates.{date, date_exists}, Numbers.{days_before_year, days_before_month, day_number, last_day}}
@@ -100,21 +100,3 @@ module _ (d : Date) (x : Existing d) where
 
   pub day_number-last : day_number d ≤ last_day
   day_number-last = omega (arith, day_number-to-year, days_before_year-le (d.year + 1) 2400 (omega arith), days_before_year-2400)
-
--- ---- Existing, as the tests say it
-
-pub not-existing : (d : Date) → (Existing d → ⊥) → date_exists d ≡ false
-not-existing d out = by_bool (date_exists d) (λ t. absurd (out (existing d t))) (λ e. e)
-
--- in a month that exists, the day decides
-pub exists-by-day : (d : Date) → 2000 ≤ d.year → d.year ≤ 2399 → 1 ≤ d.month → d.month ≤ 12 → 1 ≤ d.day
-    → date_exists d ≡ leb d.day (month_length d.year d.month)
-unfolding date_exists
-exists-by-day d from to january december first =
-    rw (
-      le-leb 2000 d.year from,
-      le-leb d.year 2399 to,
-      le-leb 1 d.month january,
-      le-leb d.month 12 december,
-      le-leb 1 d.day first,
-    )

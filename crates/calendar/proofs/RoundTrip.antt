@@ -1,5 +1,7 @@
 -- Reading a date's text and writing it undo each other, both ways: a date has one text, and a text is that of one date.
 use Rattle.base.proofs.Prelude.{ℕ, ◌+◌, ◌/◌, ◌%◌, ◌^◌, ◌≤◌, ◌<◌, ◌≡◌, refl, sym, ap, ◌∙◌, true, false, not, List, [], ◌∷◌, map, arith, eqb-true, length, length-map}
+use Rattle.faults.specs.Checks.{Refused}
+use Rattle.std.specs.Prelude.{Ok}
 use Rattle.base.specs.{Count.All, Digits.{places_of, value_of, figure, worth}}
 use Rattle.base.proofs.Digits.{figures-worth, worth-figures, places-said, places-written}
 use Rattle.base.proofs.Lists.{all_map, by_bool, true-not-false, and_left, and_right}
@@ -7,8 +9,6 @@ use Rattle.faults.proofs.Checks.{in_bounds-low, in_bounds-high, in_bounds-yes}
 use Rattle.faults.specs.declared.Fault.TheVariants.{NoSuchDate}
 use Rattle.calendar.specs.{declared.Date.Date, declared.YearlyDate.YearlyDate, Dates.date_exists, Yearly.{set_on, in_no_year}, Texts.{hyphen, digits, number, fits_at, fits, date_form, yearly_form, date_text, yearly_text, date_in, yearly_in, date_reading, yearly_reading}}
 use Rattle.calendar.proofs.{Months.month_length-bounds, Existing.existing, Order.same-date, SomeYear.in_no_year-2000, Texts.{date_reading-is, date_reading-form, date_reading-none, yearly_reading-is, yearly_reading-form, yearly_reading-none}}
-use Rattle.calendar.specs.declared.WhichDate.TheVariants as which-date
-use Rattle.calendar.specs.declared.WhichYearly.TheVariants as which-yearly
 
 -- ---- Digits
 
@@ -99,20 +99,20 @@ yearly_text-parts t m k =
     let parts : record { month = number (digits 2 t.month); day = number (digits 2 t.day) } ≡ t = rw (month, day) in
     parts
 
-pub date-read-back : (d : Date) → date_exists d ≡ true → date_reading (date_text d) ≡ which-date.Is d
+pub date-read-back : (d : Date) → date_exists d ≡ true → date_reading (date_text d) ≡ Ok d
 date-read-back d h =
     let x = existing d h in
     let last = x.to-2399 in
     let december = x.december in
     let size = month_length-bounds d.year d.month x.january x.december in
     let whole = date_text-parts d (omega arith) (omega arith) (omega (arith, x.last)) in
-    date_reading-is (date_text d) (date_text-fits d) (ap date_exists whole ∙ h) ∙ ap which-date.Is whole
+    date_reading-is (date_text d) (date_text-fits d) (ap date_exists whole ∙ h) ∙ ap Ok whole
 
-pub yearly-read-back : (t : YearlyDate) → in_no_year t ≡ false → yearly_reading (yearly_text t) ≡ which-yearly.Is t
+pub yearly-read-back : (t : YearlyDate) → in_no_year t ≡ false → yearly_reading (yearly_text t) ≡ Ok t
 yearly-read-back t h =
     let short = yearly-short t h in
     let whole = yearly_text-parts t short.0 short.1 in
-    yearly_reading-is (yearly_text t) (yearly_text-fits t) (ap in_no_year whole ∙ h) ∙ ap which-yearly.Is whole
+    yearly_reading-is (yearly_text t) (yearly_text-fits t) (ap in_no_year whole ∙ h) ∙ ap Ok whole
 
 -- ---- Read, then written
 
@@ -169,7 +169,7 @@ never : ◌≡◌ {A = ℕ} 0 1 → ⊥
 never z = omega arith
 
 -- a date that is read exists
-pub date-read-exists : (text : List ℕ) (d : Date) → date_reading text ≡ which-date.Is d → date_exists d ≡ true
+pub date-read-exists : (text : List ℕ) (d : Date) → date_reading text ≡ Ok d → date_exists d ≡ true
 date-read-exists text d h =
     by_bool (fits date_form text)
     (λ form. by_bool (date_exists (date_in text))
@@ -177,15 +177,15 @@ date-read-exists text d h =
     (λ none. other (date_reading-none text form none)))
     (λ form. other (date_reading-form text form))
   where
-    read : date_exists (date_in text) ≡ true → date_reading text ≡ which-date.Is (date_in text) → date_exists d ≡ true
+    read : date_exists (date_in text) ≡ true → date_reading text ≡ Ok (date_in text) → date_exists d ≡ true
     read there is =
         let same : d ≡ date_in text = cc in
         ap date_exists same ∙ there
 
-    other : date_reading text ≡ which-date.Refused NoSuchDate 0 → date_exists d ≡ true
+    other : date_reading text ≡ Refused NoSuchDate 0 → date_exists d ≡ true
     other refused = absurd (never (cc))
 
-pub date-written-back : (text : List ℕ) (d : Date) → date_reading text ≡ which-date.Is d → date_text d ≡ text
+pub date-written-back : (text : List ℕ) (d : Date) → date_reading text ≡ Ok d → date_text d ≡ text
 date-written-back text d h =
     by_bool (fits date_form text)
     (λ form. by_bool (date_exists (date_in text))
@@ -193,15 +193,15 @@ date-written-back text d h =
     (λ none. other (date_reading-none text form none)))
     (λ form. other (date_reading-form text form))
   where
-    read : fits date_form text ≡ true → date_reading text ≡ which-date.Is (date_in text) → date_text d ≡ text
+    read : fits date_form text ≡ true → date_reading text ≡ Ok (date_in text) → date_text d ≡ text
     read form is =
         let same : d ≡ date_in text = cc in
         ap date_text same ∙ date-back text form
 
-    other : date_reading text ≡ which-date.Refused NoSuchDate 0 → date_text d ≡ text
+    other : date_reading text ≡ Refused NoSuchDate 0 → date_text d ≡ text
     other refused = absurd (never (cc))
 
-pub yearly-written-back : (text : List ℕ) (t : YearlyDate) → yearly_reading text ≡ which-yearly.Is t → yearly_text t ≡ text
+pub yearly-written-back : (text : List ℕ) (t : YearlyDate) → yearly_reading text ≡ Ok t → yearly_text t ≡ text
 yearly-written-back text t h =
     by_bool (fits yearly_form text)
     (λ form. by_bool (in_no_year (yearly_in text))
@@ -209,10 +209,10 @@ yearly-written-back text t h =
     (λ there. read form (yearly_reading-is text form there)))
     (λ form. other (yearly_reading-form text form))
   where
-    read : fits yearly_form text ≡ true → yearly_reading text ≡ which-yearly.Is (yearly_in text) → yearly_text t ≡ text
+    read : fits yearly_form text ≡ true → yearly_reading text ≡ Ok (yearly_in text) → yearly_text t ≡ text
     read form is =
         let same : t ≡ yearly_in text = cc in
         ap yearly_text same ∙ yearly-back text form
 
-    other : yearly_reading text ≡ which-yearly.Refused NoSuchDate 0 → yearly_text t ≡ text
+    other : yearly_reading text ≡ Refused NoSuchDate 0 → yearly_text t ≡ text
     other refused = absurd (never (cc))

@@ -1,13 +1,12 @@
 -- Laws of texts: whether a text has a form, place by place, and the numbers that its digits write.
-use Rattle.base.proofs.Prelude.{ℕ, suc, ◌+◌, ◌-◌, ◌*◌, ◌≤◌, ◌<◌, ◌≡◌, refl, true, false, List, [], ◌∷◌, arith, add-one, length, get_or, take, drop, replicate, drop_of_length-le, drop-cons}
+use Rattle.base.proofs.Prelude.{ℕ, zero, suc, ◌+◌, ◌-◌, ◌*◌, ◌≤◌, ◌<◌, ◌≡◌, refl, true, false, List, [], ◌∷◌, arith, add-one, length, get_or, take, drop, drop-cons}
+use Rattle.faults.specs.Checks.{Refused}
+use Rattle.std.specs.Prelude.{Ok}
+use Rattle.std.specs.List.{zip, HoldsAt}
 use Rattle.base.specs.Digits.{number_on}
-use Rattle.base.proofs.Lists.{by_bool, and_right}
+use Rattle.base.proofs.Lists.{All, by_bool, and_right}
 use Rattle.faults.specs.declared.Fault.TheVariants.{NoSuchDate, NoSuchEdition}
-use Rattle.calendar.specs.{declared.Date.Date, declared.YearlyDate.YearlyDate, Dates.{date, date_exists}, Yearly.{no_edition, in_no_year}, Texts.{fits_at, fits, number, date_form, yearly_form, date_in, yearly_in, date_reading, yearly_reading, edition_form, edition_reading, date_text, yearly_text, date_writing, yearly_writing}}
-use Rattle.faults.specs.declared.Checked.TheVariants as checked
-use Rattle.calendar.specs.declared.WhichDate.TheVariants as which-date
-use Rattle.calendar.specs.declared.WhichYearly.TheVariants as which-yearly
-use Rattle.calendar.specs.declared.WhichEdition.TheVariants as which-edition
+use Rattle.calendar.specs.{declared.Date.Date, Dates.{date, date_exists}, Yearly.{no_edition, in_no_year}, Texts.{fits_at, fits, number, date_form, yearly_form, date_in, yearly_in, date_reading, yearly_reading, edition_form, edition_reading, date_text, date_writing}}
 
 -- ---- Forms
 
@@ -23,22 +22,23 @@ fits-length (c ∷ cs) (b ∷ bs) h =
 pub fits-other-length : (form text : List ℕ) → (length form ≡ length text → ⊥) → fits form text ≡ false
 fits-other-length form text other = by_bool (fits form text) (λ t. absurd (other (fits-length form text t))) (λ e. e)
 
-module _ (form text : List ℕ) (i : ℕ) (h : i < length form) (g : i < length text) where
-  pub fits_next : fits_at (get_or form i 0) (get_or text i 0) ≡ true
-      → fits (drop i form) (drop i text) ≡ fits (drop (i + 1) form) (drop (i + 1) text)
-  unfolding fits
-  fits_next here = rw (add-one i, drop-cons form i 0 h, drop-cons text i 0 g, here)
-
-  pub fits_not : fits_at (get_or form i 0) (get_or text i 0) ≡ false → fits (drop i form) (drop i text) ≡ false
-  unfolding fits
-  fits_not here = rw (drop-cons form i 0 h, drop-cons text i 0 g, here)
-
-pub fits-done : (form text : List ℕ) (i : ℕ) → i ≡ length form → i ≡ length text → fits (drop i form) (drop i text) ≡ true
+-- of one length, a text has a form where each of its characters may stand where it stands
+pub fits-all : (form text : List ℕ) → length form ≡ length text → All (λ p. fits_at p.0 p.1 ≡ true) (zip form text) → fits form text ≡ true
 unfolding fits
-fits-done form text i h g =
-    let whole : length form ≤ i = omega arith in
-    let all : length text ≤ i = omega arith in
-    rw (drop_of_length-le form whole, drop_of_length-le text all)
+fits-all [] [] h each = refl
+fits-all [] (b ∷ bs) h each = absurd (omega arith)
+fits-all (c ∷ cs) [] h each = absurd (omega arith)
+fits-all (c ∷ cs) (b ∷ bs) h each = rw each.0 (fits-all cs bs (omega arith) each.1)
+
+pub fits-not : (form text : List ℕ) (k : ℕ) → k < length (zip form text) → HoldsAt (λ p. fits_at p.0 p.1 ≡ false) (zip form text) k
+    → fits form text ≡ false
+unfolding fits
+fits-not [] text k h bad = absurd (omega arith)
+fits-not (c ∷ cs) [] k h bad = absurd (omega arith)
+fits-not (c ∷ cs) (b ∷ bs) zero h bad = rw (bad (0, 0))
+fits-not (c ∷ cs) (b ∷ bs) (suc k) h bad =
+    let rest = fits-not cs bs k (omega arith) bad in
+    by_bool (fits_at c b) (λ t. rw (t, rest)) (λ e. rw e)
 
 -- ---- Numbers
 
@@ -66,44 +66,44 @@ number-four (a ∷ b ∷ c ∷ d ∷ rest) h = omega arith
 -- ---- Reading
 
 pub date_reading-is : (text : List ℕ) → fits date_form text ≡ true → date_exists (date_in text) ≡ true
-    → date_reading text ≡ which-date.Is (date_in text)
+    → date_reading text ≡ Ok (date_in text)
 unfolding date_reading
 date_reading-is text form there = rw (form, there)
 
-pub date_reading-form : (text : List ℕ) → fits date_form text ≡ false → date_reading text ≡ which-date.Refused NoSuchDate 0
+pub date_reading-form : (text : List ℕ) → fits date_form text ≡ false → date_reading text ≡ Refused NoSuchDate 0
 unfolding date_reading
 date_reading-form text form = rw form
 
 pub date_reading-none : (text : List ℕ) → fits date_form text ≡ true → date_exists (date_in text) ≡ false
-    → date_reading text ≡ which-date.Refused NoSuchDate 0
+    → date_reading text ≡ Refused NoSuchDate 0
 unfolding date_reading
 date_reading-none text form there = rw (form, there)
 
 pub yearly_reading-is : (text : List ℕ) → fits yearly_form text ≡ true → in_no_year (yearly_in text) ≡ false
-    → yearly_reading text ≡ which-yearly.Is (yearly_in text)
+    → yearly_reading text ≡ Ok (yearly_in text)
 unfolding yearly_reading
 yearly_reading-is text form there = rw (form, there)
 
-pub yearly_reading-form : (text : List ℕ) → fits yearly_form text ≡ false → yearly_reading text ≡ which-yearly.Refused NoSuchDate 0
+pub yearly_reading-form : (text : List ℕ) → fits yearly_form text ≡ false → yearly_reading text ≡ Refused NoSuchDate 0
 unfolding yearly_reading
 yearly_reading-form text form = rw form
 
 pub yearly_reading-none : (text : List ℕ) → fits yearly_form text ≡ true → in_no_year (yearly_in text) ≡ true
-    → yearly_reading text ≡ which-yearly.Refused NoSuchDate 0
+    → yearly_reading text ≡ Refused NoSuchDate 0
 unfolding yearly_reading
 yearly_reading-none text form there = rw (form, there)
 
 pub edition_reading-is : (text : List ℕ) → fits edition_form text ≡ true → no_edition (number text) ≡ false
-    → edition_reading text ≡ which-edition.Is (number text)
+    → edition_reading text ≡ Ok (number text)
 unfolding edition_reading
 edition_reading-is text form known = rw (form, known)
 
-pub edition_reading-form : (text : List ℕ) → fits edition_form text ≡ false → edition_reading text ≡ which-edition.Refused NoSuchEdition 0
+pub edition_reading-form : (text : List ℕ) → fits edition_form text ≡ false → edition_reading text ≡ Refused NoSuchEdition 0
 unfolding edition_reading
 edition_reading-form text form = rw form
 
 pub edition_reading-none : (text : List ℕ) → fits edition_form text ≡ true → no_edition (number text) ≡ true
-    → edition_reading text ≡ which-edition.Refused NoSuchEdition 0
+    → edition_reading text ≡ Refused NoSuchEdition 0
 unfolding edition_reading
 edition_reading-none text form other = rw (form, other)
 
@@ -122,22 +122,6 @@ yearly_in-pairs text m d month day = rw (month, day)
 
 -- ---- Writing
 
-pub date_writing-is : (d : Date) → date_exists d ≡ true
-    → date_writing d ≡ record { checked = checked.Lawful; bytes = date_text d }
+pub date_writing-is : (d : Date) → date_exists d ≡ true → date_writing d ≡ Ok (date_text d)
 unfolding date_writing
 date_writing-is d h = rw h
-
-pub date_writing-refused : (d : Date) → date_exists d ≡ false
-    → date_writing d ≡ record { checked = checked.Refused NoSuchDate 0; bytes = replicate 10 0 }
-unfolding date_writing
-date_writing-refused d h = rw h
-
-pub yearly_writing-is : (t : YearlyDate) → in_no_year t ≡ false
-    → yearly_writing t ≡ record { checked = checked.Lawful; bytes = yearly_text t }
-unfolding yearly_writing
-yearly_writing-is t h = rw h
-
-pub yearly_writing-refused : (t : YearlyDate) → in_no_year t ≡ true
-    → yearly_writing t ≡ record { checked = checked.Refused NoSuchDate 0; bytes = replicate 5 0 }
-unfolding yearly_writing
-yearly_writing-refused t h = rw h

@@ -3,7 +3,7 @@
 use Rattle.base.proofs.Prelude.{ℕ, ◌≡◌, refl, List, [], ◌∷◌, map}
 use Prim.Native.{Char.code, String.String}
 use Rattle.base.specs.{Count.{sum_of, up_from, keep, every}, Digits.{places_of, number_on}}
-use Rattle.calendar.specs.{declared.Date.Date, declared.YearlyDate.YearlyDate, Years.{leap_year, year_length, months_with, month_lengths, month_length}, Dates.{date, date_exists, date_after}, Numbers.{days_before_year, days_before_month, day_number, date_of}, Weekdays.weekday_of, Yearly.{on_leap_day, in_no_year, moved_in, in_year, dates_in, days_in}, Refusals.{date_answer, day_answer, weekday_answer, yearly_check, listed_if, stored_if, yearly_answer, yearly_listed}, Texts.{digits, fits_at, fits, date_text, date_in, yearly_in, date_reading, yearly_reading, no_number, day_reading, edition_reading}, Said.{Said, refused, on, day, weekday, days, yearly, edition, date_says, day_says, weekday_says, yearly_says, edition_says, listed_says}}
+use Rattle.calendar.specs.{declared.Date.Date, declared.YearlyDate.YearlyDate, Years.{leap_year, year_length, months_with, month_lengths, month_length}, Dates.{date, date_exists, date_after}, Numbers.{days_before_year, days_before_month, day_number, date_of}, Weekdays.weekday_of, Yearly.{on_leap_day, in_no_year, moved_in, in_year, dates_in, days_in}, Refusals.{date_answer, day_answer, weekday_answer, yearly_answer, yearly_listed}, Texts.{digits, fits_at, fits, date_text, date_in, yearly_in, date_reading, yearly_reading, no_number, day_reading, edition_reading}, Said.{Said, refused, on, day, weekday, days, yearly, edition, date_says, day_says, weekday_says, yearly_says, edition_says, listed_says}}
 use Prim.Native.String as text
 
 pub data Question : Type 0 where
@@ -134,6 +134,6 @@ unfolding
     leap_year year_length months_with month_lengths month_length date_exists date_after
     days_before_year days_before_month day_number date_of weekday_of
     on_leap_day in_no_year moved_in in_year dates_in days_in
-    date_answer day_answer weekday_answer yearly_check listed_if stored_if yearly_answer yearly_listed
+    date_answer day_answer weekday_answer yearly_answer yearly_listed
     digits places_of number_on fits_at fits date_text date_in yearly_in date_reading yearly_reading no_number day_reading edition_reading
 worked = refl

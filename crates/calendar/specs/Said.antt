@@ -8,19 +8,13 @@
 --     yearly m d            a month and a day
 --     edition ed            an edition
 use Rattle.std.specs.Prelude.{ℕ}
+use Rattle.calendar.specs.declared.Date.{Date}
+use Rattle.days.specs.declared.Day.{Day}
+use Rattle.calendar.specs.declared.Weekday.{Weekday}
+use Rattle.calendar.specs.declared.YearlyDate.{YearlyDate}
+use Rattle.faults.specs.declared.Refusal.{Refusal}
+use Rattle.std.specs.Prelude.{Ok, Err, Result}
 use Rattle.faults.specs.Checks.{fault_number}
-use Rattle.calendar.specs.declared.WhichDate.{WhichDate}
-use Rattle.calendar.specs.declared.WhichDate.TheVariants as which-date
-use Rattle.calendar.specs.declared.WhichDay.{WhichDay}
-use Rattle.calendar.specs.declared.WhichDay.TheVariants as which-day
-use Rattle.calendar.specs.declared.WhichWeekday.{WhichWeekday}
-use Rattle.calendar.specs.declared.WhichWeekday.TheVariants as which-weekday
-use Rattle.calendar.specs.declared.WhichYearly.{WhichYearly}
-use Rattle.calendar.specs.declared.WhichYearly.TheVariants as which-yearly
-use Rattle.calendar.specs.declared.WhichEdition.{WhichEdition}
-use Rattle.calendar.specs.declared.WhichEdition.TheVariants as which-edition
-use Rattle.calendar.specs.declared.Listed.{Listed}
-use Rattle.calendar.specs.declared.Listed.TheVariants as listed
 use Rattle.calendar.specs.Weekdays.{weekday_number}
 
 pub data Said : Type 0 where
@@ -32,26 +26,26 @@ pub data Said : Type 0 where
   yearly : ℕ → ℕ → Said
   edition : ℕ → Said
 
-abbrev pub date_says : WhichDate → Said
-date_says (which-date.Is d) = on d.year d.month d.day
-date_says (which-date.Refused f at) = refused (fault_number f) at
+abbrev pub date_says : Result Date Refusal → Said
+date_says (Ok d) = on d.year d.month d.day
+date_says (Err e) = refused (fault_number e.fault) e.at
 
-abbrev pub day_says : WhichDay → Said
-day_says (which-day.Is k) = day k.0
-day_says (which-day.Refused f at) = refused (fault_number f) at
+abbrev pub day_says : Result Day Refusal → Said
+day_says (Ok k) = day k.0
+day_says (Err e) = refused (fault_number e.fault) e.at
 
-abbrev pub weekday_says : WhichWeekday → Said
-weekday_says (which-weekday.Is w) = weekday (weekday_number w)
-weekday_says (which-weekday.Refused f at) = refused (fault_number f) at
+abbrev pub weekday_says : Result Weekday Refusal → Said
+weekday_says (Ok w) = weekday (weekday_number w)
+weekday_says (Err e) = refused (fault_number e.fault) e.at
 
-abbrev pub yearly_says : WhichYearly → Said
-yearly_says (which-yearly.Is t) = yearly t.month t.day
-yearly_says (which-yearly.Refused f at) = refused (fault_number f) at
+abbrev pub yearly_says : Result YearlyDate Refusal → Said
+yearly_says (Ok t) = yearly t.month t.day
+yearly_says (Err e) = refused (fault_number e.fault) e.at
 
-abbrev pub edition_says : WhichEdition → Said
-edition_says (which-edition.Is ed) = edition ed
-edition_says (which-edition.Refused f at) = refused (fault_number f) at
+abbrev pub edition_says : Result ℕ Refusal → Said
+edition_says (Ok ed) = edition ed
+edition_says (Err e) = refused (fault_number e.fault) e.at
 
-abbrev pub listed_says : Listed → Said
-listed_says (listed.Days n) = days n
-listed_says (listed.Refused f at) = refused (fault_number f) at
+abbrev pub listed_says : Result ℕ Refusal → Said
+listed_says (Ok n) = days n
+listed_says (Err e) = refused (fault_number e.fault) e.at

@@ -11,27 +11,20 @@
 --     yearly_reading text    the yearly date that a text writes, or 10
 --     edition_reading text   the edition that a text writes by one digit, or 11 for any other text
 --     day_reading text       the day that a text writes in decimal, without leading zeros, or 10
---     date_writing d         the text of a date that exists, or 10 and zeros
---     yearly_writing t       the text of a month and day that exist in some year, or 10 and zeros
-use Rattle.std.specs.Prelude.{ℕ, Bool, true, false, not, cond, ◌&&◌, ◌||◌, List, [], ◌∷◌, ◌++◌, map, eqb, ltb, leb, length, get_or, take, drop, replicate}
+--     date_writing d         the text of a date that exists, or 10
+--     yearly_writing t       the text of a month and day that exist in some year, or 10
+use Rattle.std.specs.Prelude.{ℕ, Bool, true, false, not, cond, ◌&&◌, ◌||◌, List, [], ◌∷◌, ◌++◌, map, eqb, ltb, leb, length, get_or, take, drop}
+use Rattle.days.specs.declared.Day.{Day}
+use Rattle.faults.specs.Checks.{Refused}
+use Rattle.faults.specs.declared.Refusal.{Refusal}
+use Rattle.std.specs.Prelude.{Ok, Result}
 use Rattle.days.specs.Days.{day}
 use Rattle.base.specs.Count.{every}
 use Rattle.base.specs.Digits.{places_of, figure, decimal_in}
 use Rattle.faults.specs.declared.Fault.TheVariants.{NoSuchDate, NoSuchEdition}
-use Rattle.faults.specs.declared.Checked.TheVariants as checked
 use Rattle.faults.specs.Checks.{in_bounds}
 use Rattle.calendar.specs.declared.Date.{Date}
 use Rattle.calendar.specs.declared.YearlyDate.{YearlyDate}
-use Rattle.calendar.specs.declared.WhichDate.{WhichDate}
-use Rattle.calendar.specs.declared.WhichDate.TheVariants as which-date
-use Rattle.calendar.specs.declared.WhichDay.{WhichDay}
-use Rattle.calendar.specs.declared.WhichDay.TheVariants as which-day
-use Rattle.calendar.specs.declared.WhichYearly.{WhichYearly}
-use Rattle.calendar.specs.declared.WhichYearly.TheVariants as which-yearly
-use Rattle.calendar.specs.declared.WhichEdition.{WhichEdition}
-use Rattle.calendar.specs.declared.WhichEdition.TheVariants as which-edition
-use Rattle.calendar.specs.declared.DateText.{DateText}
-use Rattle.calendar.specs.declared.YearlyText.{YearlyText}
 use Rattle.calendar.specs.Dates.{date, date_exists}
 use Rattle.calendar.specs.Numbers.{last_day}
 use Rattle.calendar.specs.Yearly.{no_edition, in_no_year}
@@ -50,15 +43,11 @@ date_text d = digits 4 d.year ++ hyphen ∷ digits 2 d.month ++ hyphen ∷ digit
 unfoldable pub yearly_text : YearlyDate → List ℕ
 yearly_text t = digits 2 t.month ++ hyphen ∷ digits 2 t.day
 
-unfoldable pub date_writing : Date → DateText
-date_writing d =
-    cond (date_exists d) (record { checked = checked.Lawful; bytes = date_text d })
-    (record { checked = checked.Refused NoSuchDate 0; bytes = replicate 10 0 })
+unfoldable pub date_writing : Date → Result (List ℕ) Refusal
+date_writing d = cond (date_exists d) (Ok (date_text d)) (Refused NoSuchDate 0)
 
-unfoldable pub yearly_writing : YearlyDate → YearlyText
-yearly_writing t =
-    cond (in_no_year t) (record { checked = checked.Refused NoSuchDate 0; bytes = replicate 5 0 })
-    (record { checked = checked.Lawful; bytes = yearly_text t })
+unfoldable pub yearly_writing : YearlyDate → Result (List ℕ) Refusal
+yearly_writing t = cond (in_no_year t) (Refused NoSuchDate 0) (Ok (yearly_text t))
 
 -- ---- Reading
 
@@ -90,23 +79,23 @@ date_in text = date (number (take 4 text)) (number (take 2 (drop 5 text))) (numb
 unfoldable pub yearly_in : List ℕ → YearlyDate
 yearly_in text = record { month = number (take 2 text); day = number (take 2 (drop 3 text)) }
 
-unfoldable pub date_reading : List ℕ → WhichDate
+unfoldable pub date_reading : List ℕ → Result Date Refusal
 date_reading text =
-    cond (fits date_form text && date_exists (date_in text)) (which-date.Is (date_in text)) (which-date.Refused NoSuchDate 0)
+    cond (fits date_form text && date_exists (date_in text)) (Ok (date_in text)) (Refused NoSuchDate 0)
 
-unfoldable pub yearly_reading : List ℕ → WhichYearly
+unfoldable pub yearly_reading : List ℕ → Result YearlyDate Refusal
 yearly_reading text =
-    cond (fits yearly_form text && not (in_no_year (yearly_in text))) (which-yearly.Is (yearly_in text)) (which-yearly.Refused NoSuchDate 0)
+    cond (fits yearly_form text && not (in_no_year (yearly_in text))) (Ok (yearly_in text)) (Refused NoSuchDate 0)
 
-unfoldable pub edition_reading : List ℕ → WhichEdition
+unfoldable pub edition_reading : List ℕ → Result ℕ Refusal
 edition_reading text =
-    cond (fits edition_form text && not (no_edition (number text))) (which-edition.Is (number text)) (which-edition.Refused NoSuchEdition 0)
+    cond (fits edition_form text && not (no_edition (number text))) (Ok (number text)) (Refused NoSuchEdition 0)
 
 -- empty, or with a leading zero
 unfoldable pub no_number : List ℕ → Bool
 no_number text = eqb (length text) 0 || ltb 1 (length text) && eqb (get_or text 0 0) 0x30
 
-unfoldable pub day_reading : List ℕ → WhichDay
+unfoldable pub day_reading : List ℕ → Result Day Refusal
 day_reading text =
-    cond (every (fits_at 0x30) text && not (no_number text) && leb (number text) last_day) (which-day.Is (day (number text)))
-    (which-day.Refused NoSuchDate 0)
+    cond (every (fits_at 0x30) text && not (no_number text) && leb (number text) last_day) (Ok (day (number text)))
+    (Refused NoSuchDate 0)

@@ -6,24 +6,38 @@ mod month;
 mod text;
 mod year;
 
-ghost use Rattle.std.specs.Prelude.{◌≡◌, true, ◌≤◌};
+ghost use Rattle.std.specs.Prelude.{◌≡◌, true, not, ◌≤◌};
+ghost use Rattle.faults.specs.Checks.{refuse_if};
+ghost use Rattle.faults.specs.declared.Fault.TheVariants.{NoSuchDate};
 ghost use Rattle.calendar.specs.Dates.{epoch, date_exists};
 ghost use Rattle.calendar.specs.Numbers.{day_number, date_of, last_day};
 ghost use Rattle.calendar.specs.Weekdays.{weekday_of};
 ghost use Rattle.calendar.specs.Refusals.{date_answer, day_answer, weekday_answer};
 
 use days::Day;
-use faults::{Checked, Fault};
+use faults::{Checked, Fault, Refusal};
 pub use listing::{falls_on, yearly};
 use month::{in_month, month_length, month_start};
 pub use text::{date_read, date_text, day_read, edition_read, fits, yearly_read, yearly_text};
 use year::{february, in_year, year_start};
 
 // 31 December 2399.
-pub(crate) const LAST_DAY: u32 = 146096;
+pub(crate) const LAST_DAY: Day = Day(146096);
+
+// No date of the calendar, a month and day of no year, or no day of the calendar.
+pub(crate) const NO_SUCH_DATE: Refusal = Refusal {
+    fault: Fault::NoSuchDate,
+    at: 0,
+};
+
+// An edition that is neither 1 nor 2.
+pub(crate) const NO_SUCH_EDITION: Refusal = Refusal {
+    fault: Fault::NoSuchEdition,
+    at: 0,
+};
 
 // A day of a month of a year. It may not exist: every function that is given one says so.
-#[derive(Clone, Copy)]
+#[derive(Clone, Copy, PartialEq, Eq)]
 pub struct Date {
     pub year: u32,
     pub month: u32,
@@ -31,7 +45,7 @@ pub struct Date {
 }
 
 // The week from Saturday on: day 0 is a Saturday.
-#[derive(Clone, Copy)]
+#[derive(Clone, Copy, PartialEq, Eq)]
 pub enum Weekday {
     Saturday,
     Sunday,
@@ -43,61 +57,10 @@ pub enum Weekday {
 }
 
 // A month and a day of it, in whatever year.
-#[derive(Clone, Copy)]
+#[derive(Clone, Copy, PartialEq, Eq)]
 pub struct YearlyDate {
     pub month: u32,
     pub day: u32,
-}
-
-#[derive(Clone, Copy)]
-pub enum WhichDate {
-    Is(Date),
-    Refused { fault: Fault, at: usize },
-}
-
-#[derive(Clone, Copy)]
-pub enum WhichDay {
-    Is(Day),
-    Refused { fault: Fault, at: usize },
-}
-
-#[derive(Clone, Copy)]
-pub enum WhichWeekday {
-    Is(Weekday),
-    Refused { fault: Fault, at: usize },
-}
-
-#[derive(Clone, Copy)]
-pub enum WhichYearly {
-    Is(YearlyDate),
-    Refused { fault: Fault, at: usize },
-}
-
-#[derive(Clone, Copy)]
-pub enum WhichEdition {
-    Is(u32),
-    Refused { fault: Fault, at: usize },
-}
-
-// How many days were listed.
-#[derive(Clone, Copy)]
-pub enum Listed {
-    Days(usize),
-    Refused { fault: Fault, at: usize },
-}
-
-// A date's text; zeros where it is refused.
-#[derive(Clone, Copy)]
-pub struct DateText {
-    pub checked: Checked,
-    pub bytes: [u8; 10],
-}
-
-// A yearly date's text; zeros where it is refused.
-#[derive(Clone, Copy)]
-pub struct YearlyText {
-    pub checked: Checked,
-    pub bytes: [u8; 5],
 }
 
 impl Date {
@@ -116,67 +79,55 @@ impl Date {
     }
 
     // The date of a day.
-    pub fn from_day(day: Day) -> WhichDate
+    #[tactic(auto, unfolding(crate::specs::Refusals::date_answer))]
+    pub fn from_day(day: Day) -> Result<Date, Refusal>
         ensures exact { result ≡ date_answer day.0 }
     {
-        if LAST_DAY < day.0 {
-            return WhichDate::Refused {
-                fault: Fault::NoSuchDate,
-                at: 0,
-            };
+        if day <= LAST_DAY {
+            Ok(date_of(day))
+        } else {
+            Err(NO_SUCH_DATE)
         }
-        WhichDate::Is(date_of(day.0))
     }
 
     // The day of a date.
-    pub fn day_number(self) -> WhichDay
+    #[tactic(auto, unfolding(crate::specs::Refusals::day_answer))]
+    pub fn day_number(self) -> Result<Day, Refusal>
         ensures exact { result ≡ day_answer self }
     {
-        if date_exists(self) {
-            WhichDay::Is(Day(number_of(self)))
-        } else {
-            WhichDay::Refused {
-                fault: Fault::NoSuchDate,
-                at: 0,
-            }
-        }
+        date_check(self)?;
+        Ok(Day(number_of(self)))
     }
 
     // The weekday of a date.
-    pub fn weekday(self) -> WhichWeekday
+    #[tactic(auto, unfolding(crate::specs::Refusals::weekday_answer))]
+    pub fn weekday(self) -> Result<Weekday, Refusal>
         ensures exact { result ≡ weekday_answer self }
     {
-        if date_exists(self) {
-            WhichWeekday::Is(weekday_of(number_of(self)))
-        } else {
-            WhichWeekday::Refused {
-                fault: Fault::NoSuchDate,
-                at: 0,
-            }
-        }
+        date_check(self)?;
+        Ok(weekday_of(number_of(self)))
     }
 }
 
 // Whether a date is one of the calendar's.
+#[tactic(auto, unfolding(crate::specs::Dates::date_exists, crate::specs::Years::month_length, crate::specs::Years::month_lengths))]
 pub(crate) fn date_exists(d: Date) -> bool
     ensures exact { result ≡ date_exists d }
 {
-    if d.year < Date::EPOCH.year {
-        return false;
+    (Date::EPOCH.year..=2399).contains(&d.year)
+        && (1..=12).contains(&d.month)
+        && (1..=month_length(february(d.year), d.month)).contains(&d.day)
+}
+
+// Refuses a date that is none of the calendar's.
+pub(crate) fn date_check(d: Date) -> Checked
+    ensures exact { result ≡ refuse_if (not (date_exists d)) NoSuchDate 0 }
+{
+    if date_exists(d) {
+        Ok(())
+    } else {
+        Err(NO_SUCH_DATE)
     }
-    if 2399 < d.year {
-        return false;
-    }
-    if d.month < 1 {
-        return false;
-    }
-    if 12 < d.month {
-        return false;
-    }
-    if d.day < 1 {
-        return false;
-    }
-    d.day <= month_length(february(d.year), d.month)
 }
 
 // The days that lie before a date.
@@ -188,11 +139,11 @@ pub(crate) fn number_of(d: Date) -> u32
 }
 
 // The date of a day of the calendar.
-pub(crate) fn date_of(day: u32) -> Date
-    requires { day ≤ last_day }
-    ensures exact { result ≡ date_of day }
+pub(crate) fn date_of(day: Day) -> Date
+    requires { day.0 ≤ last_day }
+    ensures exact { result ≡ date_of day.0 }
 {
-    let in_year = in_year(day);
+    let in_year = in_year(day.0);
     let year = Date::EPOCH.year + in_year.whole;
     let in_month = in_month(february(year), in_year.rest);
     Date {
@@ -203,11 +154,11 @@ pub(crate) fn date_of(day: u32) -> Date
 }
 
 // The weekday of a day: the week starts anew on every seventh day from Saturday, day 0.
+#[tactic(auto, unfolding(crate::specs::Weekdays::weekday_of))]
 pub(crate) fn weekday_of(day: u32) -> Weekday
     ensures exact { result ≡ weekday_of day }
 {
-    let place = day % 7;
-    match place {
+    match day % 7 {
         0 => Weekday::Saturday,
         1 => Weekday::Sunday,
         2 => Weekday::Monday,

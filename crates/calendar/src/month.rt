@@ -8,14 +8,16 @@ ghost use Rattle.calendar.specs.inner.Places.{InMonth};
 use super::year::Within;
 
 // The days of a month.
+#[tactic(auto, unfolding(crate::specs::Years::months_with))]
 pub(crate) fn month_length(february: u32, month: u32) -> u32
     requires { (1 ≤ month) × (month ≤ 12) }
     ensures exact { result ≡ get_or (months_with february) (month - 1) 0 }
 {
-    if month == 2 {
-        return february;
+    match month {
+        2 => february,
+        4 | 6 | 9 | 11 => 30,
+        _ => 31,
     }
-    30 + (month + month / 8) % 2
 }
 
 // The days that lie before a month.
@@ -26,9 +28,10 @@ pub(crate) fn month_start(february: u32, month: u32) -> u32
 {
     let full = (367 * month - 362) / 12;
     if month <= 2 {
-        return full;
+        full
+    } else {
+        full - (30 - february)
     }
-    full - (30 - february)
 }
 
 // The same for a year whose February has 30 days.
@@ -50,7 +53,8 @@ pub(crate) fn in_month(february: u32, day: u32) -> Within
     ensures placed { InMonth february day result.whole result.rest }
 {
     if day < 31 + february {
-        return in_full_month(day);
+        in_full_month(day)
+    } else {
+        in_full_month(day + (30 - february))
     }
-    in_full_month(day + (30 - february))
 }

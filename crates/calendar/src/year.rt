@@ -11,20 +11,19 @@ pub(crate) struct Within {
     pub rest: u32,
 }
 
+// Whether a year is a leap year.
+#[tactic(auto, unfolding(crate::specs::Years::leap_year))]
+pub(crate) fn leap_year(year: u32) -> bool
+    ensures exact { result ≡ leap_year year }
+{
+    year % 4 == 0 && (year % 100 != 0 || year % 400 == 0)
+}
+
 // The days of a year's February.
 pub(crate) fn february(year: u32) -> u32
     ensures exact { result ≡ cond (leap_year year) 29 28 }
 {
-    if year % 4 != 0 {
-        return 28;
-    }
-    if year % 100 != 0 {
-        return 29;
-    }
-    if year % 400 != 0 {
-        return 28;
-    }
-    29
+    if leap_year(year) { 29 } else { 28 }
 }
 
 // The day number of 1 January of year 2000 + k: a day more after every fourth year, none after a hundredth, but after a four hundredth.
@@ -44,13 +43,15 @@ pub(crate) fn in_year(day: u32) -> Within
     let guess = (400 * day + 396) / 146097;
     let first = year_start(guess);
     if first <= day {
-        return Within {
+        Within {
             whole: guess,
             rest: day - first,
-        };
-    }
-    Within {
-        whole: guess - 1,
-        rest: day - year_start(guess - 1),
+        }
+    } else {
+        let whole = guess - 1;
+        Within {
+            whole,
+            rest: day - year_start(whole),
+        }
     }
 }

@@ -1,89 +1,67 @@
 // A command is its words, each ended by a byte 0: the words of a start, or those of a line in a list of commands.
 ghost use Rattle.std.specs.Counts.{IsPrefixLen};
 
-use std::env::FillError;
+use doors::word_count;
 use std::rt::Env;
+
+#[derive(Clone, Copy)]
+pub(crate) struct Command<'a> {
+    pub(crate) words: &'a [u8],
+}
+
+impl<'a> Command<'a> {
+    // A word, counted from 0; an empty one where there is none.
+    pub(crate) fn word(self, k: usize) -> &'a [u8] {
+        self.words.split(|b| *b == 0).nth(k).unwrap_or(&[])
+    }
+
+    // How many words there are.
+    pub(crate) fn count(self) -> usize {
+        self.words.iter().filter(|b| **b == 0).count()
+    }
+}
 
 // The first bytes of a text, or all of it where it has fewer.
 pub(crate) fn first(text: &[u8], n: usize) -> &[u8] {
-    if text.len() < n {
-        return text;
-    }
-    &text[..n]
+    &text[..n.min(text.len())]
 }
 
-// Where a byte first stands in a text, or the text's length.
-pub(crate) fn find(text: &[u8], b: u8) -> usize
-    ensures { IsPrefixLen result text.now }
-{
-    text.iter().position(|x| *x == b).unwrap_or(text.len())
-}
-
-// A word of a command, counted from 0; an empty one where there is none.
-pub(crate) fn word(command: &[u8], k: usize) -> &[u8] {
-    command.split(|b| *b == 0).nth(k).unwrap_or(&[])
-}
-
-// How many words a command has.
-pub(crate) fn word_count(command: &[u8]) -> usize {
-    command.iter().filter(|b| **b == 0).count()
-}
-
-pub(crate) fn same(a: &[u8], b: &[u8]) -> bool {
-    a == b
-}
-
-// A word that is a number in decimal digits: below 2^64, or larger.
-#[derive(Clone, Copy)]
-pub(crate) enum Number {
-    Is { value: u64 },
+// Why a word is no number below 2^64 in decimal digits.
+#[derive(Clone, Copy, PartialEq, Eq)]
+pub(crate) enum NoNumber {
     Larger,
     Malformed,
 }
 
 // A number that is too large as far as it was read.
-fn larger(rest: &[u8]) -> Number {
+fn larger(rest: &[u8]) -> NoNumber {
     if rest.iter().all(|b| b.is_ascii_digit()) {
-        Number::Larger
+        NoNumber::Larger
     } else {
-        Number::Malformed
+        NoNumber::Malformed
     }
 }
 
-pub(crate) fn decimal(word: &[u8]) -> Number {
-    if word.len() == 0 {
-        return Number::Malformed;
+// The number that a word writes in decimal digits. std's `parse` takes a sign, too.
+pub(crate) fn decimal(word: &[u8]) -> Result<u64, NoNumber> {
+    if word.is_empty() {
+        return Err(NoNumber::Malformed);
     }
     let mut value: u64 = 0;
-    for i in 0..word.len() {
-        let digit = wide(word[i]);
-        if digit < 48 {
-            return Number::Malformed;
+    for (i, b) in word.iter().enumerate() {
+        if !b.is_ascii_digit() {
+            return Err(NoNumber::Malformed);
         }
-        if 57 < digit {
-            return Number::Malformed;
-        }
-        let d = digit - 48;
-        if (u64::MAX - d) / 10 < value {
-            return larger(&word[i..]);
-        }
-        value = value * 10 + d;
+        let digit = u64::from(*b - b'0');
+        let Some(next) = value
+            .checked_mul(10)
+            .and_then(|tens| tens.checked_add(digit))
+        else {
+            return Err(larger(&word[i..]));
+        };
+        value = next;
     }
-    Number::Is { value }
-}
-
-fn wide(b: u8) -> u64 {
-    b as u64
-}
-
-// How many words this start has, the program's own name among them.
-pub(crate) fn arg_count(rt: &HostRuntime) -> usize {
-    for i in 0..usize::MAX {
-        if let Err(FillError::NotPresent) = rt.arg(i, &mut []) {
-            return i;
-        }
-    }
-    usize::MAX
+    Ok(value)
 }
 
 // The words of this start from the `from`-th on, in lent room; their length, or 0 where one is empty or there is too little room.
@@ -91,7 +69,7 @@ pub(crate) fn taken(rt: &HostRuntime, from: usize, room: &mut [u8]) -> usize
     ensures { IsPrefixLen result room.new }
 {
     let mut at: usize = 0;
-    for i in from..arg_count(rt) {
+    for i in from..word_count(rt) {
         let n = rt.arg(i, &mut room[at..]).unwrap_or(0);
         if n == 0 {
             return 0;

@@ -1,138 +1,101 @@
 // `date TEXT`, `day NUMBER`, `yearly MM-DD EDITION FIRST LAST`: what the calendar answers, a line for each day.
-ghost use Rattle.std.specs.Prelude.{◌≤◌, length};
-
-use super::commands::{first as start_of, word, word_count};
+use super::commands::{Command, first as start_of};
 use super::say;
-use super::say::{End, larger};
-use calendar::{
-    Listed, WhichDate, WhichDay, WhichEdition, WhichYearly, YearlyDate, date_read, day_read,
-    edition_read, yearly, yearly_read,
-};
+use calendar::{YearlyDate, date_read, day_read, edition_read, yearly, yearly_read};
 use days::Day;
+use doors::Stop;
+use faults::Refusal;
 use lines::Page;
 
 // 31 December 2399, the last day of the calendar.
-const LAST: u32 = 146096;
+const LAST: Day = Day(146096);
 
 // A date's text has so many bytes.
 const DATE_BYTES: usize = 10;
 
 // The line would say by itself that there is no such date; how the command ended is asked for too.
-pub(crate) fn date(rt: &HostRuntime, command: &[u8]) -> End {
-    if word_count(command) != 2 {
-        return say::complain(rt, b"date YYYY-MM-DD");
+pub(crate) fn date(rt: &HostRuntime, command: Command) -> Result<(), Stop> {
+    if command.count() != 2 {
+        return Err(say::complain(rt, b"date YYYY-MM-DD"));
     }
-    let text = word(command, 1);
-    let date = date_read(text);
-    match date {
-        WhichDate::Is(_) => say::answer_page(rt, lines::date_line(text)),
-        WhichDate::Refused { fault, at } => say::refused(rt, fault, at),
-    }
+    let text = command.word(1);
+    date_read(text).map_err(|refusal| say::refused(rt, refusal))?;
+    say::page(rt, lines::date_line(text))
 }
 
-pub(crate) fn day(rt: &HostRuntime, command: &[u8]) -> End {
-    if word_count(command) != 2 {
-        return say::complain(rt, b"day NUMBER");
+pub(crate) fn day(rt: &HostRuntime, command: Command) -> Result<(), Stop> {
+    if command.count() != 2 {
+        return Err(say::complain(rt, b"day NUMBER"));
     }
-    let asked = day_read(word(command, 1));
-    match asked {
-        WhichDay::Is(day) => say::answer_page(rt, lines::day_line(day)),
-        WhichDay::Refused { fault, at } => say::refused(rt, fault, at),
-    }
+    let day = day_read(command.word(1)).map_err(|refusal| say::refused(rt, refusal))?;
+    say::page(rt, lines::day_line(day))
 }
 
-pub(crate) fn yearly_days(rt: &HostRuntime, command: &[u8]) -> End {
-    if word_count(command) != 5 {
-        return say::complain(rt, b"yearly MM-DD EDITION FIRST LAST");
-    }
-    // the edition is looked at before any date
-    let edition = edition_read(word(command, 2));
-    match edition {
-        WhichEdition::Is(edition) => by_edition(rt, edition, command),
-        WhichEdition::Refused { fault, at } => say::refused(rt, fault, at),
-    }
+// What is asked for: a yearly test by its edition, from one day to another.
+#[derive(Clone, Copy)]
+struct Asked {
+    on: YearlyDate,
+    edition: u32,
+    first: Day,
+    last: Day,
 }
 
-fn by_edition(rt: &HostRuntime, edition: u32, command: &[u8]) -> End {
-    let on = yearly_read(word(command, 1));
-    match on {
-        WhichYearly::Is(on) => from_first(rt, on, edition, word(command, 3), word(command, 4)),
-        WhichYearly::Refused { fault, at } => say::refused(rt, fault, at),
-    }
+// The edition is looked at before any date.
+fn asked_in(command: Command) -> Result<Asked, Refusal> {
+    let edition = edition_read(command.word(2))?;
+    let on = yearly_read(command.word(1))?;
+    let first = date_read(command.word(3))?.day_number()?;
+    let last = date_read(command.word(4))?.day_number()?;
+    Ok(Asked {
+        on,
+        edition,
+        first,
+        last,
+    })
 }
 
-// The day of a date's text.
-fn day_of(text: &[u8]) -> WhichDay {
-    let date = date_read(text);
-    match date {
-        WhichDate::Is(date) => date.day_number(),
-        WhichDate::Refused { fault, at } => WhichDay::Refused { fault, at },
+pub(crate) fn yearly_days(rt: &HostRuntime, command: Command) -> Result<(), Stop> {
+    if command.count() != 5 {
+        return Err(say::complain(rt, b"yearly MM-DD EDITION FIRST LAST"));
     }
-}
-
-fn from_first(rt: &HostRuntime, on: YearlyDate, edition: u32, first: &[u8], last: &[u8]) -> End {
-    let from = day_of(first);
-    match from {
-        WhichDay::Is(from) => to_last(rt, on, edition, from, last),
-        WhichDay::Refused { fault, at } => say::refused(rt, fault, at),
+    let asked = asked_in(command).map_err(|refusal| say::refused(rt, refusal))?;
+    // the calendar has 400 years, so that many places are enough
+    let mut list = [0u32; 400];
+    let count = yearly(asked.on, asked.edition, asked.first, asked.last, &mut list).map_err(
+        |refusal| say::refused(rt, refusal),
+    )?;
+    if count == 0 {
+        return none(rt, asked);
     }
-}
-
-// The calendar has 400 years, so that many places are enough.
-fn to_last(rt: &HostRuntime, on: YearlyDate, edition: u32, first: Day, last: &[u8]) -> End {
-    let to = day_of(last);
-    match to {
-        WhichDay::Is(to) => {
-            let mut list = [0u32; 400];
-            let listed = yearly(on, edition, first, to, &mut list);
-            match listed {
-                Listed::Days(count) => {
-                    if count == 0 {
-                        return none(rt, on, edition, first, to);
-                    }
-                    write_days(rt, list, count)
-                }
-                Listed::Refused { fault, at } => say::refused(rt, fault, at),
-            }
-        }
-        WhichDay::Refused { fault, at } => say::refused(rt, fault, at),
+    for day in list.iter().take(count) {
+        say::page(rt, lines::day_line(Day(*day)))?;
     }
-}
-
-fn write_days(rt: &HostRuntime, list: [u32; 400], count: usize) -> End {
-    let mut end = End::Answered;
-    for i in 0..400 {
-        if i < count {
-            let day = Day(list[i]);
-            end = larger(end, say::answer_page(rt, lines::day_line(day)));
-        }
-    }
-    end
+    Ok(())
 }
 
 // The test falls on no day from the first to the last: why, or when it falls next.
-fn none(rt: &HostRuntime, on: YearlyDate, edition: u32, first: Day, last: Day) -> End {
-    if last.before(first) {
-        return say::empty(rt, b"none: the first day is after the last", b"");
+fn none(rt: &HostRuntime, asked: Asked) -> Result<(), Stop> {
+    if asked.last < asked.first {
+        say::empty(rt, b"none: the first day is after the last", b"");
+        return Ok(());
     }
     let mut list = [0u32; 400];
-    let listed = yearly(on, edition, last, Day(LAST), &mut list);
-    match listed {
-        Listed::Days(count) => {
-            if count == 0 {
-                return say::empty(rt, b"none; there is none up to 2399-12-31", b"");
-            }
-            say_next(rt, lines::day_line(Day(list[0])))
-        }
-        Listed::Refused { fault, at } => say::refused(rt, fault, at),
+    let count = yearly(asked.on, asked.edition, asked.last, LAST, &mut list).map_err(
+        |refusal| say::refused(rt, refusal),
+    )?;
+    if count == 0 {
+        say::empty(rt, b"none; there is none up to 2399-12-31", b"");
+    } else {
+        say_next(rt, lines::day_line(Day(list[0])));
     }
+    Ok(())
 }
 
 // The line of a day begins with its date.
-fn say_next(rt: &HostRuntime, page: Page) -> End
-    requires { page.len ≤ length page.bytes }
-{
-    let n = page.len;
-    let bytes = page.bytes;
-    say::empty(rt, b"none; the next is ", start_of(&bytes[..n], DATE_BYTES))
+fn say_next(rt: &HostRuntime, page: Page) {
+    say::empty(
+        rt,
+        b"none; the next is ",
+        start_of(&page.bytes[..page.len], DATE_BYTES),
+    );
 }

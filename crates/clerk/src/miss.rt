@@ -1,27 +1,22 @@
 // `miss [FILE]`: the plan in a file with releases over which it misses a deadline, as a plan file; nothing where there is none to write.
-use super::commands::{first, word_count};
-use super::files::{Got, read_named};
+use super::commands::{Command, first};
+use super::files::read_by;
+use super::plans::name_in;
 use super::say;
-use super::say::End;
+use doors::{Stop, write};
 use missed::Missed;
 
-pub(crate) fn miss(rt: &HostRuntime, command: &[u8]) -> End {
-    if 2 < word_count(command) {
-        return say::complain(rt, b"miss [FILE]");
-    }
-    let mut text = [0u8; 65537];
-    let got = read_named(rt, command, &mut text);
-    let Got::Bytes { count } = got else {
-        return End::Failed;
-    };
+pub(crate) fn miss(rt: &HostRuntime, command: Command) -> Result<(), Stop> {
+    let mut room = [0u8; 65537];
+    let n = read_by(rt, name_in(rt, command, b"miss [FILE]")?, &mut room)?;
     let mut page = [0u8; 65536];
-    let found = missed::miss(first(&text, count), &mut page, 0);
-    match found {
-        Missed::Refused { fault, at } => say::refused(rt, fault, at),
-        Missed::Passes => say::nothing(rt, b"none: the plan passes"),
-        Missed::Never => say::nothing(rt, b"none: it fails, and no list misses"),
-        Missed::NoneFound => say::nothing(rt, b"none found"),
-        Missed::TooMany => say::nothing(rt, b"none written: the list has over 1000 releases"),
-        Missed::Text { length } => say::answer(rt, first(&page, length)),
-    }
+    let why: &[u8] = match missed::miss(&room[..n], &mut page, 0) {
+        Ok(Missed::Text { length }) => return write(rt, first(&page, length)),
+        Ok(Missed::Passes) => b"none: the plan passes",
+        Ok(Missed::Never) => b"none: it fails, and no list misses",
+        Ok(Missed::NoneFound) => b"none found",
+        Ok(Missed::TooMany) => b"none written: the list has over 1000 releases",
+        Err(refusal) => return Err(say::refused(rt, refusal)),
+    };
+    Err(say::nothing(rt, why))
 }

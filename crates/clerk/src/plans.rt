@@ -1,51 +1,35 @@
 // Plans in files.
-use super::commands::first;
-use super::files::{Got, read_by, read_named};
-use super::say::{End, refused};
-use faults::Checked;
-use rules::{Plan, Reading, Releases};
+use super::commands::Command;
+use super::files::read_by;
+use super::say;
+use doors::Stop;
+use rules::PlanFile;
 
-// A plan file that was opened. Where `end` is End::Answered it holds a lawful plan, and the answer is still to be given; else that has been
-// given, and ended so.
-#[derive(Clone, Copy)]
-pub(crate) struct Opened {
-    pub(crate) end: End,
-    pub(crate) plan: Plan,
-    pub(crate) releases: Releases,
-}
-
-fn handed(reading: Reading, end: End) -> Opened {
-    let plan = reading.plan;
-    let releases = reading.releases;
-    Opened {
-        end,
-        plan,
-        releases,
+// The name of the one file that a command may name; standard input where it names none. `wanted` is how the command is to be said.
+pub(crate) fn name_in<'a>(
+    rt: &HostRuntime,
+    command: Command<'a>,
+    wanted: &[u8],
+) -> Result<&'a [u8], Stop> {
+    match command.count() {
+        0 | 1 => Ok(b"-"),
+        2 => Ok(command.word(1)),
+        _ => Err(say::complain(rt, wanted)),
     }
 }
 
-fn read_from(rt: &HostRuntime, got: Got, text: &[u8]) -> Opened {
-    let Got::Bytes { count } = got else {
-        return handed(reading::read(b""), End::Failed);
-    };
-    let reading = reading::read(first(text, count));
-    let checked = reading.checked;
-    match checked {
-        Checked::Lawful => handed(reading, End::Answered),
-        Checked::Refused { fault, at } => handed(reading, refused(rt, fault, at)),
-    }
+// The plan in the one file that a command may name.
+pub(crate) fn open_plan(
+    rt: &HostRuntime,
+    command: Command,
+    wanted: &[u8],
+) -> Result<PlanFile, Stop> {
+    open_by(rt, name_in(rt, command, wanted)?)
 }
 
-// One byte more than the longest text is enough to refuse a longer one.
-pub(crate) fn open_plan(rt: &HostRuntime, command: &[u8]) -> Opened {
-    let mut text = [0u8; 65537];
-    let got = read_named(rt, command, &mut text);
-    read_from(rt, got, &text)
-}
-
-// The plan in the file of this name.
-pub(crate) fn open_by(rt: &HostRuntime, name: &[u8]) -> Opened {
-    let mut text = [0u8; 65537];
-    let got = read_by(rt, name, &mut text);
-    read_from(rt, got, &text)
+// The plan in the file of this name. One byte more than the longest text is enough to refuse a longer one.
+pub(crate) fn open_by(rt: &HostRuntime, name: &[u8]) -> Result<PlanFile, Stop> {
+    let mut room = [0u8; 65537];
+    let n = read_by(rt, name, &mut room)?;
+    reading::read(&room[..n]).map_err(|refusal| say::refused(rt, refusal))
 }

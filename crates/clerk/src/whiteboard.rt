@@ -1,61 +1,33 @@
 // Permission sets. `assign [FILE]`: the plan in a file with the set that the search finds, as a plan file. `sets [FILE]`: every set in the
 // search's order, with its verdict.
-use super::commands::{first, word_count};
-use super::files::{Got, read_named};
-use super::plans::open_plan;
+use super::commands::{Command, first};
+use super::files::read_by;
+use super::plans::{name_in, open_plan};
 use super::say;
-use super::say::{End, larger};
-use assigning::Assigned;
-use rules::{AskedAssign, Assign, Plan};
+use doors::{Stop, write};
 
-pub(crate) fn assign(rt: &HostRuntime, command: &[u8]) -> End {
-    if 2 < word_count(command) {
-        return say::complain(rt, b"assign [FILE]");
-    }
-    let mut text = [0u8; 65537];
-    let got = read_named(rt, command, &mut text);
-    let Got::Bytes { count } = got else {
-        return End::Failed;
-    };
+pub(crate) fn assign(rt: &HostRuntime, command: Command) -> Result<(), Stop> {
+    let mut room = [0u8; 65537];
+    let n = read_by(rt, name_in(rt, command, b"assign [FILE]")?, &mut room)?;
     let mut page = [0u8; 65536];
-    let found = assigning::assign(first(&text, count), &mut page, 0);
-    match found {
-        Assigned::Refused { fault, at } => say::refused(rt, fault, at),
-        Assigned::Nobody => say::nothing(rt, b"none: no set passes"),
-        Assigned::Text { length } => say::answer(rt, first(&page, length)),
-    }
-}
-
-pub(crate) fn list_sets(rt: &HostRuntime, command: &[u8]) -> End {
-    if 2 < word_count(command) {
-        return say::complain(rt, b"sets [FILE]");
-    }
-    let opened = open_plan(rt, command);
-    let end = opened.end;
-    if end != End::Answered {
-        return end;
-    }
-    let plan = opened.plan;
-    let found = verdict::search(plan);
-    match found {
-        AskedAssign::Refused { fault, at } => say::refused(rt, fault, at),
-        AskedAssign::Given { assign } => show_sets(rt, plan, assign),
+    match assigning::assign(&room[..n], &mut page, 0) {
+        Ok(Some(length)) => write(rt, first(&page, length)),
+        Ok(None) => Err(say::nothing(rt, b"none: no set passes")),
+        Err(refusal) => Err(say::refused(rt, refusal)),
     }
 }
 
 // Ten strings have 1,024 sets; behind the last one there is nothing to write. A set may take its time: none is judged for a reader who has
 // gone.
-fn show_sets(rt: &HostRuntime, plan: Plan, found: Assign) -> End {
-    let mut end = End::Answered;
-    for passed in 1..=1024 {
-        let line = sets::set_shown(plan, found, passed);
+pub(crate) fn list_sets(rt: &HostRuntime, command: Command) -> Result<(), Stop> {
+    let plan = open_plan(rt, command, b"sets [FILE]")?.plan;
+    let found = verdict::search(plan).map_err(|refusal| say::refused(rt, refusal))?;
+    for k in 1..=1024 {
+        let line = sets::set_shown(plan, found, k);
         if line.len == 0 {
-            return end;
+            break;
         }
-        end = larger(end, say::answer_page(rt, line));
-        if end == End::Gone {
-            return end;
-        }
+        say::page(rt, line)?;
     }
-    end
+    Ok(())
 }

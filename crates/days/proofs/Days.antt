@@ -3,27 +3,28 @@ use mathlib.{Core.Path.{◌≡◌, sym, ap, ◌∙◌}, Core.Bool.true}
 use Prim.Native.Nat.{ℕ, ◌+◌, ◌-◌, ◌^◌, ◌≤◌, ◌<◌}
 use native.{Mathlib.Omega.arith, Mathlib.Decide.dec_le}
 use lib.Dec.{ltb}
+use Rattle.std.specs.Prelude.{Some, None}
 use borrow.Author.Tests.{lt-ltb, le-ltb, le-leb, lt-leb}
-use Rattle.days.specs.{declared.Day.Day, declared.Length.Length, declared.Later.TheVariants.{On, Beyond}, declared.Gap.TheVariants.{Of, Backwards}, Days.{day, days, later_of, gap_of}}
+use Rattle.days.specs.{declared.Day.Day, declared.Length.Length, Days.{day, days, later_of, gap_of}}
 
-pub later_of-fits : (t : Day) (n : Length) → t.0 + n.0 < 2 ^ 32 → later_of t n ≡ On (day (t.0 + n.0))
+pub later_of-fits : (t : Day) (n : Length) → t.0 + n.0 < 2 ^ 32 → later_of t n ≡ Some (day (t.0 + n.0))
 unfolding later_of
 later_of-fits t n h = rw (lt-ltb _ _ h)
 
-pub later_of-over : (t : Day) (n : Length) → 2 ^ 32 ≤ t.0 + n.0 → later_of t n ≡ Beyond
+pub later_of-over : (t : Day) (n : Length) → 2 ^ 32 ≤ t.0 + n.0 → later_of t n ≡ None
 unfolding later_of
 later_of-over t n h = rw (le-ltb _ _ h)
 
-pub gap_of-ordered : (t s : Day) → s.0 ≤ t.0 → gap_of t s ≡ Of (days (t.0 - s.0))
+pub gap_of-ordered : (t s : Day) → s.0 ≤ t.0 → gap_of t s ≡ Some (days (t.0 - s.0))
 unfolding gap_of
 gap_of-ordered t s h = rw (le-leb _ _ h)
 
-pub gap_of-backwards : (t s : Day) → t.0 < s.0 → gap_of t s ≡ Backwards
+pub gap_of-backwards : (t s : Day) → t.0 < s.0 → gap_of t s ≡ None
 unfolding gap_of
 gap_of-backwards t s h = rw (lt-leb _ _ h)
 
 -- a length after s is shorter than n where the day lies before s plus n
-pub gap_of-shorter : (t s : Day) (g n : Length) → gap_of t s ≡ Of g → ltb g.0 n.0 ≡ ltb t.0 (s.0 + n.0)
+pub gap_of-shorter : (t s : Day) (g n : Length) → gap_of t s ≡ Some g → ltb g.0 n.0 ≡ ltb t.0 (s.0 + n.0)
 gap_of-shorter t s g n h =
     elim (dec_le s.0 t.0) [ yes k ↦ ordered k | no k ↦ absurd (backwards (omega arith)) ]
   where
@@ -42,7 +43,7 @@ gap_of-shorter t s g n h =
         omega arith
 
 -- and a day before s lies before it too
-pub gap_of-sooner : (t s : Day) (n : Length) → gap_of t s ≡ Backwards → ltb t.0 (s.0 + n.0) ≡ true
+pub gap_of-sooner : (t s : Day) (n : Length) → gap_of t s ≡ None → ltb t.0 (s.0 + n.0) ≡ true
 gap_of-sooner t s n h =
     elim (dec_le s.0 t.0) [ yes k ↦ absurd (ordered k) | no k ↦ lt-ltb t.0 (s.0 + n.0) (omega arith) ]
   where

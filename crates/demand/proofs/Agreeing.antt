@@ -1,14 +1,21 @@
 -- The quick verdict agrees with the full one apart from its count of pairs: the first pair that is broken is one at which a count grows, so
 -- both find it. Only that each string is lawful is used: the strings may be any number, H and N any numbers.
 use Rattle.base.proofs.Prelude.{ℕ, ◌≡◌, refl, sym, ap, ◌∙◌, true, List, Option, none, some, length}
-use Rattle.rules.specs.{declared.Plan.Plan, declared.Verdict.Verdict, declared.Verdict.TheVariants.{Overload, Fail, Pass}, declared.AskedVerdict.TheVariants.Given, Plan.{strings_of, leeway_min}, Demand.{block_limit, overloaded}, Verdict.{Pair, all_pairs, broken, first_broken, compared, judged, verdict_of, verdict_over, is_pass}, Search.with_set, Refusal.{plan_check, set_check, on_verdict, verdict_answer, set_answer}}
-use Rattle.faults.specs.declared.Checked.{Checked}
+use Rattle.faults.specs.Checks.{Lawful, Checked}
+use Rattle.std.specs.Prelude.{Ok, Err}
+use Rattle.rules.specs.declared.Plan.{Plan}
+use Rattle.rules.specs.declared.Verdict.{Verdict}
+use Rattle.rules.specs.declared.Verdict.TheVariants.{Overload, Fail, Pass}
+use Rattle.rules.specs.Plan.{strings_of, leeway_min}
+use Rattle.rules.specs.Demand.{block_limit, overloaded}
+use Rattle.rules.specs.Verdict.{Pair, all_pairs, broken, first_broken, compared, judged, verdict_of, verdict_over, is_pass}
+use Rattle.rules.specs.Search.{with_set}
+use Rattle.rules.specs.Refusal.{plan_check, set_check, on_verdict, verdict_answer, set_answer}
 use Rattle.base.proofs.{Lists.{All, by_bool}, FirstOf.first_of-keep}
 use Rattle.laws.proofs.{Lawful.{LawfulString, plan_check-lawful}, Answers.set-plan}
 use Rattle.demand.proofs.{Verdict.first_broken-names, Sets.with_set-lawful}
 use Rattle.demand.specs.Quick.{grows, quick_pairs, quick_of, quick_answer, quick_set_answer, apart_from_pairs, asked_apart}
 use Rattle.demand.proofs.{Counts.early-no-jobs, Growing.first-grows, BlockingLimit.limit-fits}
-use Rattle.faults.specs.declared.Checked.TheVariants as checked
 
 -- ---- The same break
 
@@ -56,10 +63,10 @@ quick-passes p each = sym (is_pass-apart (quick_of p)) ∙ ap is_pass (quick-agr
 -- ---- The same answer, for any input
 
 answers-apart :
-    (c : Checked) (v w : Verdict) → (c ≡ checked.Lawful → apart_from_pairs v ≡ apart_from_pairs w)
+    (c : Checked) (v w : Verdict) → (c ≡ Lawful → apart_from_pairs v ≡ apart_from_pairs w)
     → asked_apart (on_verdict c v) ≡ asked_apart (on_verdict c w)
-answers-apart checked.Lawful v w same = ap Given (same refl)
-answers-apart (checked.Refused f at) v w same = refl
+answers-apart (Ok _) v w same = ap Ok (same refl)
+answers-apart (Err e) v w same = refl
 
 pub quick-answer-agrees : (p : Plan) → asked_apart (quick_answer p) ≡ asked_apart (verdict_answer p)
 unfolding quick_answer verdict_answer

@@ -1,8 +1,13 @@
 -- The X of a plan plays no part in the search, and a lawful set's verdict is that of the plan with the set.
 use Rattle.base.proofs.Prelude.{ℕ, ◌/◌, ◌≡◌, refl, sym, ap, ◌∙◌, List, [], ◌∷◌}
+use Rattle.faults.specs.Checks.{Lawful}
+use Rattle.std.specs.Prelude.{Ok}
 use Rattle.base.specs.Count.{first_of}
-use Rattle.faults.specs.declared.Checked.TheVariants.{Lawful}
-use Rattle.rules.specs.{declared.BatteryString.BatteryString, declared.Plan.Plan, declared.AskedAssign.TheVariants.Given, Verdict.{verdict_of, is_pass}, Search.{permit, with_set, set_passes, ordered, assigned, first_passing, search_of}, Refusal.{plan_check, set_check, verdict_answer, set_answer, search_answer}}
+use Rattle.rules.specs.declared.BatteryString.{BatteryString}
+use Rattle.rules.specs.declared.Plan.{Plan}
+use Rattle.rules.specs.Verdict.{verdict_of, is_pass}
+use Rattle.rules.specs.Search.{permit, with_set, set_passes, ordered, assigned, first_passing, search_of}
+use Rattle.rules.specs.Refusal.{plan_check, set_check, verdict_answer, set_answer, search_answer}
 use Rattle.laws.proofs.{Lawful.plan_check-lawful, LawfulChecked.lawful-checked, Answers.{verdict-lawful, set-lawful, set-plan, search-lawful}}
 use Rattle.demand.proofs.Sets.{with_set-lawful}
 
@@ -39,7 +44,7 @@ same-search p q h =
 -- plans that differ in X alone, each within its bounds, are answered alike
 pub search-blind-to-x : (p q : Plan) → plan_check p ≡ Lawful → plan_check q ≡ Lawful → with_set p 0 ≡ with_set q 0
     → search_answer p ≡ search_answer q
-search-blind-to-x p q ok_p ok_q h = search-lawful p ok_p ∙ ap Given (same-search p q h) ∙ sym (search-lawful q ok_q)
+search-blind-to-x p q ok_p ok_q h = search-lawful p ok_p ∙ ap Ok (same-search p q h) ∙ sym (search-lawful q ok_q)
 
 -- ---- The verdict with a set
 

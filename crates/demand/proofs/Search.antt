@@ -2,7 +2,10 @@
 -- is smaller, and "none" is given exactly if no set below 2^n passes. It names one answer.
 --     Best p m              m passes, no passing set has fewer ones, and none with as many ones is smaller
 use Rattle.base.proofs.Prelude.{ℕ, ◌^◌, ◌≤◌, ◌<◌, ◌≡◌, refl, sym, ap, ◌∙◌, ◌⊎◌, inl, inr, ◌↔◌, true, false, Option, none, some, arith, le_antisymm, le_refl, ones}
-use Rattle.rules.specs.{declared.Plan.Plan, declared.Assign.TheVariants.{Takers, Nobody}, Demand.Passes, Search.{assigned, with_set, set_passes, ordered, search_of}}
+use Rattle.std.specs.Prelude.{Some, None}
+use Rattle.rules.specs.declared.Plan.{Plan}
+use Rattle.rules.specs.Demand.{Passes}
+use Rattle.rules.specs.Search.{assigned, with_set, set_passes, ordered, search_of}
 use Rattle.base.specs.Count.{first_of}
 use Rattle.base.proofs.{Lists.true-not-false, FirstOf.{first_of-none, first_of-passes, first_of-in, first_of-least}}
 use Rattle.laws.proofs.Lawful.{LawfulPlan}
@@ -18,7 +21,7 @@ set_passes-exactly p ok m = pass-exactly (with_set p m) (with_set-lawful p m ok)
 
 -- ---- What the search finds
 
-assigned-takers : (o : Option ℕ) (m : ℕ) → assigned o ≡ Takers m → o ≡ some m
+assigned-takers : (o : Option ℕ) (m : ℕ) → assigned o ≡ Some m → o ≡ some m
 assigned-takers none m h =
     let z : ◌≡◌ {A = ℕ} 0 1 = cc in
     absurd (omega arith)
@@ -26,13 +29,13 @@ assigned-takers (some k) m h =
     let same : k ≡ m = cc in
     ap some same
 
-assigned-nobody : (o : Option ℕ) → assigned o ≡ Nobody → o ≡ none
+assigned-nobody : (o : Option ℕ) → assigned o ≡ None → o ≡ none
 assigned-nobody none h = refl
 assigned-nobody (some k) h =
     let z : ◌≡◌ {A = ℕ} 0 1 = cc in
     absurd (omega arith)
 
-module _ (p : Plan) (m : ℕ) (found : search_of p ≡ Takers m) where
+module _ (p : Plan) (m : ℕ) (found : search_of p ≡ Some m) where
   pub search-passes : (set_passes p m ≡ true) × (m < 2 ^ p.n)
   unfolding search_of
   search-passes =
@@ -68,13 +71,13 @@ module _ (p : Plan) (m : ℕ) (found : search_of p ≡ Takers m) where
 -- ---- None
 
 module _ (p : Plan) where
-  pub none-of-nobody : search_of p ≡ Nobody → (k : ℕ) → k < 2 ^ p.n → set_passes p k ≡ false
+  pub none-of-nobody : search_of p ≡ None → (k : ℕ) → k < 2 ^ p.n → set_passes p k ≡ false
   unfolding search_of
   none-of-nobody h =
       let first = assigned-nobody (first_of (set_passes p) (ordered p.n)) h in
       each-of-sets p.n (λ k. set_passes p k ≡ false) ((first_of-none (set_passes p) (ordered p.n)).0 first)
 
-  pub nobody-of-none : ((k : ℕ) → k < 2 ^ p.n → set_passes p k ≡ false) → search_of p ≡ Nobody
+  pub nobody-of-none : ((k : ℕ) → k < 2 ^ p.n → set_passes p k ≡ false) → search_of p ≡ None
   unfolding search_of
   nobody-of-none h = ap assigned ((first_of-none (set_passes p) (ordered p.n)).1 (all-sets p.n (λ k. set_passes p k ≡ false) h))
 
@@ -86,7 +89,7 @@ pub record Best (p : Plan) (m : ℕ) : Type 0 where
   pub fewest : (k : ℕ) → k < 2 ^ p.n → set_passes p k ≡ true → ones m ≤ ones k
   pub smallest : (k : ℕ) → k < 2 ^ p.n → set_passes p k ≡ true → ones k ≡ ones m → m ≤ k
 
-pub best-of-search : (p : Plan) (m : ℕ) → search_of p ≡ Takers m → Best p m
+pub best-of-search : (p : Plan) (m : ℕ) → search_of p ≡ Some m → Best p m
 best-of-search p m found =
     record {
       passes = (search-passes p m found).0;
@@ -101,13 +104,13 @@ best-unique p m k a b =
     let as_many : ones m ≡ ones k = le_antisymm (a.fewest k b.below b.passes) (b.fewest m a.below a.passes) in
     le_antisymm (a.smallest k b.below b.passes (sym as_many)) (b.smallest m a.below a.passes as_many)
 
-pub search-of-best : (p : Plan) (m : ℕ) → Best p m → search_of p ≡ Takers m
+pub search-of-best : (p : Plan) (m : ℕ) → Best p m → search_of p ≡ Some m
 search-of-best p m best = which (first_of (set_passes p) (ordered p.n)) refl
   where
-    which : (o : Option ℕ) → first_of (set_passes p) (ordered p.n) ≡ o → search_of p ≡ Takers m
+    which : (o : Option ℕ) → first_of (set_passes p) (ordered p.n) ≡ o → search_of p ≡ Some m
     which none e =
-        let nobody : search_of p ≡ Nobody = unfold search_of in ap assigned e in
+        let nobody : search_of p ≡ None = unfold search_of in ap assigned e in
         absurd (true-not-false (sym best.passes ∙ none-of-nobody p nobody m best.below))
     which (some k) e =
-        let found : search_of p ≡ Takers k = unfold search_of in ap assigned e in
-        found ∙ ap Takers (best-unique p k m (best-of-search p k found) best)
+        let found : search_of p ≡ Some k = unfold search_of in ap assigned e in
+        found ∙ ap Some (best-unique p k m (best-of-search p k found) best)

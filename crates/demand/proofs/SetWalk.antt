@@ -3,8 +3,10 @@
 --     set_rows n k           the sets of n places with k ones or more, in the search's order
 -- The walk cites walk-row, walk-other, walk-fails, walk-found, walk-row-end and walk_end.
 use Rattle.base.proofs.Prelude.{ℕ, suc, ◌+◌, ◌-◌, ◌^◌, ◌≤◌, ◌<◌, ◌≡◌, ap, ◌∙◌, true, false, List, [], ◌∷◌, ◌++◌, arith, add-one, eq-eqb, ne_eqb, ones, eqb}
+use Rattle.std.specs.Prelude.{Some, None}
 use mathlib.Core.List.{flat_map}
-use Rattle.rules.specs.{declared.Plan.Plan, declared.Assign.TheVariants.{Takers, Nobody}, Search.{assigned, set_passes, sets_of, ordered, first_passing, search_of}}
+use Rattle.rules.specs.declared.Plan.{Plan}
+use Rattle.rules.specs.Search.{assigned, set_passes, sets_of, ordered, first_passing, search_of}
 use Rattle.base.specs.Count.{up_from, keep}
 use Rattle.base.proofs.{Order.{keep-yes, keep-no}, FirstOf.{first_of-here, first_of-later, first_of-end}}
 
@@ -86,7 +88,7 @@ module _ (p : Plan) (n k m : ℕ) where
       (first_of-later (set_passes p) m (sets_from n k (m + 1) ++ ms) fails)
 
   pub walk-found :
-      (ms : List ℕ) → m < 2 ^ n → ones m ≡ k → set_passes p m ≡ true → first_passing p (sets_from n k m ++ ms) ≡ Takers m
+      (ms : List ℕ) → m < 2 ^ n → ones m ≡ k → set_passes p m ≡ true → first_passing p (sets_from n k m ++ ms) ≡ Some m
   walk-found ms h e passes =
       ap (λ row. first_passing p (row ++ ms)) (sets_from-set n k m h e) ∙ ap assigned
       (first_of-here (set_passes p) m (sets_from n k (m + 1) ++ ms) passes)
@@ -94,5 +96,5 @@ module _ (p : Plan) (n k m : ℕ) where
   pub walk-row-end : (ms : List ℕ) → 2 ^ n ≤ m → first_passing p (sets_from n k m ++ ms) ≡ first_passing p ms
   walk-row-end ms h = ap (λ row. first_passing p (row ++ ms)) (sets_from-end n k m h)
 
-  pub walk_end : n < k → first_passing p (set_rows n k) ≡ Nobody
+  pub walk_end : n < k → first_passing p (set_rows n k) ≡ None
   walk_end h = ap (first_passing p) (set_rows-end n k h) ∙ ap assigned (first_of-end (set_passes p))

@@ -10,12 +10,12 @@
 --     apart_from_pairs v      the verdict v without its count of pairs
 --     asked_apart v          what is answered where a verdict is asked for, without the count: the refusal, or the verdict
 use Rattle.std.specs.Prelude.{ℕ, ◌-◌, Bool, cond, List, ltb, eqb}
+use Rattle.faults.specs.declared.Refusal.{Refusal}
+use Rattle.std.specs.Prelude.{Ok, Err, Result}
 use Rattle.rules.specs.declared.BatteryString.{BatteryString}
 use Rattle.rules.specs.declared.Plan.{Plan}
 use Rattle.rules.specs.declared.Verdict.{Verdict}
 use Rattle.rules.specs.declared.Verdict.TheVariants.{Overload, Fail, Pass}
-use Rattle.rules.specs.declared.AskedVerdict.{AskedVerdict}
-use Rattle.rules.specs.declared.AskedVerdict.TheVariants.{Refused, Given}
 use Rattle.base.specs.Count.{any, keep}
 use Rattle.rules.specs.Plan.{strings_of}
 use Rattle.rules.specs.Demand.{jobs}
@@ -39,12 +39,12 @@ quick_pairs p = keep (grows p) (all_pairs p)
 abbrev pub quick_of : Plan → Verdict
 quick_of p = verdict_over p (quick_pairs p)
 
-unfoldable pub quick_answer : Plan → AskedVerdict
+unfoldable pub quick_answer : Plan → Result Verdict Refusal
 quick_answer p =
     let v = quick_of p in
     on_verdict (plan_check p) v
 
-unfoldable pub quick_set_answer : Plan → ℕ → AskedVerdict
+unfoldable pub quick_set_answer : Plan → ℕ → Result Verdict Refusal
 quick_set_answer p m =
     let v = quick_of (with_set p m) in
     on_verdict (set_check p m) v
@@ -54,6 +54,6 @@ apart_from_pairs Overload = Overload
 apart_from_pairs (Fail l b d k) = Fail l b d 0
 apart_from_pairs (Pass k) = Pass 0
 
-abbrev pub asked_apart : AskedVerdict → AskedVerdict
-asked_apart (Refused f at) = Refused f at
-asked_apart (Given v) = Given (apart_from_pairs v)
+abbrev pub asked_apart : Result Verdict Refusal → Result Verdict Refusal
+asked_apart (Err e) = Err e
+asked_apart (Ok v) = Ok (apart_from_pairs v)

@@ -1,7 +1,8 @@
 -- Numbers that lack something are refused: a plan whose count is not 1 + 6 n, and a list whose last release lacks a number.
 use Rattle.base.proofs.Prelude.{ℕ, zero, suc, le-ltb, ◌+◌, ◌-◌, ◌*◌, ◌/◌, ◌%◌, ◌≤◌, ◌<◌, min, ◌≡◌, sym, ap, ◌∙◌, List, map, arith, dec_le, ℕ_discrete, length, get_or, length-map, take_at}
+use Rattle.faults.specs.Checks.{Refused, Lawful}
 use Rattle.base.specs.Count.{up_from}
-use Rattle.faults.specs.{declared.Fault.TheVariants.StringCount, declared.Checked.TheVariants.{Lawful, Refused}}
+use Rattle.faults.specs.declared.Fault.TheVariants.{StringCount}
 use Rattle.rules.specs.{declared.Plan.Plan, Release.{releases_of, no_release}, Refusal.{plan_check, count_check, run_check}}
 use Rattle.laws.proofs.{Releases.run_check-lawful, ReleaseList.release-lawful}
 use Rattle.entries.specs.Given.{string_count, plan_given, release_count, need_from, release_from, releases_given}

@@ -12,6 +12,9 @@
 --                           answered as a place without a string
 --     date_given y m d       the date of three numbers, whether it exists or not
 use Rattle.std.specs.Prelude.{ℕ, ◌+◌, ◌*◌, ◌/◌, ◌%◌, min, cond, ◌&&◌, List, map, leb, ltb, eqb, length, get_or}
+use Rattle.faults.specs.declared.Refusal.{Refusal}
+use Rattle.std.specs.Prelude.{Result}
+use Rattle.lines.specs.Limits.{Limit}
 use Rattle.base.specs.Count.{up_from, filled}
 use Rattle.days.specs.Days.{day, days}
 use Rattle.rules.specs.declared.BatteryString.{BatteryString}
@@ -21,7 +24,6 @@ use Rattle.rules.specs.declared.Releases.{Releases}
 use Rattle.rules.specs.Plan.{no_string}
 use Rattle.rules.specs.Release.{no_release}
 use Rattle.calendar.specs.declared.Date.{Date}
-use Rattle.slack.specs.declared.AskedLimit.{AskedLimit}
 use Rattle.slack.specs.declared.Letter.TheVariants as letter
 use Rattle.slack.specs.Slack.{limit_answer}
 
@@ -72,7 +74,7 @@ releases_given ns =
 abbrev pub date_given : ℕ → ℕ → ℕ → Date
 date_given y m d = record { year = y; month = m; day = d }
 
-unfoldable pub limit_given : Plan → ℕ → ℕ → AskedLimit
+unfoldable pub limit_given : Plan → ℕ → ℕ → Result Limit Refusal
 limit_given p i c =
     cond (eqb c 0x43) (limit_answer p i letter.C)
     (cond (eqb c 0x44) (limit_answer p i letter.D)

@@ -33,20 +33,15 @@
 --     list_told told list places     a lent list afterwards: what is told of it, and itself where fewer than four places are lent
 -- What is returned of a text, and the page afterwards: lines/specs/Pages.antt.
 use Rattle.std.specs.Prelude.{ℕ, cond, List, [], ◌∷◌, ◌++◌, ltb, length, drop}
+use Rattle.calendar.specs.declared.Date.{Date}
+use Rattle.days.specs.declared.Day.{Day}
+use Rattle.faults.specs.declared.Refusal.{Refusal}
+use Rattle.std.specs.Prelude.{Ok, Err, Result, Some, None}
+use Rattle.lines.specs.Limits.{Limit}
 use Rattle.faults.specs.Checks.{fault_number}
 use Rattle.rules.specs.Said.{Said, lawful, refused, overload, fail, pass, takers, none, miss, clean}
-use Rattle.rules.specs.declared.Stinted.{Stinted}
-use Rattle.rules.specs.declared.Stinted.TheVariants as stinted
 use Rattle.tries.specs.declared.Missing.{Missing}
 use Rattle.tries.specs.declared.Missing.TheVariants as missing
-use Rattle.calendar.specs.declared.WhichDate.{WhichDate}
-use Rattle.calendar.specs.declared.WhichDate.TheVariants as which-date
-use Rattle.calendar.specs.declared.WhichDay.{WhichDay}
-use Rattle.calendar.specs.declared.WhichDay.TheVariants as which-day
-use Rattle.lines.specs.declared.limits.Limit.{Limit}
-use Rattle.lines.specs.declared.limits.Limit.TheVariants as limit
-use Rattle.slack.specs.declared.AskedLimit.{AskedLimit}
-use Rattle.slack.specs.declared.AskedLimit.TheVariants as asked-limit
 use Rattle.entries.specs.declared.told.Row.{Row}
 
 abbrev pub row : ℕ → ℕ → ℕ → ℕ → ℕ → Row
@@ -66,33 +61,33 @@ row_of (clean w m i) = row 6 w m i 0
 row_of (miss t i) = row 7 t i 0 0
 row_of lawful = row 8 0 0 0 0
 
-abbrev pub stinted_row : Stinted → Row
-stinted_row (stinted.Refused f at) = refused_row (fault_number f) at
-stinted_row (stinted.Listed k) = row 12 k 0 0 0
+abbrev pub stinted_row : Result ℕ Refusal → Row
+stinted_row (Err e) = refused_row (fault_number e.fault) e.at
+stinted_row (Ok k) = row 12 k 0 0 0
 
-abbrev pub missing_row : Missing → Row
-missing_row (missing.Refused f at) = refused_row (fault_number f) at
-missing_row missing.Passes = row 13 0 0 0 0
-missing_row missing.Never = row 14 0 0 0 0
-missing_row (missing.Found n) = row 15 n.0 0 0 0
-missing_row missing.TooMany = row 16 0 0 0 0
-missing_row missing.NoneFound = row 17 0 0 0 0
+abbrev pub missing_row : Result Missing Refusal → Row
+missing_row (Err e) = refused_row (fault_number e.fault) e.at
+missing_row (Ok missing.Passes) = row 13 0 0 0 0
+missing_row (Ok missing.Never) = row 14 0 0 0 0
+missing_row (Ok (missing.Found n rs)) = row 15 n.0 0 0 0
+missing_row (Ok missing.TooMany) = row 16 0 0 0 0
+missing_row (Ok missing.NoneFound) = row 17 0 0 0 0
 
 abbrev pub limited_row : Limit → Row
-limited_row limit.Nothing = row 19 0 0 0 0
-limited_row (limit.At v) = row 18 v 0 0 0
+limited_row None = row 19 0 0 0 0
+limited_row (Some v) = row 18 v 0 0 0
 
-abbrev pub limit_row : AskedLimit → Row
-limit_row (asked-limit.Refused f at) = refused_row (fault_number f) at
-limit_row (asked-limit.Given l) = limited_row l
+abbrev pub limit_row : Result Limit Refusal → Row
+limit_row (Err e) = refused_row (fault_number e.fault) e.at
+limit_row (Ok l) = limited_row l
 
-abbrev pub date_row : WhichDate → Row
-date_row (which-date.Is d) = row 10 d.year d.month d.day 0
-date_row (which-date.Refused f at) = refused_row (fault_number f) at
+abbrev pub date_row : Result Date Refusal → Row
+date_row (Ok d) = row 10 d.year d.month d.day 0
+date_row (Err e) = refused_row (fault_number e.fault) e.at
 
-abbrev pub day_row : WhichDay → Row
-day_row (which-day.Is k) = row 11 k.0 0 0 0
-day_row (which-day.Refused f at) = refused_row (fault_number f) at
+abbrev pub day_row : Result Day Refusal → Row
+day_row (Ok k) = row 11 k.0 0 0 0
+day_row (Err e) = refused_row (fault_number e.fault) e.at
 
 -- ---- Into lent memory
 

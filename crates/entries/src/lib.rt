@@ -120,14 +120,15 @@ pub fn desk_run(plan: &[u32], releases: &[u32], out: &mut [u64]) -> u32
 
 // Whether a plan can miss: why it cannot, or the days of a run that does.
 pub fn desk_can_miss(plan: &[u32], out: &mut [u64]) -> u32
-    ensures exact { result ≡ kind_told (missing_row (missing_answer (plan_given plan.now)).missing) out.old }
-    ensures out { out.new ≡ places_told (missing_row (missing_answer (plan_given plan.now)).missing)
+    ensures exact { result ≡ kind_told (missing_row (missing_answer (plan_given plan.now))) out.old }
+    ensures out { out.new ≡ places_told (missing_row (missing_answer (plan_given plan.now)))
         out.old }
     ensures kept { plan.exit.now ≡ plan.entry.now }
 {
-    let shown = tries::releases_that_miss(plan_given(plan));
-    let missing = shown.missing;
-    tell(missing_row(missing), out)
+    tell(
+        missing_row(tries::releases_that_miss(plan_given(plan))),
+        out,
+    )
 }
 
 // The stints of the run under a plan and a list of releases, five numbers each, in the list that is lent. 15,005 places hold them, whatever

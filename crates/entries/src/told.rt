@@ -1,15 +1,15 @@
 // What a C program is told: an answer as a kind and four numbers, or a text.
-ghost use Rattle.std.specs.Prelude.{◌≡◌, ◌≤◌, length};
+ghost use Rattle.std.specs.Prelude.{◌≡◌};
 ghost use Rattle.faults.specs.Checks.{fault_number};
 ghost use Rattle.rules.specs.Said.{checked_says, asked_verdict_says, asked_assign_says, asked_outcome_says};
 ghost use Rattle.lines.specs.Pages.{text_of, length_told, page_told};
-ghost use Rattle.entries.specs.Told.{row, refused_row, row_of, stinted_row, limit_row, limited_row, missing_row, date_row, day_row, kind_told, places_told};
+ghost use Rattle.entries.specs.Told.{row, refused_row, row_of, stinted_row, limit_row, missing_row, date_row, day_row, kind_told, places_told};
 
-use calendar::{WhichDate, WhichDay};
-use faults::{Checked, Fault, fault_number};
+use calendar::Date;
+use days::Day;
+use faults::{Checked, Refusal};
 use lines::{Limit, Page, put_text};
-use rules::{AskedAssign, AskedOutcome, AskedVerdict, Assign, Outcome, Stinted, Verdict};
-use slack::AskedLimit;
+use rules::{Assign, Outcome, Verdict};
 use tries::Missing;
 
 // A kind, and the numbers that it comes with; 0 stands where there is nothing to say.
@@ -88,128 +88,117 @@ fn row_at(kind: u32, first: u32, at: usize) -> Row
     }
 }
 
-fn refused_row(fault: Fault, at: usize) -> Row
-    ensures exact { result ≡ refused_row (fault_number fault) at }
+fn refused_row(refusal: Refusal) -> Row
+    ensures exact { result ≡ refused_row (fault_number refusal.fault) refusal.at }
 {
-    row_at(REFUSED, fault_number(fault), at)
+    row_at(REFUSED, u32::from(refusal.fault), refusal.at)
 }
 
 pub(crate) fn checked_row(c: Checked) -> Row
     ensures exact { result ≡ row_of (checked_says c) }
 {
     match c {
-        Checked::Lawful => row_of(LAWFUL, 0, 0, 0, 0),
-        Checked::Refused { fault, at } => refused_row(fault, at),
+        Ok(()) => row_of(LAWFUL, 0, 0, 0, 0),
+        Err(refusal) => refused_row(refusal),
     }
 }
 
-pub(crate) fn verdict_row(v: AskedVerdict) -> Row
+pub(crate) fn verdict_row(v: Result<Verdict, Refusal>) -> Row
     ensures exact { result ≡ row_of (asked_verdict_says v) }
 {
     match v {
-        AskedVerdict::Refused { fault, at } => refused_row(fault, at),
-        AskedVerdict::Given { verdict } => match verdict {
-            Verdict::Overload => row_of(OVERLOAD, 0, 0, 0, 0),
+        Ok(Verdict::Overload) => row_of(OVERLOAD, 0, 0, 0, 0),
+        Ok(
             Verdict::Fail {
                 interval,
                 blocking,
                 demand,
                 pairs,
-            } => row_of(FAIL, interval.0, blocking.0, demand.0, pairs),
-            Verdict::Pass { pairs } => row_of(PASS, pairs, 0, 0, 0),
-        },
+            },
+        ) => row_of(FAIL, interval.0, blocking.0, demand.0, pairs),
+        Ok(Verdict::Pass { pairs }) => row_of(PASS, pairs, 0, 0, 0),
+        Err(refusal) => refused_row(refusal),
     }
 }
 
-pub(crate) fn assign_row(a: AskedAssign) -> Row
+pub(crate) fn assign_row(a: Result<Assign, Refusal>) -> Row
     ensures exact { result ≡ row_of (asked_assign_says a) }
 {
     match a {
-        AskedAssign::Refused { fault, at } => refused_row(fault, at),
-        AskedAssign::Given { assign } => match assign {
-            Assign::Takers { set } => row_of(TAKERS, set, 0, 0, 0),
-            Assign::Nobody => row_of(NOBODY, 0, 0, 0, 0),
-        },
+        Ok(Some(set)) => row_of(TAKERS, set, 0, 0, 0),
+        Ok(None) => row_of(NOBODY, 0, 0, 0, 0),
+        Err(refusal) => refused_row(refusal),
     }
 }
 
-pub(crate) fn outcome_row(o: AskedOutcome) -> Row
+pub(crate) fn outcome_row(o: Result<Outcome, Refusal>) -> Row
     ensures exact { result ≡ row_of (asked_outcome_says o) }
 {
     match o {
-        AskedOutcome::Refused { fault, at } => refused_row(fault, at),
-        AskedOutcome::Given { outcome } => match outcome {
-            Outcome::Miss { day, place } => row_at(MISS, day.0, place),
-            Outcome::Clean { work, moving, idle } => row_of(CLEAN, work.0, moving.0, idle.0, 0),
-        },
+        Ok(Outcome::Miss { day, place }) => row_at(MISS, day.0, place),
+        Ok(Outcome::Clean { work, moving, idle }) => row_of(CLEAN, work.0, moving.0, idle.0, 0),
+        Err(refusal) => refused_row(refusal),
     }
 }
 
-fn limited_row(limit: Limit) -> Row
-    ensures exact { result ≡ limited_row limit }
-{
-    match limit {
-        Limit::Nothing => row_of(NO_LIMIT, 0, 0, 0, 0),
-        Limit::At { value } => row_of(LIMIT, value, 0, 0, 0),
-    }
-}
-
-pub(crate) fn limit_row(asked: AskedLimit) -> Row
+pub(crate) fn limit_row(asked: Result<Limit, Refusal>) -> Row
     ensures exact { result ≡ limit_row asked }
 {
     match asked {
-        AskedLimit::Refused { fault, at } => refused_row(fault, at),
-        AskedLimit::Given { limit } => limited_row(limit),
+        Ok(Some(value)) => row_of(LIMIT, value, 0, 0, 0),
+        Ok(None) => row_of(NO_LIMIT, 0, 0, 0, 0),
+        Err(refusal) => refused_row(refusal),
     }
 }
 
-pub(crate) fn stinted_row(s: Stinted) -> Row
+pub(crate) fn stinted_row(s: Result<usize, Refusal>) -> Row
     ensures exact { result ≡ stinted_row s }
 {
     match s {
-        Stinted::Refused { fault, at } => refused_row(fault, at),
-        Stinted::Listed { stints } => Row {
+        Ok(stints) => Row {
             kind: STINTS,
             first: stints as u64,
             second: 0,
             third: 0,
             fourth: 0,
         },
+        Err(refusal) => refused_row(refusal),
     }
 }
 
-pub(crate) fn missing_row(m: Missing) -> Row
+pub(crate) fn missing_row(m: Result<Missing, Refusal>) -> Row
     ensures exact { result ≡ missing_row m }
 {
     match m {
-        Missing::Refused { fault, at } => refused_row(fault, at),
-        Missing::Passes => row_of(NONE_PASSES, 0, 0, 0, 0),
-        Missing::Never => row_of(NONE_MISSES, 0, 0, 0, 0),
-        Missing::NoneFound => row_of(NONE_FOUND, 0, 0, 0, 0),
-        Missing::TooMany => row_of(LIST_TOO_LONG, 0, 0, 0, 0),
-        Missing::Found { run } => row_of(LIST_MISSES, run.0, 0, 0, 0),
+        Ok(Missing::Passes) => row_of(NONE_PASSES, 0, 0, 0, 0),
+        Ok(Missing::Never) => row_of(NONE_MISSES, 0, 0, 0, 0),
+        Ok(Missing::NoneFound) => row_of(NONE_FOUND, 0, 0, 0, 0),
+        Ok(Missing::TooMany) => row_of(LIST_TOO_LONG, 0, 0, 0, 0),
+        Ok(Missing::Found { run, .. }) => row_of(LIST_MISSES, run.0, 0, 0, 0),
+        Err(refusal) => refused_row(refusal),
     }
 }
 
-pub(crate) fn date_row(w: WhichDate) -> Row
+pub(crate) fn date_row(w: Result<Date, Refusal>) -> Row
     ensures exact { result ≡ date_row w }
 {
     match w {
-        WhichDate::Is(d) => row_of(DATE, d.year, d.month, d.day, 0),
-        WhichDate::Refused { fault, at } => refused_row(fault, at),
+        Ok(d) => row_of(DATE, d.year, d.month, d.day, 0),
+        Err(refusal) => refused_row(refusal),
     }
 }
 
-pub(crate) fn day_row(w: WhichDay) -> Row
+pub(crate) fn day_row(w: Result<Day, Refusal>) -> Row
     ensures exact { result ≡ day_row w }
 {
     match w {
-        WhichDay::Is(day) => row_of(DAY, day.0, 0, 0, 0),
-        WhichDay::Refused { fault, at } => refused_row(fault, at),
+        Ok(day) => row_of(DAY, day.0, 0, 0, 0),
+        Err(refusal) => refused_row(refusal),
     }
 }
 
 // The kind is returned, and the numbers go to the first four places. With fewer places lent nothing is written.
+#[tactic(auto, unfolding(crate::specs::Told::kind_told, crate::specs::Told::places_told))]
 pub(crate) fn tell(row: Row, places: &mut [u64]) -> u32
     ensures exact { result ≡ kind_told row places.old }
     ensures places { places.new ≡ places_told row places.old }
@@ -217,20 +206,14 @@ pub(crate) fn tell(row: Row, places: &mut [u64]) -> u32
     if places.len() < 4 {
         return NO_ROOM;
     }
-    places[0] = row.first;
-    places[1] = row.second;
-    places[2] = row.third;
-    places[3] = row.fourth;
+    places[..4].copy_from_slice(&[row.first, row.second, row.third, row.fourth]);
     row.kind
 }
 
 // The text of a written page, which is shorter than a page.
 pub(crate) fn tell_text(written: Page, page: &mut [u8]) -> usize
-    requires { written.len ≤ length written.bytes }
     ensures exact { result ≡ length_told (text_of written) page.old }
     ensures page { page.new ≡ page_told (text_of written) page.old }
 {
-    let n = written.len;
-    let bytes = written.bytes;
-    put_text(&bytes[..n], page)
+    put_text(&written.bytes[..written.len], page)
 }

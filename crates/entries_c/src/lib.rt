@@ -110,8 +110,8 @@ pub extern "C" fn desk_run(plan: &[u32], releases: &[u32], out: &mut [u64]) -> u
 // Whether a plan can miss: why it cannot, or the days of a run that does.
 #[unsafe(no_mangle)]
 pub extern "C" fn desk_can_miss(plan: &[u32], out: &mut [u64]) -> u32
-    ensures exact { result ≡ kind_told (missing_row (missing_answer (plan_given plan.now)).missing) out.old }
-    ensures out { out.new ≡ places_told (missing_row (missing_answer (plan_given plan.now)).missing)
+    ensures exact { result ≡ kind_told (missing_row (missing_answer (plan_given plan.now))) out.old }
+    ensures out { out.new ≡ places_told (missing_row (missing_answer (plan_given plan.now)))
         out.old }
     ensures kept { plan.exit.now ≡ plan.entry.now }
 {

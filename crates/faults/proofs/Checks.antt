@@ -1,7 +1,11 @@
 -- Laws of checks: what a check that finds nothing says, and which check decides.
 use Rattle.base.proofs.Prelude.{ℕ, ◌≤◌, ◌≡◌, refl, ap, Bool, true, false, arith, leb-true, le-leb, leb}
+use Rattle.faults.specs.Checks.{Refused, Lawful, Checked}
+use Rattle.std.specs.Prelude.{Result, Ok, Err}
 use Rattle.base.proofs.Lists.{by_bool, and_left, and_right, and_both}
-use Rattle.faults.specs.{declared.Fault.Fault, declared.Checked.Checked, declared.Checked.TheVariants.{Lawful, Refused}, Checks.{then, refuse_if, or_refused, in_bounds}}
+use Rattle.faults.specs.declared.Fault.{Fault}
+use Rattle.faults.specs.declared.Refusal.{Refusal}
+use Rattle.faults.specs.Checks.{then, refuse_if, or_refused, in_bounds}
 
 -- a refusal is no Lawful
 pub refused-not-lawful : (f : Fault) (at : ℕ) → Refused f at ≡ Lawful → ⊥
@@ -11,21 +15,21 @@ refused-not-lawful f at h =
 
 -- what follows where nothing is found and where a fault is, follows
 pub by-checked {κ} : {B : Type κ} (c : Checked) → (c ≡ Lawful → B) → ((f : Fault) (at : ℕ) → c ≡ Refused f at → B) → B
-by-checked Lawful lawful refused = lawful refl
-by-checked (Refused f at) lawful refused = refused f at refl
+by-checked (Ok _) lawful refused = lawful refl
+by-checked (Err e) lawful refused = refused e.fault e.at refl
 
 pub then-first : (a b : Checked) → then a b ≡ Lawful → a ≡ Lawful
-then-first Lawful b h = refl
-then-first (Refused f at) b h = h
+then-first (Ok _) b h = refl
+then-first (Err e) b h = h
 
 pub then-second : (a b : Checked) → then a b ≡ Lawful → b ≡ Lawful
-then-second Lawful b h = h
-then-second (Refused f at) b h = absurd (refused-not-lawful f at h)
+then-second (Ok _) b h = h
+then-second (Err e) b h = absurd (refused-not-lawful e.fault e.at h)
 
-pub then-lawful : (a b : Checked) → a ≡ Lawful → then a b ≡ b
+pub then-lawful : {A : Type 0} (a : Checked) (b : Result A Refusal) → a ≡ Lawful → then a b ≡ b
 then-lawful a b h = ap (λ v. then v b) h
 
-pub then-refused : (a b : Checked) (f : Fault) (at : ℕ) → a ≡ Refused f at → then a b ≡ Refused f at
+pub then-refused : {A : Type 0} (a : Checked) (b : Result A Refusal) (f : Fault) (at : ℕ) → a ≡ Refused f at → then a b ≡ Refused f at
 then-refused a b f at h = ap (λ v. then v b) h
 
 pub refuse_if-not : (bad : Bool) (f : Fault) (at : ℕ) → refuse_if bad f at ≡ Lawful → bad ≡ false
@@ -36,11 +40,17 @@ refuse_if-not false f at h = refl
 pub refuse_if-anywhere : (bad : Bool) (f : Fault) (at elsewhere : ℕ) → refuse_if bad f at ≡ Lawful → refuse_if bad f elsewhere ≡ Lawful
 refuse_if-anywhere bad f at elsewhere h = rw (refuse_if-not bad f at h)
 
+-- a refusal is no value
+pub err-not-ok : {A : Type 0} (e : Refusal) (x : A) → Err e ≡ Ok x → ⊥
+err-not-ok e x h =
+    let z : ◌≡◌ {A = ℕ} 0 1 = cc in
+    omega arith
+
 -- a value that no refusal makes comes from a check that found nothing
 pub or_refused-lawful {ℓ} : {A : Type ℓ} (refused : Fault → ℕ → A) (c : Checked) (x y : A) → ((f : Fault) (at : ℕ) → refused f at ≡ y → ⊥)
     → or_refused refused c x ≡ y → (c ≡ Lawful) × (x ≡ y)
-or_refused-lawful refused Lawful x y none h = (refl, h)
-or_refused-lawful refused (Refused f at) x y none h = absurd (none f at h)
+or_refused-lawful refused (Ok _) x y none h = (refl, h)
+or_refused-lawful refused (Err e) x y none h = absurd (none e.fault e.at h)
 
 pub in_bounds-low : (low v high : ℕ) → in_bounds low v high ≡ true → low ≤ v
 in_bounds-low low v high h = leb-true low v (and_left (leb low v) (leb v high) h)

@@ -5,7 +5,7 @@ ghost use Rattle.std.specs.Prelude.{◌≡◌};
 ghost use Rattle.faults.specs.Checks.{fault_number};
 
 // Why a plan, a text or a list is refused.
-#[derive(Clone, Copy)]
+#[derive(Clone, Copy, PartialEq, Eq)]
 pub enum Fault {
     TextTooLong,
     LineMalformed,
@@ -24,32 +24,37 @@ pub enum Fault {
     SumDiffers,
 }
 
-// Whether all rules were met; if not, the first fault, and where: a line, a place, or 0 for the whole.
-#[derive(Clone, Copy)]
-pub enum Checked {
-    Lawful,
-    Refused { fault: Fault, at: usize },
+// A refusal: the first fault, and where: a line, a place, or 0 for the whole.
+#[derive(Clone, Copy, PartialEq, Eq)]
+pub struct Refusal {
+    pub fault: Fault,
+    pub at: usize,
 }
 
+// Whether all rules were met; if not, the first fault.
+pub type Checked = Result<(), Refusal>;
+
 // The number that the documents give a fault.
-pub fn fault_number(f: Fault) -> u32
-    ensures exact { result ≡ fault_number f }
-{
-    match f {
-        Fault::TextTooLong => 1,
-        Fault::LineMalformed => 2,
-        Fault::FrameWrong => 3,
-        Fault::StringCount => 4,
-        Fault::OutOfBounds => 5,
-        Fault::MultipleOver => 6,
-        Fault::ReleaseTooMany => 7,
-        Fault::ReleaseUnlawful => 8,
-        Fault::NoRoom => 9,
-        Fault::NoSuchDate => 10,
-        Fault::NoSuchEdition => 11,
-        Fault::CostsDiffer => 12,
-        Fault::RowMalformed => 13,
-        Fault::VisitUnlawful => 14,
-        Fault::SumDiffers => 15,
+impl From<Fault> for u32 {
+    ghost from_gives = { λ f n. n ≡ fault_number f };
+
+    fn from(fault: Fault) -> u32 {
+        match fault {
+            Fault::TextTooLong => 1,
+            Fault::LineMalformed => 2,
+            Fault::FrameWrong => 3,
+            Fault::StringCount => 4,
+            Fault::OutOfBounds => 5,
+            Fault::MultipleOver => 6,
+            Fault::ReleaseTooMany => 7,
+            Fault::ReleaseUnlawful => 8,
+            Fault::NoRoom => 9,
+            Fault::NoSuchDate => 10,
+            Fault::NoSuchEdition => 11,
+            Fault::CostsDiffer => 12,
+            Fault::RowMalformed => 13,
+            Fault::VisitUnlawful => 14,
+            Fault::SumDiffers => 15,
+        }
     }
 }

@@ -1,50 +1,50 @@
 -- The answers of the entries: the check decides, and a lawful plan gets the answer of the rules.
 use Rattle.base.proofs.Prelude.{ℕ, ◌^◌, ◌≡◌, ◌∙◌, leb}
-use Rattle.rules.specs.{declared.Plan.Plan, declared.Releases.Releases, Release.releases_of, Run.run_of, Plan.strings_of, Verdict.{all_pairs, first_broken, broken_at, verdict_of}, Search.{with_set, search_of}, Refusal.{head_check, strings_check, multiple_check, plan_check, set_check, run_check, verdict_answer, break_answer, set_answer, search_answer, run_answer}, Figures.{figures_of, no_figures, figures_answer}}
-use Rattle.faults.specs.{declared.Fault.Fault, declared.Fault.TheVariants.OutOfBounds, declared.Checked.TheVariants.{Lawful, Refused}, Checks.{then, refuse_if}}
+use Rattle.faults.specs.Checks.{Refused, Lawful}
+use Rattle.std.specs.Prelude.{Ok}
+use Rattle.rules.specs.{declared.Plan.Plan, declared.Releases.Releases, Release.releases_of, Run.run_of, Plan.strings_of, Verdict.{all_pairs, first_broken, broken_at, verdict_of}, Search.{with_set, search_of}, Refusal.{head_check, strings_check, multiple_check, plan_check, set_check, run_check, verdict_answer, break_answer, set_answer, search_answer, run_answer}, Figures.{figures_of, figures_answer}}
+use Rattle.faults.specs.declared.Fault.{Fault}
+use Rattle.faults.specs.declared.Fault.TheVariants.{OutOfBounds}
+use Rattle.faults.specs.Checks.{then, refuse_if}
 use Rattle.faults.proofs.Checks.{then-first, then-second, then-lawful}
-use Rattle.rules.specs.declared.AskedVerdict.TheVariants as asked-verdict
-use Rattle.rules.specs.declared.AskedBroken.TheVariants as asked-broken
-use Rattle.rules.specs.declared.AskedAssign.TheVariants as asked-assign
-use Rattle.rules.specs.declared.AskedOutcome.TheVariants as asked-outcome
 
-pub verdict-lawful : (p : Plan) → plan_check p ≡ Lawful → verdict_answer p ≡ asked-verdict.Given (verdict_of p)
+pub verdict-lawful : (p : Plan) → plan_check p ≡ Lawful → verdict_answer p ≡ Ok (verdict_of p)
 unfolding verdict_answer
 verdict-lawful p h = rw h
 
-pub verdict-refused : (p : Plan) (f : Fault) (at : ℕ) → plan_check p ≡ Refused f at → verdict_answer p ≡ asked-verdict.Refused f at
+pub verdict-refused : (p : Plan) (f : Fault) (at : ℕ) → plan_check p ≡ Refused f at → verdict_answer p ≡ Refused f at
 unfolding verdict_answer
 verdict-refused p f at h = rw h
 
-pub break-lawful : (p : Plan) → plan_check p ≡ Lawful → break_answer p ≡ asked-broken.Given (broken_at (first_broken p (all_pairs p)))
+pub break-lawful : (p : Plan) → plan_check p ≡ Lawful → break_answer p ≡ Ok (broken_at (first_broken p (all_pairs p)))
 unfolding break_answer
 break-lawful p h = rw h
 
-pub break-refused : (p : Plan) (f : Fault) (at : ℕ) → plan_check p ≡ Refused f at → break_answer p ≡ asked-broken.Refused f at
+pub break-refused : (p : Plan) (f : Fault) (at : ℕ) → plan_check p ≡ Refused f at → break_answer p ≡ Refused f at
 unfolding break_answer
 break-refused p f at h = rw h
 
-pub set-lawful : (p : Plan) (m : ℕ) → set_check p m ≡ Lawful → set_answer p m ≡ asked-verdict.Given (verdict_of (with_set p m))
+pub set-lawful : (p : Plan) (m : ℕ) → set_check p m ≡ Lawful → set_answer p m ≡ Ok (verdict_of (with_set p m))
 unfolding set_answer
 set-lawful p m h = rw h
 
-pub set-refused : (p : Plan) (m : ℕ) (f : Fault) (at : ℕ) → set_check p m ≡ Refused f at → set_answer p m ≡ asked-verdict.Refused f at
+pub set-refused : (p : Plan) (m : ℕ) (f : Fault) (at : ℕ) → set_check p m ≡ Refused f at → set_answer p m ≡ Refused f at
 unfolding set_answer
 set-refused p m f at h = rw h
 
-pub search-lawful : (p : Plan) → plan_check p ≡ Lawful → search_answer p ≡ asked-assign.Given (search_of p)
+pub search-lawful : (p : Plan) → plan_check p ≡ Lawful → search_answer p ≡ Ok (search_of p)
 unfolding search_answer
 search-lawful p h = rw h
 
-pub search-refused : (p : Plan) (f : Fault) (at : ℕ) → plan_check p ≡ Refused f at → search_answer p ≡ asked-assign.Refused f at
+pub search-refused : (p : Plan) (f : Fault) (at : ℕ) → plan_check p ≡ Refused f at → search_answer p ≡ Refused f at
 unfolding search_answer
 search-refused p f at h = rw h
 
-pub figures-lawful : (p : Plan) → plan_check p ≡ Lawful → figures_answer p ≡ figures_of p
+pub figures-lawful : (p : Plan) → plan_check p ≡ Lawful → figures_answer p ≡ Ok (figures_of p)
 unfolding figures_answer
 figures-lawful p h = rw h
 
-pub figures-refused : (p : Plan) (f : Fault) (at : ℕ) → plan_check p ≡ Refused f at → figures_answer p ≡ no_figures f at
+pub figures-refused : (p : Plan) (f : Fault) (at : ℕ) → plan_check p ≡ Refused f at → figures_answer p ≡ Refused f at
 unfolding figures_answer
 figures-refused p f at h = rw h
 
@@ -58,11 +58,11 @@ set-plan p m h =
     let rest = then-second head (then few strings) h in
     then-lawful head strings (then-first head (then few strings) h) ∙ then-second few strings rest
 
-pub run-lawful : (p : Plan) (rs : Releases) → run_check p rs ≡ Lawful → run_answer p rs ≡ asked-outcome.Given (run_of p (releases_of rs))
+pub run-lawful : (p : Plan) (rs : Releases) → run_check p rs ≡ Lawful → run_answer p rs ≡ Ok (run_of p (releases_of rs))
 unfolding run_answer
 run-lawful p rs h = rw h
 
 pub run-refused : (p : Plan) (rs : Releases) (f : Fault) (at : ℕ) → run_check p rs ≡ Refused f at
-    → run_answer p rs ≡ asked-outcome.Refused f at
+    → run_answer p rs ≡ Refused f at
 unfolding run_answer
 run-refused p rs f at h = rw h

@@ -1,7 +1,9 @@
 -- What the checks of a plan give where they find no fault.
 use Rattle.base.proofs.Prelude.{ℕ, suc, ◌-◌, ◌%◌, ◌≤◌, ◌<◌, zero-le, ◌≡◌, true, false, not, ◌&&◌, List, [], ◌∷◌, arith, ltb-false, eqb-true, not-false, lt-ltb, le-ltb, eqb}
+use Rattle.faults.specs.Checks.{Refused, Lawful}
 use Rattle.rules.specs.{declared.BatteryString.BatteryString, declared.Plan.Plan, Plan.{strings_of, no_string, leeway, cost_lawful, string_lawful, common_multiple, multiple_of, d_max}, Demand.moving_cost, Refusal.{count_check, run_length_check, head_check, cost_check, strings_check, multiple_check, plan_check}}
-use Rattle.faults.specs.{declared.Fault.TheVariants.{StringCount, OutOfBounds, MultipleOver}, declared.Checked.TheVariants.{Lawful, Refused}, Checks.{in_bounds, then}}
+use Rattle.faults.specs.declared.Fault.TheVariants.{StringCount, OutOfBounds, MultipleOver}
+use Rattle.faults.specs.Checks.{in_bounds, then}
 use Rattle.faults.proofs.Checks.{refused-not-lawful, then-first, then-second, refuse_if-not, in_bounds-low, in_bounds-high, in_bounds-yes, in_bounds-not}
 use Rattle.base.proofs.{Lists.{All, all_map, all-of-every, largest-le, by_bool, and_left, and_right}, Least.{least_from-low, least_from-passes, least_from-before, least_from-unique, least_from-none}}
 pub use Rattle.laws.specs.Lawful.{LawfulString, LawfulPlan, PlanString}

@@ -1,7 +1,7 @@
 -- The checks find nothing in a lawful plan, so a lawful plan gets the answers of the rules.
 use Rattle.base.proofs.Prelude.{ℕ, suc, ◌≡◌, refl, ◌∙◌, List, [], ◌∷◌}
+use Rattle.faults.specs.Checks.{Lawful}
 use Rattle.base.specs.Count.{All}
-use Rattle.faults.specs.declared.Checked.TheVariants.{Lawful}
 use Rattle.faults.proofs.Checks.{then-lawful}
 use Rattle.rules.specs.{declared.BatteryString.BatteryString, declared.Plan.Plan, Plan.strings_of, Refusal.{head_check, strings_check, plan_check}}
 use Rattle.laws.specs.Lawful.{LawfulString, LawfulPlan}

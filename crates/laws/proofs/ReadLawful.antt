@@ -1,8 +1,10 @@
 -- A text that is read is lawful by numbers too: its plan and its releases pass the checks of the entries that take numbers.
 -- So the entries refuse none of it. The checks are the same, reported at lines there and at places here.
 use Rattle.base.proofs.Prelude.{ℕ, zero, suc, ◌+◌, ◌≤◌, ◌≡◌, refl, ap, ◌∙◌, true, not, List, [], ◌∷◌, map, arith, ltb-false, not-false, ltb, length, take, drop, length-map, take_at}
+use Rattle.faults.specs.Checks.{Lawful, Checked}
 use Rattle.rules.specs.{declared.Plan.Plan, declared.Release.Release, Plan.string_lawful, Release.{release_lawful, unlawful_from, first_unlawful}, Refusal.{head_check, cost_check, string_check, strings_check, multiple_check, many_check, plan_check, run_check}, Layout.{Version, header_frame, string_frame, release_frame}, Text.{Line, lines_of, n_in, run_in, a_in, string_of, release_of, plan_in, list_in, version_check, header_check, layout_check, string_line_check, string_lines_check, release_line_check, release_lines_check, body_check, lines_check, text_check, lawful_reading, reading_in, version_of, reading_of}}
-use Rattle.faults.specs.{declared.Fault.TheVariants.{FrameWrong, OutOfBounds, ReleaseTooMany, ReleaseUnlawful}, declared.Checked.Checked, declared.Checked.TheVariants.Lawful, Checks.{then, refuse_if}}
+use Rattle.faults.specs.declared.Fault.TheVariants.{FrameWrong, OutOfBounds, ReleaseTooMany, ReleaseUnlawful}
+use Rattle.faults.specs.Checks.{then, refuse_if}
 use Rattle.faults.proofs.Checks.{refused-not-lawful, then-first, then-second, then-lawful, refuse_if-not, refuse_if-anywhere}
 use Rattle.laws.proofs.{Lawful.{head_check-lawful, head_check-good, multiple_check-small, multiple_check-good}, Versions.{strings-lawful, strings-are, reading-checked, lines-checked}, Releases.releases_check-good}
 

@@ -4,8 +4,12 @@
 --     Never n f at          it has another number than n
 --     Behind f at           it has a number up to 8, and if that is 3 it stands behind line 1
 use Rattle.base.proofs.Prelude.{ℕ, zero, suc, ◌+◌, ◌≤◌, ◌<◌, ◌≡◌, refl, ap, ◌∙◌, ◌↔◌, Bool, true, false, not, ◌&&◌, List, [], ◌∷◌, arith, ltb, eqb, length, drop}
+use Rattle.faults.specs.Checks.{Lawful, Checked}
+use Rattle.std.specs.Prelude.{Ok, Err}
 use Rattle.base.proofs.Lists.{true-not-false}
-use Rattle.faults.specs.{declared.Fault.Fault, declared.Fault.TheVariants.{TextTooLong, LineMalformed, FrameWrong, StringCount, OutOfBounds, MultipleOver, ReleaseTooMany, ReleaseUnlawful}, declared.Checked.Checked, declared.Checked.TheVariants.{Lawful, Refused}, Checks.{fault_number, then, refuse_if, in_bounds}}
+use Rattle.faults.specs.declared.Fault.{Fault}
+use Rattle.faults.specs.declared.Fault.TheVariants.{TextTooLong, LineMalformed, FrameWrong, StringCount, OutOfBounds, MultipleOver, ReleaseTooMany, ReleaseUnlawful}
+use Rattle.faults.specs.Checks.{fault_number, then, refuse_if, in_bounds}
 use Rattle.faults.proofs.{Checks.refused-not-lawful, Refusing.{Refusals, refusals-then, refusals-if, refusals-map}}
 use Rattle.rules.specs.{declared.BatteryString.BatteryString, declared.Plan.Plan, declared.Release.Release, declared.Releases.Releases, Plan.{strings_of, cost_lawful, string_lawful, multiple_of}, Release.{releases_of, release_lawful, first_unlawful}, Refusal.{count_check, run_length_check, head_check, cost_check, string_check, multiple_check, many_check, strings_check, plan_check, releases_check, run_check}, Layout.{Layout, Version, frame_size, kind_in, header_frame, string_frame, release_frame, Number}, Text.{Line, lines_of, well_formed, frame_of, field_of, n_in, run_in, a_in, string_of, release_of, plan_in, frame_check, layout_check, version_check, header_check, string_line_check, string_lines_check, release_line_check, release_lines_check, body_check, lines_check, text_check, lawful_reading, reading_in, version_of, reading_of}, Said.{lawful, refused, checked_says}}
 
@@ -24,9 +28,9 @@ lawful-no-refusal n k h =
 
 module _ (n k : ℕ) where
   never-says : (c : Checked) → Refusals (Never n) c → checked_says c ≡ refused n k → ⊥
-  never-says Lawful other h = lawful-no-refusal n k h
-  never-says (Refused f at) other h =
-      let number : fault_number f ≡ n = cc in
+  never-says (Ok _) other h = lawful-no-refusal n k h
+  never-says (Err e) other h =
+      let number : fault_number e.fault ≡ n = cc in
       other number
 
   pub if-says : (bad : Bool) (f : Fault) (at : ℕ)
@@ -45,15 +49,15 @@ module _ (n k : ℕ) where
 
   -- the first check decides where the second never has the number
   pub first_says : (a b : Checked) → Refusals (Never n) b → (checked_says (then a b) ≡ refused n k) ↔ (checked_says a ≡ refused n k)
-  first_says Lawful b other = (λ h. absurd (never-says b other h), λ h. absurd (lawful-no-refusal n k h))
-  first_says (Refused f at) b other = (λ h. h, λ h. h)
+  first_says (Ok _) b other = (λ h. absurd (never-says b other h), λ h. absurd (lawful-no-refusal n k h))
+  first_says (Err e) b other = (λ h. h, λ h. h)
 
   -- the second decides where the first finds nothing and never has the number
   pub second-says : (a b : Checked) → Refusals (Never n) a
       → (checked_says (then a b) ≡ refused n k) ↔ ((a ≡ Lawful) × (checked_says b ≡ refused n k))
-  second-says Lawful b other = (λ h. (refl, h), λ h. h.1)
-  second-says (Refused f at) b other =
-      (λ h. absurd (never-says (Refused f at) other h), λ h. absurd (refused-not-lawful f at h.0))
+  second-says (Ok _) b other = (λ h. (refl, h), λ h. h.1)
+  second-says (Err e) b other =
+      (λ h. absurd (never-says (Err e) other h), λ h. absurd (refused-not-lawful e.fault e.at h.0))
 
 pub never-above : (n k : ℕ) → k < n → (c : Checked) → Refusals (Numbered k) c → Refusals (Never n) c
 never-above n k over = refusals-map (Numbered k) (Never n) (λ f at low is. omega arith)
@@ -190,8 +194,8 @@ module _ (v : Version) where
 
 reading-check : (v : Version) (c : Checked) (lines : List Line) → (lawful_reading v c lines).checked ≡ c
 unfolding lawful_reading
-reading-check v Lawful lines = refl
-reading-check v (Refused f at) lines = refl
+reading-check v (Ok _) lines = refl
+reading-check v (Err e) lines = refl
 
 -- a reading is refused by what its text is refused by
 pub reading-is-checked : (v : Version) (text : List ℕ) → (reading_in v text).checked ≡ text_check v text

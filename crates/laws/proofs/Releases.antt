@@ -1,7 +1,9 @@
 -- Laws of the check of a release list, and what it gives where it finds no fault.
 use Rattle.base.proofs.Prelude.{ℕ, suc, ◌+◌, ◌≤◌, ◌<◌, List, [], ◌∷◌, length, ◌≡◌, arith, ltb, lt-ltb, le-ltb, ltb-false}
+use Rattle.faults.specs.Checks.{Refused, Lawful}
 use Rattle.rules.specs.{declared.Plan.Plan, declared.Release.Release, declared.Releases.Releases, Release.{releases_of, release_lawful, unlawful_from, first_unlawful}, Refusal.{plan_check, releases_check, run_check}}
-use Rattle.faults.specs.{declared.Fault.TheVariants.{ReleaseTooMany, ReleaseUnlawful}, declared.Checked.TheVariants.{Lawful, Refused}, Checks.{then, refuse_if}}
+use Rattle.faults.specs.declared.Fault.TheVariants.{ReleaseTooMany, ReleaseUnlawful}
+use Rattle.faults.specs.Checks.{then, refuse_if}
 use Rattle.faults.proofs.Checks.{then-first, then-second, refuse_if-not}
 use Rattle.base.proofs.Lists.{by_bool}
 use Rattle.laws.proofs.Lawful.{plan_check-lawful}

@@ -1,8 +1,11 @@
 -- The versions of the plan file (document 02, W-207 and W-213): which are read, which moving costs they give, and that nothing is late in
 -- those before 03. The strings of a lawful text are those that its string lines write, in every version.
 use Rattle.base.proofs.Prelude.{ℕ, zero, suc, ◌-◌, ◌≤◌, ◌≡◌, refl, ap, ◌∙◌, true, ◌&&◌, List, [], ◌∷◌, map, arith, eq-eqb, ne_eqb, lt-ltb, le-ltb, ltb, eqb, length, take, drop, replicate, length-map, take_at}
+use Rattle.faults.specs.Checks.{Refused, Lawful, Checked}
+use Rattle.std.specs.Prelude.{Ok, Err}
 use Rattle.days.specs.Days.{days}
-use Rattle.faults.specs.{declared.Fault.TheVariants.{TextTooLong, FrameWrong}, declared.Checked.Checked, declared.Checked.TheVariants.{Lawful, Refused}, Checks.refuse_if}
+use Rattle.faults.specs.declared.Fault.TheVariants.{TextTooLong, FrameWrong}
+use Rattle.faults.specs.Checks.{refuse_if}
 use Rattle.faults.proofs.Checks.{refused-not-lawful, then-first, then-second}
 use Rattle.laws.specs.Lawful.{OnTime}
 use Rattle.base.specs.{Count.All, Digits.number_on}
@@ -107,8 +110,8 @@ module _ (header : Line) (lines : List Line) where
 -- a reading that is lawful was found so
 pub reading-checked : (v : Version) (c : Checked) (lines : List Line) → (lawful_reading v c lines).checked ≡ Lawful → c ≡ Lawful
 unfolding lawful_reading
-reading-checked v Lawful lines h = refl
-reading-checked v (Refused f at) lines h = h
+reading-checked v (Ok _) lines h = refl
+reading-checked v (Err e) lines h = h
 
 pub lines-checked : (v : Version) (text : List ℕ) → (reading_in v text).checked ≡ Lawful → lines_check v (lines_of text) ≡ Lawful
 unfolding reading_in text_check

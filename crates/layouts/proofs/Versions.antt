@@ -1,18 +1,19 @@
 -- The versions that the code knows: where their fields stand, and how long their lines are. A further version has its row among the
 -- definitions' `versions`, and one more `omega` in `all_sound`.
-use Rattle.base.proofs.Prelude.{ℕ, ◌+◌, ◌*◌, ◌%◌, ◌≤◌, ◌<◌, ◌≡◌, refl, ap, ◌∙◌, List, [], ◌∷◌, arith, mul-le-mul, lt-ltb, le-ltb, eqb}
+use Rattle.base.proofs.Prelude.{ℕ, ◌+◌, ◌*◌, ◌%◌, ◌≤◌, ◌<◌, ◌≡◌, refl, ap, List, [], ◌∷◌, arith, mul-le-mul, lt-ltb, le-ltb, eqb}
 use Rattle.base.specs.Count.{All}
 use Rattle.base.proofs.Lists.{by_bool}
-use Rattle.rules.specs.{Layout.{Version, line_size, has_field, versions, later_versions, version_among, held_to, header_frame, string_frame, release_frame, Number, Count, Common, Run, X, T, C, D, Own, Late, Place, Day, Need, Due}, Text.{Line, a_in, field_of, cost_of, due_in}}
-use Rattle.layouts.specs.{declared.Field.Field, declared.Layout.Layout, inner.Versions.{field_for, layout_for, code_of, meant_by, Known, Sound}}
-use Rattle.layouts.specs.declared.Version as code
+use Rattle.rules.specs.Layout as rule
+use Rattle.rules.specs.{Layout.{line_size, has_field, versions, later_versions, version_among, held_to, header_frame, string_frame, release_frame, Number, Count, Common, Run, X, T, C, D, Own, Late, Place, Day, Need, Due}, Text.{Line, a_in, field_of, cost_of, due_in}}
+use Rattle.layouts.specs.declared.Version.TheVariants.{First, Second, Third}
+use Rattle.layouts.specs.{declared.Field.Field, declared.Layout.Layout, declared.Layouts.Layouts, declared.Version.Version, inner.Versions.{field_for, layout_for, layouts_for, layouts_number_of, meant_by, Sound}}
 
 -- what holds of every version holds of the one that a number is held to
-pub by-version : (P : Version → Type 0) → All P versions → (k : ℕ) → P (held_to k)
+pub by-version : (P : rule.Version → Type 0) → All P versions → (k : ℕ) → P (held_to k)
 unfolding held_to
 by-version P all k = among later_versions all.1
   where
-    among : (vs : List Version) → All P vs → P (version_among k vs)
+    among : (vs : List rule.Version) → All P vs → P (version_among k vs)
     among [] h = all.0
     among (v ∷ vs) h = by_bool (eqb k v.number) (λ t. rw t h.0) (λ e. rw e (among vs h.1))
 
@@ -116,7 +117,7 @@ module _ (k : ℕ) where
 
 -- ---- Which frame says the moving cost
 
-module _ (v : Version) (header line : Line) where
+module _ (v : rule.Version) (header line : Line) where
   pub cost-common : 0 < v.header Common → cost_of v header line ≡ a_in v header
   unfolding cost_of has_field
   cost-common h = rw (lt-ltb 0 (v.header Common) h)
@@ -127,7 +128,7 @@ module _ (v : Version) (header line : Line) where
 
 -- ---- Whether a release line says its due day
 
-module _ (v : Version) (line : Line) where
+module _ (v : rule.Version) (line : Line) where
   pub due-said : 0 < v.release Due → due_in v line ≡ field_of (release_frame v) Due line
   unfolding due_in has_field
   due-said h = rw (lt-ltb 0 (v.release Due) h)
@@ -143,78 +144,85 @@ ten-short i step few short = mul-le-mul few short
 pub thousand-short : (i step : ℕ) → i ≤ 1000 → step ≤ 60 → i * step ≤ 60000
 thousand-short i step few short = mul-le-mul few short
 
--- ---- A version that is known
+-- ---- The layouts of a version, as the code holds them
 
-module _ (version : code.Version) (known : Known version) where
-  pub number-known : version.number ≡ (meant_by version).number
-  number-known = ap (λ (w : code.Version). w.number) known
+module _ (version : Version) (said : Layouts) (known : said ≡ layouts_for (meant_by version)) where
+  pub number-known : said.number ≡ (meant_by version).number
+  number-known = ap (λ (w : Layouts). w.number) known
 
-  pub header-known : version.header ≡ layout_for (header_frame (meant_by version))
-  header-known = ap (λ (w : code.Version). w.header) known
+  pub header-known : said.header ≡ layout_for (header_frame (meant_by version))
+  header-known = ap (λ (w : Layouts). w.header) known
 
-  pub string-known : version.string ≡ layout_for (string_frame (meant_by version))
-  string-known = ap (λ (w : code.Version). w.string) known
+  pub string-known : said.string ≡ layout_for (string_frame (meant_by version))
+  string-known = ap (λ (w : Layouts). w.string) known
 
-  pub release-known : version.release ≡ layout_for (release_frame (meant_by version))
-  release-known = ap (λ (w : code.Version). w.release) known
+  pub release-known : said.release ≡ layout_for (release_frame (meant_by version))
+  release-known = ap (λ (w : Layouts). w.release) known
 
-  pub common-known : version.common ≡ field_for (header_frame (meant_by version)) Common
-  common-known = ap (λ (w : code.Version). w.common) known
+  pub common-known : said.common ≡ field_for (header_frame (meant_by version)) Common
+  common-known = ap (λ (w : Layouts). w.common) known
 
-  pub run-known : version.run ≡ field_for (header_frame (meant_by version)) Run
-  run-known = ap (λ (w : code.Version). w.run) known
+  pub run-known : said.run ≡ field_for (header_frame (meant_by version)) Run
+  run-known = ap (λ (w : Layouts). w.run) known
 
-  pub own-known : version.own ≡ field_for (string_frame (meant_by version)) Own
-  own-known = ap (λ (w : code.Version). w.own) known
+  pub own-known : said.own ≡ field_for (string_frame (meant_by version)) Own
+  own-known = ap (λ (w : Layouts). w.own) known
 
-  pub late-known : version.late ≡ field_for (string_frame (meant_by version)) Late
-  late-known = ap (λ (w : code.Version). w.late) known
+  pub late-known : said.late ≡ field_for (string_frame (meant_by version)) Late
+  late-known = ap (λ (w : Layouts). w.late) known
 
-  pub due-known : version.due ≡ field_for (release_frame (meant_by version)) Due
-  due-known = ap (λ (w : code.Version). w.due) known
+  pub due-known : said.due ≡ field_for (release_frame (meant_by version)) Due
+  due-known = ap (λ (w : Layouts). w.due) known
 
-  pub common-size : version.common.size ≡ (meant_by version).header Common
+  pub common-size : said.common.size ≡ (meant_by version).header Common
   common-size = ap (λ (f : Field). f.size) common-known
 
-  pub common-small : version.common.size ≤ 4
-  common-small = omega (arith, common-size, cost-sizes version.number)
+  pub common-small : said.common.size ≤ 4
+  common-small = omega (arith, common-size, cost-sizes (layouts_number_of version))
 
-  pub run_small : version.run.size ≤ 4
-  run_small = omega (arith, ap (λ (f : Field). f.size) run-known, run-size version.number)
+  pub run_small : said.run.size ≤ 4
+  run_small = omega (arith, ap (λ (f : Field). f.size) run-known, run-size (layouts_number_of version))
 
-  pub own-small : version.own.size ≤ 4
-  own-small = omega (arith, ap (λ (f : Field). f.size) own-known, cost-sizes version.number)
+  pub own-small : said.own.size ≤ 4
+  own-small = omega (arith, ap (λ (f : Field). f.size) own-known, cost-sizes (layouts_number_of version))
 
-  pub late-small : version.late.size ≤ 4
-  late-small = omega (arith, ap (λ (f : Field). f.size) late-known, late-sizes version.number)
+  pub late-small : said.late.size ≤ 4
+  late-small = omega (arith, ap (λ (f : Field). f.size) late-known, late-sizes (layouts_number_of version))
 
-  pub due-size : version.due.size ≡ (meant_by version).release Due
+  pub due-size : said.due.size ≡ (meant_by version).release Due
   due-size = ap (λ (f : Field). f.size) due-known
 
-  pub due-small : version.due.size ≤ 4
-  due-small = omega (arith, due-size, due-sizes version.number)
+  pub due-small : said.due.size ≤ 4
+  due-small = omega (arith, due-size, due-sizes (layouts_number_of version))
 
   -- the lines' lengths
-  pub header-line : version.header.line ≡ line_size (header_frame (meant_by version))
+  pub header-line : said.header.line ≡ line_size (header_frame (meant_by version))
   header-line = ap (λ (l : Layout). l.line) header-known
 
-  pub string-line : version.string.line ≡ line_size (string_frame (meant_by version))
+  pub string-line : said.string.line ≡ line_size (string_frame (meant_by version))
   string-line = ap (λ (l : Layout). l.line) string-known
 
-  pub release-line : version.release.line ≡ line_size (release_frame (meant_by version))
+  pub release-line : said.release.line ≡ line_size (release_frame (meant_by version))
   release-line = ap (λ (l : Layout). l.line) release-known
 
-  pub header-line-short : version.header.line ≤ 60
-  header-line-short = omega (arith, header-line, header-short version.number)
+  pub header-line-short : said.header.line ≤ 60
+  header-line-short = omega (arith, header-line, header-short (layouts_number_of version))
 
-  pub string-line-short : version.string.line ≤ 60
-  string-line-short = omega (arith, string-line, string-short version.number)
+  pub string-line-short : said.string.line ≤ 60
+  string-line-short = omega (arith, string-line, string-short (layouts_number_of version))
 
-  pub release-line-short : version.release.line ≤ 60
-  release-line-short = omega (arith, release-line, release-short version.number)
+  pub release-line-short : said.release.line ≤ 60
+  release-line-short = omega (arith, release-line, release-short (layouts_number_of version))
 
--- the code's version for a number is known
-pub held-known : (version : code.Version) (k : ℕ) → version ≡ code_of (held_to k) → Known version × (meant_by version ≡ held_to k)
-held-known version k is =
-    let same : meant_by version ≡ held_to k = ap (λ (w : code.Version). held_to w.number) is ∙ number-again k in
-    (rw same is, same)
+-- versions that stand for one version are one
+pub version_one : (version other : Version) → meant_by version ≡ meant_by other → version ≡ other
+unfolding held_to
+version_one First First h = refl
+version_one First Second h = absurd (omega (arith, ap (λ (v : rule.Version). v.number) h))
+version_one First Third h = absurd (omega (arith, ap (λ (v : rule.Version). v.number) h))
+version_one Second First h = absurd (omega (arith, ap (λ (v : rule.Version). v.number) h))
+version_one Second Second h = refl
+version_one Second Third h = absurd (omega (arith, ap (λ (v : rule.Version). v.number) h))
+version_one Third First h = absurd (omega (arith, ap (λ (v : rule.Version). v.number) h))
+version_one Third Second h = absurd (omega (arith, ap (λ (v : rule.Version). v.number) h))
+version_one Third Third h = refl

@@ -1,9 +1,11 @@
 pub mod Digits
 pub mod Growing
+pub mod Putting
+pub mod Filled
 pub mod Columns
+pub mod PlacesText
 pub mod TakersText
 pub mod Trimming
-pub mod Filled
-pub mod PlacesText
+pub mod StintWords
 pub mod Beside
-pub mod Putting
+pub mod Dated

@@ -1,64 +1,57 @@
--- The places in a set, a binary digit at a time, and the words for them.
-use Rattle.base.proofs.Prelude.{ℕ, suc, ◌+◌, ◌-◌, ◌/◌, ◌%◌, ◌^◌, ◌≤◌, ◌<◌, ◌≡◌, refl, sym, ap, ◌∙◌, true, false, List, [], ◌∷◌, ◌++◌, arith, add-one, pow-suc, mod-lt, eqb, eq-eqb, ne_eqb, eqb-true, eqb-false, length}
-use native.Mathlib.Nat.{div-div-eq-div-mul}
+-- The places in a set, from the first on, and the words for them.
+use Rattle.base.proofs.Prelude.{ℕ, zero, suc, ◌+◌, ◌-◌, ◌≤◌, ◌≡◌, refl, sym, ap, ◌∙◌, true, false, List, [], ◌∷◌, ◌++◌, append_assoc, append-nil, arith, length}
+use Rattle.std.proofs.Common.{add-zero, Bool}
+use Rattle.std.specs.List.{filter, range_with_len}
+use Rattle.base.proofs.Lists.{by_bool}
 use Rattle.base.specs.Count.{up_from, keep}
-use Rattle.base.proofs.{Lists.by_bool, Order.{keep-yes, keep-no}}
-use Rattle.rules.specs.Lines.{bytes_of}
-use Rattle.lines.specs.{Same.places_text, Sets.{in_set, takers_of, takers_words}, inner.Takers.{taker_text, takers_left}}
+use Rattle.base.proofs.Order.{keep-yes, keep-no, keep_append}
+use Rattle.rules.specs.Lines.{bytes_of, decimal}
+use Rattle.lines.specs.{Same.places_text, Sets.{in_set, takers_of, takers_words}}
+use Rattle.lines.proofs.PlacesText.{places-behind}
 
-pub halved : (m i : ℕ) → m / 2 ^ i / 2 ≡ m / 2 ^ (i + 1)
-halved m i = rw (add-one i) (div-div-eq-div-mul m (2 ^ i) 2 ∙ ap (λ k. m / k) (sym (pow-suc 2 i)))
+up_from-last : (k n : ℕ) → up_from k (suc n) ≡ up_from k n ++ ((k + n) ∷ [])
+unfolding up_from
+up_from-last k zero = ap (λ i. i ∷ []) (sym (add-zero k))
+up_from-last k (suc n) =
+    let next : suc k + n ≡ k + suc n = omega arith in
+    ap (λ is. k ∷ is) (up_from-last (suc k) n ∙ ap (λ i. up_from (suc k) n ++ (i ∷ [])) next)
 
-pub takers-all : (m : ℕ) → takers_left m 0 ≡ takers_of m
-unfolding takers_left takers_of
-takers-all m = refl
+-- the places in a set up to a place
+abbrev pub takers_to : ℕ → ℕ → List ℕ
+takers_to m i = keep (in_set m) (up_from 1 (i - 1))
 
-pub takers-none : (m i : ℕ) → 10 ≤ i → takers_left m i ≡ []
-unfolding takers_left up_from keep
-takers-none m i h =
-    let none : 10 - i ≡ 0 = omega arith in
-    rw none
+module _ (m i : ℕ) (some : 1 ≤ i) where
+  next-is : takers_to m (i + 1) ≡ takers_to m i ++ keep (in_set m) (i ∷ [])
+  next-is =
+      let more : i + 1 - 1 ≡ suc (i - 1) = omega arith in
+      let place : 1 + (i - 1) ≡ i = omega arith in
+      rw (more, up_from-last 1 (i - 1), place) (keep_append (in_set m) (up_from 1 (i - 1)) (i ∷ []))
 
-module _ (m i : ℕ) (h : i < 10) where
-  taker-in : m / 2 ^ i % 2 ≡ 1 → takers_left m i ≡ suc i ∷ takers_left m (suc i)
-  unfolding takers_left up_from in_set
-  taker-in is =
-      let left : 10 - i ≡ suc (10 - suc i) = omega arith in
-      let place : suc i - 1 ≡ i = omega arith in
-      let here : eqb (m / 2 ^ (suc i - 1) % 2) 1 ≡ true = rw place (eq-eqb (m / 2 ^ i % 2) 1 is) in
-      rw left (keep-yes (in_set m) (suc i) (up_from (suc (suc i)) (10 - suc i)) here)
+  pub taker-in : (text : List ℕ) → in_set m i ≡ true
+      → (text ++ places_text (takers_to m i)) ++ (bytes_of " " ++ decimal i) ≡ text ++ places_text (takers_to m (i + 1))
+  unfolding keep
+  taker-in text is =
+      append_assoc text (places_text (takers_to m i)) (bytes_of " " ++ decimal i)
+      ∙ ap (λ more. text ++ more) (sym (places-behind (takers_to m i) i)
+      ∙ ap places_text (ap (λ ps. takers_to m i ++ ps) (sym (keep-yes (in_set m) i [] is)) ∙ sym next-is))
 
-  taker-out : (m / 2 ^ i % 2 ≡ 1 → ⊥) → takers_left m i ≡ takers_left m (suc i)
-  unfolding takers_left up_from in_set
-  taker-out is =
-      let left : 10 - i ≡ suc (10 - suc i) = omega arith in
-      let place : suc i - 1 ≡ i = omega arith in
-      let none : eqb (m / 2 ^ (suc i - 1) % 2) 1 ≡ false = rw place (ne_eqb (m / 2 ^ i % 2) 1 is) in
-      rw left (keep-no (in_set m) (suc i) (up_from (suc (suc i)) (10 - suc i)) none)
+  pub taker-out : (text : List ℕ) → in_set m i ≡ false
+      → text ++ places_text (takers_to m i) ≡ text ++ places_text (takers_to m (i + 1))
+  unfolding keep
+  taker-out text is =
+      ap (λ ps. text ++ places_text ps) (sym (append-nil (takers_to m i))
+      ∙ ap (λ ps. takers_to m i ++ ps) (sym (keep-no (in_set m) i [] is)) ∙ sym next-is)
 
-  pub takers-count : m / 2 ^ i % 2 + length (takers_left m (i + 1)) ≡ length (takers_left m i)
-  takers-count =
-      rw (add-one i)
-      (by_bool (eqb (m / 2 ^ i % 2) 1)
-      (λ t. let is = eqb-true (m / 2 ^ i % 2) 1 t in
-      omega (arith, ap length (taker-in is)))
-      (λ f. let is = eqb-false (m / 2 ^ i % 2) 1 f in
-      omega (arith, mod-lt (m / 2 ^ i) {m = 2} (omega arith), ap length (taker-out is))))
+-- those that pass a test, in std's word and in ours
+kept-is : (f : ℕ → Bool) (xs : List ℕ) → filter f xs ≡ keep f xs
+unfolding keep
+kept-is f [] = refl
+kept-is f (x ∷ xs) =
+    by_bool (f x) (λ t. rw t (ap (λ rest. x ∷ rest) (kept-is f xs))) (λ e. rw e (kept-is f xs))
 
-  text_in : m / 2 ^ i % 2 ≡ 1 → taker_text (m / 2 ^ i) (suc i) ++ places_text (takers_left m (suc i)) ≡ places_text (takers_left m i)
-  unfolding bytes_of taker_text places_text
-  text_in is = rw (eq-eqb (m / 2 ^ i % 2) 1 is, taker-in is)
-
-  text_out : (m / 2 ^ i % 2 ≡ 1 → ⊥) → taker_text (m / 2 ^ i) (suc i) ++ places_text (takers_left m (suc i)) ≡ places_text (takers_left m i)
-  unfolding taker_text
-  text_out is = rw (ne_eqb (m / 2 ^ i % 2) 1 is, taker-out is)
-
-  pub takers-text : taker_text (m / 2 ^ i) (i + 1) ++ places_text (takers_left m (i + 1)) ≡ places_text (takers_left m i)
-  takers-text =
-      rw (add-one i)
-      (by_bool (eqb (m / 2 ^ i % 2) 1)
-      (λ t. text_in (eqb-true (m / 2 ^ i % 2) 1 t))
-      (λ f. text_out (eqb-false (m / 2 ^ i % 2) 1 f)))
+pub takers_filtered : (m : ℕ) → filter (in_set m) (range_with_len 1 10) ≡ takers_of m
+unfolding takers_of up_from
+takers_filtered m = kept-is (in_set m) (range_with_len 1 10)
 
 -- ---- The words
 
@@ -73,8 +66,8 @@ worded-one [] h = absurd (omega arith)
 worded-one (p ∷ []) h = refl
 worded-one (p ∷ q ∷ ps) h = absurd (omega arith)
 
-pub worded-more : (ps : List ℕ) → 2 ≤ length ps → takers_words ps ≡ bytes_of " strings" ++ places_text ps
+pub worded-more : (ps : List ℕ) → (length ps ≡ 0 → ⊥) → (length ps ≡ 1 → ⊥) → takers_words ps ≡ bytes_of " strings" ++ places_text ps
 unfolding takers_words
-worded-more [] h = absurd (omega arith)
-worded-more (p ∷ []) h = absurd (omega arith)
-worded-more (p ∷ q ∷ ps) h = refl
+worded-more [] h g = absurd (h refl)
+worded-more (p ∷ []) h g = absurd (g refl)
+worded-more (p ∷ q ∷ ps) h g = refl

@@ -1,5 +1,5 @@
 -- Spaces at the end of a row, one at a time from its end.
-use Rattle.base.proofs.Prelude.{ℕ, suc, ◌-◌, ◌≤◌, ◌<◌, ◌≡◌, refl, sym, ap, ◌∙◌, List, [], ◌∷◌, ◌++◌, arith, eq-eqb, ne_eqb, length, take, get_or, take-suc, take_all, dec_le, min}
+use Rattle.base.proofs.Prelude.{ℕ, suc, ◌-◌, ◌≤◌, ◌<◌, ◌≡◌, refl, sym, ap, ◌∙◌, List, [], ◌∷◌, ◌++◌, arith, eq-eqb, ne_eqb, length, take, get_or, take-suc, take_all}
 use Rattle.lines.specs.Bars.{ahead_of_kept, trimmed}
 
 -- a byte that is no space keeps all before it
@@ -15,33 +15,22 @@ unfolding trimmed ahead_of_kept
 space-goes [] c is = rw (eq-eqb c 0x20 is)
 space-goes (b ∷ cs) c is = ap (ahead_of_kept b) (space-goes cs c is)
 
-last_of : (cs : List ℕ) (k : ℕ) → 0 < k → k ≤ length cs → take k cs ≡ take (k - 1) cs ++ (get_or cs (k - 1) 0 ∷ [])
-last_of cs k some fits =
-    let last : suc (k - 1) ≡ k = omega arith in
-    ap (λ n. take n cs) (sym last) ∙ take-suc cs (k - 1) 0 (omega arith)
+last_of : (cs : List ℕ) → 1 ≤ length cs → cs ≡ take (length cs - 1) cs ++ (get_or cs (length cs - 1) 0 ∷ [])
+last_of cs some =
+    let last : suc (length cs - 1) ≡ length cs = omega arith in
+    sym (take_all (length cs) cs (omega arith)) ∙ ap (λ n. take n cs) (sym last) ∙ take-suc cs (length cs - 1) 0 (omega arith)
 
-module _ (cs : List ℕ) (k : ℕ) (some : 0 < k) (fits : k ≤ length cs) where
-  pub bars-end : (get_or cs (k - 1) 0 ≡ 0x20 → ⊥) → take k cs ≡ trimmed (take k cs)
-  bars-end other =
-      let whole = last_of cs k some fits in
-      whole ∙ sym (ends-kept (take (k - 1) cs) (get_or cs (k - 1) 0) other) ∙ ap trimmed (sym whole)
+-- a row that ends in a space is trimmed as the row without it, and any other row stays
+pub space_off : (cs : List ℕ) → 1 ≤ length cs → get_or cs (length cs - 1) 0 ≡ 0x20 → trimmed (take (length cs - 1) cs) ≡ trimmed cs
+space_off cs some is =
+    sym (ap trimmed (last_of cs some) ∙ space-goes (take (length cs - 1) cs) (get_or cs (length cs - 1) 0) is)
 
-  pub bars-shorter : get_or cs (k - 1) 0 ≡ 0x20 → trimmed (take (k - 1) cs) ≡ trimmed (take k cs)
-  bars-shorter is = sym (ap trimmed (last_of cs k some fits) ∙ space-goes (take (k - 1) cs) (get_or cs (k - 1) 0) is)
+pub stays : (cs : List ℕ) → 1 ≤ length cs → (get_or cs (length cs - 1) 0 ≡ 0x20 → ⊥) → cs ≡ trimmed cs
+stays cs some other =
+    let whole = last_of cs some in
+    whole ∙ sym (ends-kept (take (length cs - 1) cs) (get_or cs (length cs - 1) 0) other) ∙ ap trimmed (sym whole)
 
-pub bars-empty : (cs : List ℕ) → take 0 cs ≡ trimmed (take 0 cs)
+pub none_stays : (cs : List ℕ) → length cs < 1 → cs ≡ trimmed cs
 unfolding trimmed
-bars-empty [] = refl
-bars-empty (c ∷ cs) = refl
-
--- of so many cells no more can count
-pub cells-there : (cs : List ℕ) (k n : ℕ) → length cs ≡ n → take (min k n) cs ≡ take k cs
-cells-there cs k n many =
-    elim (dec_le k n) [
-      | yes few ↦
-          let least : min k n ≡ k = omega arith in
-          rw least
-      | no more ↦
-          let least : min k n ≡ n = omega arith in
-          rw least (take_all n cs (omega arith) ∙ sym (take_all k cs (omega arith)))
-    ]
+none_stays [] none = refl
+none_stays (c ∷ cs) none = absurd (omega arith)

@@ -4,12 +4,12 @@
 --     date_line text         for a date's text: its day number and weekday; or the refusal
 --     day_line k             for a day number: its date and weekday, as 2001-01-01 Mon; or the refusal
 use Rattle.std.specs.Prelude.{ℕ, List, [], ◌∷◌}
+use Rattle.faults.specs.declared.Refusal.{Refusal}
+use Rattle.std.specs.Prelude.{Ok, Err, Result}
 use Rattle.rules.specs.Lines.{bytes_of, decimal, worded, refused_line}
 use Rattle.calendar.specs.declared.Date.{Date}
 use Rattle.calendar.specs.declared.Weekday.{Weekday}
 use Rattle.calendar.specs.declared.Weekday.TheVariants.{Saturday, Sunday, Monday, Tuesday, Wednesday, Thursday, Friday}
-use Rattle.calendar.specs.declared.WhichDate.{WhichDate}
-use Rattle.calendar.specs.declared.WhichDate.TheVariants as which-date
 use Rattle.calendar.specs.Numbers.{day_number}
 use Rattle.calendar.specs.Weekdays.{weekday_of}
 use Rattle.calendar.specs.Refusals.{date_answer}
@@ -28,17 +28,17 @@ unfoldable pub numbered_line : Date → List ℕ
 numbered_line d = worded "# #\n" (decimal (day_number d) ∷ weekday_name (weekday_of (day_number d)) ∷ [])
 
 -- of a date that was read
-unfoldable pub date_line_for : WhichDate → List ℕ
-date_line_for (which-date.Is d) = numbered_line d
-date_line_for (which-date.Refused f at) = refused_line f at
+unfoldable pub date_line_for : Result Date Refusal → List ℕ
+date_line_for (Ok d) = numbered_line d
+date_line_for (Err e) = refused_line e.fault e.at
 
 unfoldable pub date_line : List ℕ → List ℕ
 date_line text = date_line_for (date_reading text)
 
 -- of day k and its date
-unfoldable pub day_line_for : ℕ → WhichDate → List ℕ
-day_line_for k (which-date.Is d) = worded "# #\n" (date_text d ∷ weekday_name (weekday_of k) ∷ [])
-day_line_for k (which-date.Refused f at) = refused_line f at
+unfoldable pub day_line_for : ℕ → Result Date Refusal → List ℕ
+day_line_for k (Ok d) = worded "# #\n" (date_text d ∷ weekday_name (weekday_of k) ∷ [])
+day_line_for k (Err e) = refused_line e.fault e.at
 
 unfoldable pub day_line : ℕ → List ℕ
 day_line k = day_line_for k (date_answer k)

@@ -1,3 +1,4 @@
+pub mod Filling
 pub mod Pages
 pub mod Dates
 pub mod Shown

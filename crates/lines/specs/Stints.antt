@@ -4,8 +4,9 @@
 --     stint_line s           the line of the stint s: the first form for one day, the second for more, with its first day and its last
 --     end_line o             how a run ends that was asked for: the desk's line of a run, or the line of the refusal
 use Rattle.std.specs.Prelude.{ℕ, ◌+◌, ◌-◌, cond, List, [], ◌∷◌, ltb}
-use Rattle.rules.specs.declared.AskedOutcome.{AskedOutcome}
-use Rattle.rules.specs.declared.AskedOutcome.TheVariants.{Refused, Given}
+use Rattle.rules.specs.declared.Outcome.{Outcome}
+use Rattle.faults.specs.declared.Refusal.{Refusal}
+use Rattle.std.specs.Prelude.{Ok, Err, Result}
 use Rattle.rules.specs.declared.Stint.{Stint}
 use Rattle.rules.specs.declared.Use.{Use}
 use Rattle.rules.specs.declared.Use.TheVariants.{Idle, Work, Move}
@@ -27,6 +28,6 @@ stint_line s =
     (one_day_line s.first.0 s.used)
     (days_line s.first.0 (s.first.0 + (s.length.0 - 1)) s.used)
 
-unfoldable pub end_line : AskedOutcome → List ℕ
-end_line (Refused f at) = refused_line f at
-end_line (Given o) = outcome_line o
+unfoldable pub end_line : Result Outcome Refusal → List ℕ
+end_line (Err e) = refused_line e.fault e.at
+end_line (Ok o) = outcome_line o

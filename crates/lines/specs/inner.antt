@@ -1,4 +1,2 @@
--- What loops remember and private contracts say, for the proofs inside: nobody has to believe it, and no contract of a public function
--- speaks of it.
-pub mod Templates
-pub mod Takers
+-- What private contracts say, for the proofs inside: nobody has to believe it, and no contract of a public function speaks of it.
+pub mod Uses

@@ -1,16 +1,15 @@
 // Why a plan file is refused, by name: what stands behind the line of a refusal.
-ghost use Rattle.std.specs.Prelude.{◌≡◌, ◌++◌, ◌+◌, ◌≤◌, length};
-ghost use Rattle.lines.specs.Pages.{page_of, text_of, Written};
+ghost use Rattle.std.specs.Prelude.{◌≡◌, ◌++◌, ◌+◌, ◌≤◌};
+ghost use Rattle.lines.specs.Pages.{page_of, text_of};
 ghost use Rattle.lines.specs.Reasons.{reason_words, reason_line};
 
 use super::Page;
 use super::pages::blank;
-use super::templates::fill_in;
-use faults::{Fault, fault_number};
+use faults::Fault;
 
 // Which rule of a refusal's number is broken, with the numbers that it speaks of: 1, 2, 3, 4, 5, 6, 7, 8 in this order. A character is
 // counted from 1 within its line.
-#[derive(Clone, Copy)]
+#[derive(Clone, Copy, PartialEq, Eq)]
 pub enum Reason {
     TooLong,
     Empty,
@@ -48,136 +47,124 @@ pub enum Reason {
     TooClose { due: u64, t: u64, last: u64 },
 }
 
-// The reason behind the text of a page.
-fn append_reason(page: Page, reason: Reason) -> Page
-    requires written { Written page }
-    requires len_bound { page.len ≤ 64 }
-    ensures exact { result ≡ page_of (text_of page ++ reason_words reason) }
-    ensures within { result.len ≤ length result.bytes }
-{
-    match reason {
-        Reason::TooLong => fill_in(page, b"more than 65536 bytes\n", &[]),
-        Reason::Empty => fill_in(page, b"the line is empty\n", &[]),
-        Reason::CarriageReturn { character } => fill_in(
-            page,
-            b"character # is a carriage return\n",
-            &[character],
-        ),
-        Reason::Space { character } => fill_in(page, b"character # is a space\n", &[character]),
-        Reason::Capital { character } => fill_in(
-            page,
-            b"character # is a capital letter\n",
-            &[character],
-        ),
-        Reason::NoDigit { character } => fill_in(
-            page,
-            b"character # is not one of 0 to 9, a to f\n",
-            &[character],
-        ),
-        Reason::OddNumber { characters } => fill_in(
-            page,
-            b"# characters, an odd number\n",
-            &[characters],
-        ),
-        Reason::Unended => fill_in(page, b"the line has no line end\n", &[]),
-        Reason::NoHeader => fill_in(page, b"the file is empty\n", &[]),
-        Reason::StringMissing { place, n } => fill_in(
-            page,
-            b"string # of # is missing\n",
-            &[place, n],
-        ),
-        Reason::OtherKind { kind, due } => fill_in(page, b"kind # in place of #\n", &[kind, due]),
-        Reason::OtherVersion { version } => fill_in(
-            page,
-            b"version # is none of 1, 2, 3\n",
-            &[version],
-        ),
-        Reason::OtherLength { bytes, due } => fill_in(
-            page,
-            b"length # in place of #\n",
-            &[bytes, due],
-        ),
-        Reason::StringsOut { n } => fill_in(page, b"n # is not 1 to 10\n", &[n]),
-        Reason::CommonCostOut { a } => fill_in(page, b"A # above 1000\n", &[a]),
-        Reason::RunOut { run } => fill_in(page, b"N # is not 1 to 1000000\n", &[run]),
-        Reason::PeriodOut { place, t } => fill_in(
-            page,
-            b"string #, T # is not 1 to 1000\n",
-            &[place, t],
-        ),
-        Reason::DueOut { place, d, t } => fill_in(
-            page,
-            b"string #, D # is not 1 to T #\n",
-            &[place, d, t],
-        ),
-        Reason::LateOut { place, j, d } => fill_in(
-            page,
-            b"string #, J # not below D #\n",
-            &[place, j, d],
-        ),
-        Reason::NoWork { place } => fill_in(page, b"string #, C 0 below 1\n", &[place]),
-        Reason::WorkOut { place, c, d } => fill_in(
-            page,
-            b"string #, C # above D #\n",
-            &[place, c, d],
-        ),
-        Reason::LateWorkOut { place, c, d, j } => fill_in(
-            page,
-            b"string #, C # above D # less J #\n",
-            &[place, c, d, j],
-        ),
-        Reason::PermissionOut { place, x } => fill_in(
-            page,
-            b"string #, X # is not 0 or 1\n",
-            &[place, x],
-        ),
-        Reason::CostOut { place, a } => fill_in(page, b"string #, A # above 1000\n", &[place, a]),
-        Reason::Fits { place, t, smaller } => fill_in(
-            page,
-            b"string #, T # brings H over 100000; T # fits\n",
-            &[place, t, smaller],
-        ),
-        Reason::NoneFits { place, t, d } => fill_in(
-            page,
-            b"string #, T # brings H over 100000; no T from D # on fits\n",
-            &[place, t, d],
-        ),
-        Reason::OverThousand => fill_in(page, b"a release after the 1000th\n", &[]),
-        Reason::PlaceOut { place, n } => fill_in(page, b"place # is not 1 to #\n", &[place, n]),
-        Reason::NeedOut { place, need, c } => fill_in(
-            page,
-            b"string #, need # is not 1 to C #\n",
-            &[place, need, c],
-        ),
-        Reason::AfterRun { day, run } => fill_in(page, b"day # is not below N #\n", &[day, run]),
-        Reason::OutOfOrder { day, ahead } => fill_in(
-            page,
-            b"day # is before day # of the release ahead\n",
-            &[day, ahead],
-        ),
-        Reason::BeforeDue { day, due } => fill_in(
-            page,
-            b"day # is before its due day #\n",
-            &[day, due],
-        ),
-        Reason::TooLate { day, j, due } => fill_in(
-            page,
-            b"day # is over J # days after its due day #\n",
-            &[day, j, due],
-        ),
-        Reason::TooClose { due, t, last } => fill_in(
-            page,
-            b"due day # is less than T # days after # of the same string\n",
-            &[due, t, last],
-        ),
+impl Page {
+    // The reason behind the text of the page.
+    #[tactic(auto, unfolding(rules::specs::Lines::bytes_of, rules::specs::Lines::worded_in, crate::specs::Reasons::reason_words))]
+    fn append_reason(self, reason: Reason) -> Page
+        requires { self.len ≤ 64 }
+        ensures exact { text_of result ≡ text_of self ++ reason_words reason }
+    {
+        match reason {
+            Reason::TooLong => self.append(b"more than 65536 bytes\n"),
+            Reason::Empty => self.append(b"the line is empty\n"),
+            Reason::CarriageReturn { character } => self.fill_in(
+                b"character # is a carriage return\n",
+                &[character],
+            ),
+            Reason::Space { character } => self.fill_in(b"character # is a space\n", &[character]),
+            Reason::Capital { character } => self.fill_in(
+                b"character # is a capital letter\n",
+                &[character],
+            ),
+            Reason::NoDigit { character } => self.fill_in(
+                b"character # is not one of 0 to 9, a to f\n",
+                &[character],
+            ),
+            Reason::OddNumber { characters } => self.fill_in(
+                b"# characters, an odd number\n",
+                &[characters],
+            ),
+            Reason::Unended => self.append(b"the line has no line end\n"),
+            Reason::NoHeader => self.append(b"the file is empty\n"),
+            Reason::StringMissing { place, n } => self.fill_in(
+                b"string # of # is missing\n",
+                &[place, n],
+            ),
+            Reason::OtherKind { kind, due } => self.fill_in(
+                b"kind # in place of #\n",
+                &[kind, due],
+            ),
+            Reason::OtherVersion { version } => self.fill_in(
+                b"version # is none of 1, 2, 3\n",
+                &[version],
+            ),
+            Reason::OtherLength { bytes, due } => self.fill_in(
+                b"length # in place of #\n",
+                &[bytes, due],
+            ),
+            Reason::StringsOut { n } => self.fill_in(b"n # is not 1 to 10\n", &[n]),
+            Reason::CommonCostOut { a } => self.fill_in(b"A # above 1000\n", &[a]),
+            Reason::RunOut { run } => self.fill_in(b"N # is not 1 to 1000000\n", &[run]),
+            Reason::PeriodOut { place, t } => self.fill_in(
+                b"string #, T # is not 1 to 1000\n",
+                &[place, t],
+            ),
+            Reason::DueOut { place, d, t } => self.fill_in(
+                b"string #, D # is not 1 to T #\n",
+                &[place, d, t],
+            ),
+            Reason::LateOut { place, j, d } => self.fill_in(
+                b"string #, J # not below D #\n",
+                &[place, j, d],
+            ),
+            Reason::NoWork { place } => self.fill_in(b"string #, C 0 below 1\n", &[place]),
+            Reason::WorkOut { place, c, d } => self.fill_in(
+                b"string #, C # above D #\n",
+                &[place, c, d],
+            ),
+            Reason::LateWorkOut { place, c, d, j } => self.fill_in(
+                b"string #, C # above D # less J #\n",
+                &[place, c, d, j],
+            ),
+            Reason::PermissionOut { place, x } => self.fill_in(
+                b"string #, X # is not 0 or 1\n",
+                &[place, x],
+            ),
+            Reason::CostOut { place, a } => self.fill_in(
+                b"string #, A # above 1000\n",
+                &[place, a],
+            ),
+            Reason::Fits { place, t, smaller } => self.fill_in(
+                b"string #, T # brings H over 100000; T # fits\n",
+                &[place, t, smaller],
+            ),
+            Reason::NoneFits { place, t, d } => self.fill_in(
+                b"string #, T # brings H over 100000; no T from D # on fits\n",
+                &[place, t, d],
+            ),
+            Reason::OverThousand => self.append(b"a release after the 1000th\n"),
+            Reason::PlaceOut { place, n } => self.fill_in(b"place # is not 1 to #\n", &[place, n]),
+            Reason::NeedOut { place, need, c } => self.fill_in(
+                b"string #, need # is not 1 to C #\n",
+                &[place, need, c],
+            ),
+            Reason::AfterRun { day, run } => self.fill_in(b"day # is not below N #\n", &[day, run]),
+            Reason::OutOfOrder { day, ahead } => self.fill_in(
+                b"day # is before day # of the release ahead\n",
+                &[day, ahead],
+            ),
+            Reason::BeforeDue { day, due } => self.fill_in(
+                b"day # is before its due day #\n",
+                &[day, due],
+            ),
+            Reason::TooLate { day, j, due } => self.fill_in(
+                b"day # is over J # days after its due day #\n",
+                &[day, j, due],
+            ),
+            Reason::TooClose { due, t, last } => self.fill_in(
+                b"due day # is less than T # days after # of the same string\n",
+                &[due, t, last],
+            ),
+        }
     }
 }
 
 // The line of a refusal, and its reason.
+#[tactic(auto, using(crate::proofs::Growing::page_is), unfolding(rules::specs::Lines::bytes_of, crate::specs::Reasons::reason_line))]
 pub fn reason_line(fault: Fault, at: usize, reason: Reason) -> Page
     ensures exact { result ≡ page_of (reason_line fault at reason) }
-    ensures within { result.len ≤ length result.bytes }
 {
-    let numbers = [fault_number(fault) as u64, at as u64];
-    append_reason(fill_in(blank(), b"refused # line #: ", &numbers), reason)
+    blank()
+        .fill_in(b"refused # line #: ", &[u32::from(fault) as u64, at as u64])
+        .append_reason(reason)
 }

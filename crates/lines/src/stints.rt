@@ -1,57 +1,43 @@
 // The line of a stint of a run, on a page of its own, whatever its numbers are.
-ghost use Rattle.std.specs.Prelude.{◌≡◌, ◌≤◌, length};
-ghost use Rattle.lines.specs.Pages.{page_of};
-ghost use Rattle.lines.specs.Stints.{one_day_line, days_line, stint_line};
+ghost use Rattle.std.specs.Prelude.{◌≡◌, ◌++◌, ◌+◌, ◌≤◌, length};
+ghost use Rattle.lines.specs.Pages.{page_of, text_of};
+ghost use Rattle.lines.specs.Stints.{stint_line};
+ghost use Rattle.lines.specs.inner.Uses.{used_words};
 
 use super::Page;
-use super::templates::lone_line;
+use super::pages::blank;
 use rules::{Stint, Use};
 
-// What the bank did on one day.
-fn one_day_line(day: u64, used: Use) -> Page
-    ensures exact { result ≡ page_of (one_day_line day used) }
-    ensures within { result.len ≤ length result.bytes }
-{
-    match used {
-        Use::Idle => lone_line(b"day # idle\n", &[day]),
-        Use::Work { place, serves } => lone_line(
-            b"day # place # work release #\n",
-            &[day, place as u64, serves as u64],
-        ),
-        Use::Move { place, serves } => lone_line(
-            b"day # place # move release #\n",
-            &[day, place as u64, serves as u64],
-        ),
-    }
-}
-
-// What it did from one day to another.
-fn days_line(day: u64, last: u64, used: Use) -> Page
-    ensures exact { result ≡ page_of (days_line day last used) }
-    ensures within { result.len ≤ length result.bytes }
-{
-    match used {
-        Use::Idle => lone_line(b"days # to # idle\n", &[day, last]),
-        Use::Work { place, serves } => lone_line(
-            b"days # to # place # work release #\n",
-            &[day, last, place as u64, serves as u64],
-        ),
-        Use::Move { place, serves } => lone_line(
-            b"days # to # place # move release #\n",
-            &[day, last, place as u64, serves as u64],
-        ),
+impl Page {
+    // What the bank did.
+    #[tactic(auto, unfolding(rules::specs::Lines::bytes_of, rules::specs::Lines::worded_in, crate::specs::inner::Uses::used_words))]
+    fn append_use(self, used: Use) -> Page
+        requires { self.len + 64 ≤ 256 }
+        ensures exact { text_of result ≡ text_of self ++ used_words used }
+    {
+        match used {
+            Use::Idle => self.append(b" idle\n"),
+            Use::Work { place, serves } => self.fill_in(
+                b" place # work release #\n",
+                &[place as u64, serves as u64],
+            ),
+            Use::Move { place, serves } => self.fill_in(
+                b" place # move release #\n",
+                &[place as u64, serves as u64],
+            ),
+        }
     }
 }
 
 // A stint: its days, and what the bank did on them.
 pub fn stint_line(s: Stint) -> Page
     ensures exact { result ≡ page_of (stint_line s) }
-    ensures within { result.len ≤ length result.bytes }
 {
-    let used = s.used;
     let first = s.first.0 as u64;
-    if s.length.0 < 2 {
-        return one_day_line(first, used);
-    }
-    days_line(first, first + (s.length.0 - 1) as u64, used)
+    let days = if s.length.0 < 2 {
+        blank().fill_in(b"day #", &[first])
+    } else {
+        blank().fill_in(b"days # to #", &[first, first + (s.length.0 - 1) as u64])
+    };
+    days.append_use(s.used)
 }

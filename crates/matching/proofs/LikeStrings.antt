@@ -1,42 +1,89 @@
--- Laws for loops over the strings of a plan that look for those like one: of the array of ten the first n count.
-use Rattle.base.proofs.Prelude.{ℕ, zero, suc, ◌+◌, ◌-◌, ◌≤◌, ◌<◌, ◌≡◌, sym, true, false, List, arith, add-one, length, take, drop, get_or}
-use Rattle.base.specs.Count.{count_of}
-use Rattle.base.proofs.FirstN.{part-cons, part_end}
+-- Strings like one: counted, and where they stand, in the library's words and in those of the rules.
+--     likes_in s ys          where those of ys stand that are like s, counted from 0
+--     place_at i            the place of what stands at the index i, where there is one; 0 where there is none
+use Rattle.base.proofs.Prelude.{ℕ, zero, suc, ◌+◌, ◌-◌, ◌<◌, ◌≡◌, refl, sym, Bool, List, ◌∷◌, arith, add-one, length, get_or}
+use Rattle.std.specs.Prelude.{Option, Some, None, IfSome}
+use Rattle.std.specs.List.{count_by, filter, range_with_len, slice_get}
+use Rattle.std.proofs.lemmas.List.Recursion.{is_count_by}
+use Rattle.base.specs.Count.{count_of, keep, up_from}
+use Rattle.base.proofs.Lists.{by_bool}
 use Rattle.rules.specs.{declared.BatteryString.BatteryString, Plan.no_string}
-use Rattle.results.specs.Partners.{alike}
-use Rattle.results.proofs.Ranks.{places_like_from, rank_step, rank-stay, places_from-here, places_from-next, places_from-skip, places_from-end}
+use Rattle.results.specs.Partners.{alike, places_like}
 
-module _ (s : BatteryString) (xs : List BatteryString) (i : ℕ) where
-  -- ---- Counted
+pub likes-counted : (s : BatteryString) (ys : List BatteryString) → count_by (alike s) ys ≡ count_of (alike s) ys
+unfolding count_of
+likes-counted s ys =
+    sym (is_count_by (count_of (alike s)) (alike s) refl (λ x xs. by_bool (alike s x) (λ t. rw t) (λ e. rw e (omega arith))) ys)
 
-  pub likes-more : i < length xs → alike s (get_or xs i no_string) ≡ true
-      → count_of (alike s) (take (i + 1) xs) ≡ count_of (alike s) (take i xs) + 1
-  likes-more inside t = rw (add-one i, add-one (count_of (alike s) (take i xs))) (rank_step (alike s) xs no_string i inside t)
+abbrev pub place_at : Option ℕ → ℕ
+place_at None = 0
+place_at (Some i) = i + 1
 
-  pub likes-same : i < length xs → alike s (get_or xs i no_string) ≡ false
-      → count_of (alike s) (take (i + 1) xs) ≡ count_of (alike s) (take i xs)
-  likes-same inside e = rw (add-one i) (rank-stay (alike s) xs no_string i inside e)
+-- of n indices from k on, those that pass h; their places are those that pass g
+kept-from : (h g : ℕ → Bool) → ((i : ℕ) → g (i + 1) ≡ h i) → (n k ahead : ℕ)
+    → get_or (keep g (up_from (k + 1) n)) ahead 0 ≡ place_at (slice_get (filter h (range_with_len k n)) ahead)
+unfolding keep up_from
+kept-from h g same zero k ahead = refl
+kept-from h g same (suc n) k ahead =
+    let rest : (ahead : ℕ) → get_or (keep g (up_from (suc (k + 1)) n)) ahead 0
+    ≡ place_at (slice_get (filter h (range_with_len (k + 1) n)) ahead) =
+    λ ahead. rw (← add-one (k + 1)) (kept-from h g same n (k + 1) ahead) in
+    by_bool (h k)
+    (λ t. rw (same k, t) (at ahead rest))
+    (λ e. rw (same k, e) (rest ahead))
+  where
+    at : (ahead : ℕ)
+        → ((ahead : ℕ) → get_or (keep g (up_from (suc (k + 1)) n)) ahead 0
+        ≡ place_at (slice_get (filter h (range_with_len (k + 1) n)) ahead))
+        → get_or ((k + 1) ∷ keep g (up_from (suc (k + 1)) n)) ahead 0
+        ≡ place_at (slice_get (k ∷ filter h (range_with_len (k + 1) n)) ahead)
+    at zero rest = refl
+    at (suc ahead) rest = rest ahead
 
--- ---- By place, among those that are left
+module _ (s : BatteryString) (ys : List BatteryString) where
+  abbrev pub likes_in : List ℕ
+  likes_in = filter (λ i. alike s (get_or ys i no_string)) (range_with_len 0 (length ys))
 
-module _ (s : BatteryString) (xs : List BatteryString) (n : ℕ) where
-  abbrev pub likes_left : ℕ → ℕ → ℕ
-  likes_left i left = get_or (places_like_from (alike s) (i + 1) (drop i (take n xs))) left 0
+  pub place-like-at : (ahead : ℕ) → get_or (places_like s ys) ahead 0 ≡ place_at (slice_get likes_in ahead)
+  unfolding places_like
+  place-like-at ahead =
+      kept-from (λ i. alike s (get_or ys i no_string)) (λ j. alike s (get_or ys (j - 1) no_string)) shifted (length ys) 0 ahead
+    where
+      shifted : (i : ℕ) → alike s (get_or ys (i + 1 - 1) no_string) ≡ alike s (get_or ys i no_string)
+      shifted i =
+          let back : i + 1 - 1 ≡ i = omega arith in
+          rw back
 
-  pub left_here : (i : ℕ) → i < n → n ≤ length xs → alike s (get_or xs i no_string) ≡ true → likes_left i 0 ≡ i + 1
-  left_here i inside fits t = rw (part-cons n i xs no_string inside fits) (places_from-here (alike s) (i + 1) _ _ t)
+-- an index that is found is one of them
+found-below : (h : ℕ → Bool) (n k ahead i : ℕ) → slice_get (filter h (range_with_len k n)) ahead ≡ Some i → i < k + n
+found-below h zero k ahead i e = absurd (omega (arith, none e))
+  where
+    none : ◌≡◌ {A = Option ℕ} None (Some i) → ⊥
+    none e =
+        let z : ◌≡◌ {A = ℕ} 0 1 = cc in
+        omega arith
+found-below h (suc n) k ahead i e =
+    by_bool (h k)
+    (λ t. at ahead (λ m. found-below h n (k + 1) m i) (rw t at e))
+    (λ f.
+    let later = found-below h n (k + 1) ahead i (rw f at e) in
+    omega arith)
+  where
+    at : (ahead : ℕ) → ((ahead : ℕ) → slice_get (filter h (range_with_len (k + 1) n)) ahead ≡ Some i → i < k + 1 + n)
+        → slice_get (k ∷ filter h (range_with_len (k + 1) n)) ahead ≡ Some i → i < k + suc n
+    at zero later e =
+        let same : k ≡ i = cc in
+        omega arith
+    at (suc ahead) later e =
+        let below = later ahead e in
+        omega arith
 
-  pub likes-left-next : (i left : ℕ) → 0 < left → i < n → n ≤ length xs → alike s (get_or xs i no_string) ≡ true
-      → likes_left (i + 1) (left - 1) ≡ likes_left i left
-  likes-left-next i zero some inside fits t = absurd (omega arith)
-  likes-left-next i (suc left) some inside fits t =
-      let less : suc left - 1 ≡ left = omega arith in
-      rw (part-cons n i xs no_string inside fits, less, add-one (i + 1)) (sym (places_from-next (alike s) (i + 1) left _ _ t))
-
-  pub left-past : (i left : ℕ) → i < n → n ≤ length xs → alike s (get_or xs i no_string) ≡ false → likes_left (i + 1) left
-      ≡ likes_left i left
-  left-past i left inside fits e =
-      rw (part-cons n i xs no_string inside fits, add-one (i + 1)) (sym (places_from-skip (alike s) (i + 1) left _ _ e))
-
-  pub left-none : (i left : ℕ) → n ≤ i → likes_left i left ≡ 0
-  left-none i left past = rw (part_end n i xs past) (places_from-end (alike s) (i + 1) left)
+pub like-inside : (s : BatteryString) (ys : List BatteryString) (ahead : ℕ)
+    → IfSome (slice_get (likes_in s ys) ahead) (λ i. i < length ys)
+like-inside s ys ahead = of (slice_get (likes_in s ys) ahead) refl
+  where
+    of : (o : Option ℕ) → slice_get (likes_in s ys) ahead ≡ o → IfSome o (λ i. i < length ys)
+    of None e = tt
+    of (Some i) e =
+        let below = found-below (λ i. alike s (get_or ys i no_string)) (length ys) 0 ahead i e in
+        omega arith

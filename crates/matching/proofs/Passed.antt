@@ -1,39 +1,19 @@
 -- Partners string after string: the array holds the partners' places of the strings passed and zeros behind them, and the first string
 -- without a partner is among those that are left.
 --     places_to xs ys i      the array where the first i strings are passed
---     alone_from xs ys n i   the first without a partner among the n strings, those after the first i
-use Rattle.base.proofs.Prelude.{ℕ, zero, suc, ◌+◌, ◌-◌, ◌≤◌, ◌<◌, min, ◌≡◌, refl, sym, ap, ◌∙◌, List, [], ◌∷◌, ◌++◌, map, map-append, Option, none, some, arith, add-one, eq-eqb, ne_eqb, eqb, length, take, get_or, set, length-take, get_or-take}
-use mathlib.Core.Path.{ap₂}
-use lib.Seq.{take-take}
-use Rattle.base.specs.Count.{count_of, up_from, first_of, filled}
+--     alone_from xs ys i     the first without a partner among those after the first i
+--     Passed xs ys places i  the array is that one, and none of the first i is alone
+use Rattle.base.proofs.Prelude.{ℕ, zero, suc, ◌+◌, ◌-◌, ◌≤◌, ◌<◌, ◌≡◌, refl, sym, ap, ◌∙◌, List, [], ◌∷◌, ◌++◌, map, map-append, Option, none, some, arith, add-one, eq-eqb, ne_eqb, eqb, length, take, get_or, set, replicate}
+use Rattle.std.specs.Prelude.{Some, None}
+use Rattle.std.specs.Prelude as std
+use Rattle.std.specs.List.{count_by, slice_get}
+use Rattle.base.specs.Count.{up_from, first_of, filled}
 use Rattle.base.proofs.{Filling.filled-set, FirstOf.{first_of-end, first_of-here, first_of-later}}
-use Rattle.rules.specs.{declared.BatteryString.BatteryString, declared.Plan.Plan, Plan.{strings_of, no_string}}
-use Rattle.bounds.proofs.ByPlace.{take_min}
-use Rattle.results.specs.Partners.{alike, places_like, likes_ahead, partner, partners, first_alone}
+use Rattle.rules.specs.{declared.BatteryString.BatteryString, Plan.no_string}
+use Rattle.results.specs.Partners.{alike, likes_ahead, partner, partners, first_alone}
 use Rattle.results.proofs.SmallestList.{mapped-length}
 use Rattle.matching.specs.{declared.Matching.TheVariants.{Same, Alone, Counts}, Matched.{no_places, told_by, matched_of}}
-
--- ---- The strings that count
-
-module _ (p : Plan) (n : ℕ) (counted : n ≡ min p.n 10) (ten : length p.strings ≡ 10) where
-  counted-strings : take n p.strings ≡ strings_of p
-  counted-strings = ap (λ k. take k p.strings) counted ∙ take_min p.n 10 p.strings ten
-
-  counted-length : length (strings_of p) ≡ n
-  counted-length = omega (arith, counted, ten, length-take p.n p.strings)
-
--- ---- The partner of the string at i, of arrays of which the first n count
-
-pub partner-in-row : (xs ys : List BatteryString) (n i : ℕ) → i < n
-    → partner (take n xs) (take n ys) (i + 1)
-    ≡ get_or (places_like (get_or xs i no_string) (take n ys)) (count_of (alike (get_or xs i no_string)) (take i xs)) 0
-unfolding partner likes_ahead
-partner-in-row xs ys n i inside =
-    let at : i + 1 - 1 ≡ i = omega arith in
-    let ahead : i ≤ n = omega arith in
-    rw (at, get_or-take n xs i no_string inside, take-take i n xs ahead)
-
--- ---- The array
+use Rattle.matching.proofs.LikeStrings.{likes-counted, likes_in, place_at, place-like-at}
 
 up_from-more : (k n : ℕ) → up_from k (suc n) ≡ up_from k n ++ ((k + n) ∷ [])
 unfolding up_from
@@ -45,10 +25,27 @@ up_from-more k (suc n) =
     ap (λ js. k ∷ js) (up_from-more (suc k) n ∙ ap (λ j. up_from (suc k) n ++ (j ∷ [])) at)
 
 module _ (xs ys : List BatteryString) where
+  -- ---- The partner of the string at i, counted from 0
+
+  -- where it is found in ys: the one like it that as many others stand ahead of
+  abbrev pub found_for : ℕ → std.Option ℕ
+  found_for i =
+      let s = get_or xs i no_string in
+      slice_get (likes_in s ys) (count_by (alike s) (take i xs))
+
+  pub matching-partner-found : (i : ℕ) → partner xs ys (i + 1) ≡ place_at (found_for i)
+  unfolding partner likes_ahead
+  matching-partner-found i =
+      let at : i + 1 - 1 ≡ i = omega arith in
+      let s = get_or xs i no_string in
+      rw (at, ← likes-counted s (take i xs)) (place-like-at s ys (count_by (alike s) (take i xs)))
+
+  -- ---- The array
+
   abbrev pub places_to : ℕ → List ℕ
   places_to i = filled 10 0 (map (partner xs ys) (up_from 1 i))
 
-  pub places-more : (i : ℕ) → i < 10 → set (places_to i) i (partner xs ys (i + 1)) ≡ places_to (i + 1)
+  places-more : (i : ℕ) → i < 10 → set (places_to i) i (partner xs ys (i + 1)) ≡ places_to (i + 1)
   places-more i room =
       let many : length (map (partner xs ys) (up_from 1 i)) ≡ i = mapped-length (partner xs ys) 1 i in
       let place : 1 + i ≡ i + 1 = omega arith in
@@ -58,76 +55,73 @@ module _ (xs ys : List BatteryString) where
 
   -- ---- The first without a partner
 
-  module _ (n : ℕ) where
-    abbrev pub alone_from : ℕ → Option ℕ
-    alone_from i = first_of (λ j. eqb (partner xs ys j) 0) (up_from (i + 1) (n - i))
+  abbrev alone_from : ℕ → Option ℕ
+  alone_from i = first_of (λ j. eqb (partner xs ys j) 0) (up_from (i + 1) (length xs - i))
 
-    left-suc : (i : ℕ) → i < n → up_from (i + 1) (n - i) ≡ (i + 1) ∷ up_from (i + 1 + 1) (n - (i + 1))
-    unfolding up_from
-    left-suc i inside =
-        let more : n - i ≡ suc (n - (i + 1)) = omega arith in
-        rw (more, add-one (i + 1))
+  left-suc : (i : ℕ) → i < length xs → up_from (i + 1) (length xs - i) ≡ (i + 1) ∷ up_from (i + 1 + 1) (length xs - (i + 1))
+  unfolding up_from
+  left-suc i inside =
+      let more : length xs - i ≡ suc (length xs - (i + 1)) = omega arith in
+      rw (more, add-one (i + 1))
 
-    pub alone-here : (i : ℕ) → i < n → partner xs ys (i + 1) ≡ 0 → alone_from i ≡ some (i + 1)
-    alone-here i inside gone =
-        rw (left-suc i inside) (first_of-here (λ j. eqb (partner xs ys j) 0) (i + 1) _ (eq-eqb (partner xs ys (i + 1)) 0 gone))
+  alone-here : (i : ℕ) → i < length xs → partner xs ys (i + 1) ≡ 0 → alone_from i ≡ some (i + 1)
+  alone-here i inside gone =
+      rw (left-suc i inside) (first_of-here (λ j. eqb (partner xs ys j) 0) (i + 1) _ (eq-eqb (partner xs ys (i + 1)) 0 gone))
 
-    pub alone-later : (i : ℕ) → i < n → (partner xs ys (i + 1) ≡ 0 → ⊥) → alone_from (i + 1) ≡ alone_from i
-    alone-later i inside there =
-        rw (left-suc i inside) (sym (first_of-later (λ j. eqb (partner xs ys j) 0) (i + 1) _ (ne_eqb (partner xs ys (i + 1)) 0 there)))
+  alone-later : (i : ℕ) → i < length xs → (partner xs ys (i + 1) ≡ 0 → ⊥) → alone_from (i + 1) ≡ alone_from i
+  alone-later i inside there =
+      rw (left-suc i inside) (sym (first_of-later (λ j. eqb (partner xs ys j) 0) (i + 1) _ (ne_eqb (partner xs ys (i + 1)) 0 there)))
 
-    pub alone-end : (i : ℕ) → n ≤ i → alone_from i ≡ none
-    unfolding up_from
-    alone-end i past =
-        let over : n - i ≡ 0 = omega arith in
-        rw over (first_of-end (λ j. eqb (partner xs ys j) 0))
+  alone-end : (i : ℕ) → length xs ≤ i → alone_from i ≡ none
+  unfolding up_from
+  alone-end i past =
+      let over : length xs - i ≡ 0 = omega arith in
+      rw over (first_of-end (λ j. eqb (partner xs ys j) 0))
 
-    pub alone-all : length xs ≡ n → alone_from 0 ≡ first_alone xs ys
-    unfolding first_alone
-    alone-all many =
-        let whole : n - 0 ≡ length xs = omega arith in
-        rw whole refl
+  -- ---- The answers
 
--- ---- The answers, of arrays of ten of which the first n and the first m count
-
-module _ (p q : Plan) (n m : ℕ) (few : n ≡ min p.n 10) (other-few : m ≡ min q.n 10)
-    (ten : length p.strings ≡ 10) (other-ten : length q.strings ≡ 10) where
-  first : length (strings_of p) ≡ n
-  first = counted-length p n few ten
-
-  second : length (strings_of q) ≡ m
-  second = counted-length q m other-few other-ten
-
-  pub told-counts : (n ≡ m → ⊥) → no_places (Counts n m) ≡ matched_of (strings_of p) (strings_of q)
+  pub told-counts : (length xs ≡ length ys → ⊥) → no_places (Counts (length xs) (length ys)) ≡ matched_of xs ys
   unfolding matched_of
-  told-counts differ = rw (first, second, ne_eqb n m differ)
+  told-counts differ = rw (ne_eqb (length xs) (length ys) differ)
 
-  module _ (same : n ≡ m) where
-    firsts : take n p.strings ≡ strings_of p
-    firsts = counted-strings p n few ten
+  told-by : (o : Option ℕ) → length xs ≡ length ys → first_alone xs ys ≡ o → told_by o xs ys ≡ matched_of xs ys
+  unfolding matched_of
+  told-by o same e = rw (eq-eqb (length xs) (length ys) same) (ap (λ o. told_by o xs ys) (sym e))
 
-    seconds : take n q.strings ≡ strings_of q
-    seconds = counted-strings q n (same ∙ other-few) other-ten
+  pub record Passed (places : List ℕ) (i : ℕ) : Type 0 where
+    pub same : length xs ≡ length ys
+    pub few : length xs ≤ 10
+    pub within : i ≤ length xs
+    pub found : places ≡ places_to i
+    pub left : alone_from i ≡ first_alone xs ys
 
-    told-by : (o : Option ℕ) → first_alone (take n p.strings) (take n q.strings) ≡ o
-        → told_by o (strings_of p) (strings_of q) ≡ matched_of (strings_of p) (strings_of q)
-    unfolding matched_of
-    told-by o e =
-        rw (first, second, eq-eqb n m same)
-        (ap (λ o. told_by o (strings_of p) (strings_of q)) (sym e ∙ ap₂ first_alone firsts seconds))
+module _ {xs ys : List BatteryString} where
+  pub passed-none : length xs ≡ length ys → length xs ≤ 10 → Passed xs ys (replicate 10 0) 0
+  unfolding first_alone up_from
+  passed-none same few =
+      let whole : length xs - 0 ≡ length xs = omega arith in
+      record { same = same; few = few; within = omega arith; found = refl; left = rw whole refl }
 
-    -- one is alone among the strings that count
-    pub told-alone : (i : ℕ) → first_alone (take n p.strings) (take n q.strings) ≡ some i
-        → no_places (Alone i) ≡ matched_of (strings_of p) (strings_of q)
-    told-alone i alone = told-by (some i) alone
+  module _ {places : List ℕ} {i : ℕ} (w : Passed xs ys places i) where
+    pub passed-next : (k : ℕ) → i < length xs → found_for xs ys i ≡ Some k → Passed xs ys (set places i (k + 1)) (i + 1)
+    passed-next k inside e =
+        let place : partner xs ys (i + 1) ≡ k + 1 = matching-partner-found xs ys i ∙ ap place_at e in
+        record {
+          same = w.same;
+          few = w.few;
+          within = omega arith;
+          found = ap (λ ps. set ps i (k + 1)) w.found ∙ ap (set (places_to xs ys i) i) (sym place)
+              ∙ places-more xs ys i (omega (arith, w.few));
+          left = alone-later xs ys i inside (λ gone. omega arith) ∙ w.left;
+        }
 
-    -- all are passed
-    pub told_same : (places : List ℕ) → first_alone (take n p.strings) (take n q.strings) ≡ none
-        → places ≡ places_to (take n p.strings) (take n q.strings) n
-        → record { matching = Same n; places = places } ≡ matched_of (strings_of p) (strings_of q)
+    pub passed-alone : i < length xs → found_for xs ys i ≡ None → no_places (Alone (i + 1)) ≡ matched_of xs ys
+    passed-alone inside e =
+        told-by xs ys (some (i + 1)) w.same (sym w.left ∙ alone-here xs ys i inside (matching-partner-found xs ys i ∙ ap place_at e))
+
+    pub passed-all : length xs ≤ i → record { matching = Same (length xs); places = places } ≡ matched_of xs ys
     unfolding partners
-    told_same places gone found =
-        let all : places ≡ places_to (strings_of p) (strings_of q) n = found ∙ ap₂ (λ xs ys. places_to xs ys n) firsts seconds in
-        ap₂ (λ k places. record { matching = Same k; places = places }) (sym first)
-        (all ∙ ap (places_to (strings_of p) (strings_of q)) (sym first))
-        ∙ told-by none gone
+    passed-all past =
+        let all : i ≡ length xs = omega (arith, w.within) in
+        ap (λ ps. record { matching = Same (length xs); places = ps }) (w.found ∙ ap (places_to xs ys) all)
+        ∙ told-by xs ys none w.same (sym w.left ∙ alone-end xs ys i past)

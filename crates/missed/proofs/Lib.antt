@@ -1,3 +1,2 @@
--- AsFound: what is answered is what is to be answered. OfText: what each answer means.
-pub mod AsFound
+-- OfText: what each answer means.
 pub mod OfText

@@ -2,11 +2,11 @@
 --     ShowsMiss text new    reading `new` gives the plan of `text`, with N raised to n or as it was, and releases over which its run
 --                           misses; so the desk's verdict and search are those of `text`, and its third line is a miss
 use Rattle.std.specs.Prelude.{ℕ, ◌≤◌, ◌≡◌, List}
+use Rattle.faults.specs.Checks.{Lawful}
+use Rattle.std.specs.Prelude.{Ok}
+use Rattle.rules.specs.Answer.{Answered}
 use Rattle.days.specs.declared.Day.{Day}
-use Rattle.faults.specs.declared.Checked.TheVariants.{Lawful}
 use Rattle.rules.specs.declared.Outcome.TheVariants.{Miss}
-use Rattle.rules.specs.declared.AskedOutcome.TheVariants.{Given}
-use Rattle.rules.specs.declared.Answer.TheVariants.{Answered}
 use Rattle.rules.specs.Answer.{answer_of}
 use Rattle.rules.specs.Verdict.{verdict_of}
 use Rattle.rules.specs.Search.{search_of}
@@ -22,5 +22,5 @@ pub record ShowsMiss (text new : List ℕ) : Type 0 where
   pub t : Day
   pub place : ℕ
   pub within : t.0 ≤ n
-  pub misses : run_answer (reading_of new).plan (reading_of new).releases ≡ Given (Miss t place)
+  pub misses : run_answer (reading_of new).plan (reading_of new).releases ≡ Ok (Miss t place)
   pub desk : answer_of new ≡ Answered (verdict_of (reading_of text).plan) (search_of (reading_of text).plan) (Miss t place)

@@ -5,3 +5,4 @@ pub mod Chosen
 pub mod Released
 pub mod Periods
 pub mod Named
+pub mod Faults

@@ -1,6 +1,8 @@
 -- Laws of the definitions that put the reasons together.
 use Rattle.base.proofs.Prelude.{ℕ, ◌-◌, ◌≤◌, ◌<◌, ◌≡◌, sym, ap, ◌∙◌, List, [], arith, le-leb, lt-leb, eq-eqb, ne_eqb}
-use Rattle.faults.specs.{declared.Fault.Fault, declared.Checked.TheVariants.{Lawful, Refused}, Checks.fault_number}
+use Rattle.faults.specs.Checks.{Refused, Lawful}
+use Rattle.faults.specs.declared.Fault.{Fault}
+use Rattle.faults.specs.Checks.{fault_number}
 use Rattle.rules.specs.{declared.BatteryString.BatteryString, Layout.Version, Text.{lines_of, version_of, n_in, a_in, run_in, string_of, reading_of}}
 use Rattle.lines.specs.declared.reasons.Reason.{Reason}
 use Rattle.lines.specs.declared.reasons.Reason.TheVariants.{TooLong, StringsOut, OverThousand}

@@ -3,10 +3,10 @@ use Rattle.base.proofs.Prelude.{ℕ, zero, suc, ◌+◌, ◌*◌, ◌^◌, ◌�
 use native.Mathlib.Nat.{pow-le-pow_right}
 use Rattle.base.specs.Digits.{number_on}
 use Rattle.base.proofs.Lists.{by_bool}
-use Rattle.rules.specs.{Layout.{Layout, frame_size, number_of, field_among, field_in, held_to, header_frame, string_frame, release_frame, Common, Run, Own, Late, Due}, Text.{Line, digit_of, hex_bytes, frame_of, field_of, version_of}}
-use Rattle.layouts.specs.{declared.Field.Field, inner.Versions.{offset_among, size_among, field_for, code_of, meant_by, Known}}
-use Rattle.layouts.specs.declared.Version as code
-use Rattle.layouts.proofs.Versions.{common-known, common-small, run-known, run_small, own-known, own-small, late-known, late-small, due-known, due-small, header-short, string-short, release-short, cost-sizes, late-sizes, held-known}
+use Rattle.rules.specs.Layout as rule
+use Rattle.rules.specs.{Layout.{Layout, frame_size, field_among, field_in, held_to, header_frame, string_frame, release_frame, Common, Run, Own, Late, Due}, Text.{Line, digit_of, hex_bytes, frame_of, field_of, version_of}}
+use Rattle.layouts.specs.{declared.Field.Field, declared.Layouts.Layouts, declared.Version.Version, inner.Versions.{offset_among, size_among, field_for, layouts_for, layouts_number_of, meant_by}}
+use Rattle.layouts.proofs.Versions.{common-known, common-small, run-known, run_small, own-known, own-small, late-known, late-small, due-known, due-small, header-short, string-short, release-short, cost-sizes, late-sizes}
 use Rattle.reading.proofs.Fields.{field_fits}
 use Rattle.naming.specs.{Lines.line_no, inner.Bytes.number_at}
 
@@ -77,7 +77,7 @@ worth-most i k h = pow-le-pow_right (omega arith) h
 
 module _ {F : Type 0} (l : Layout F) (f : F) where
   among-said : (fields : List F) (k : ℕ) (bytes : List ℕ)
-      → number_of (take (size_among l fields f) (drop (k + offset_among l fields f) bytes)) ≡ field_among l fields f (drop k bytes)
+      → rule.number_of (take (size_among l fields f) (drop (k + offset_among l fields f) bytes)) ≡ field_among l fields f (drop k bytes)
   unfolding field_among number_on
   among-said [] k bytes = refl
   among-said (g ∷ rest) k bytes =
@@ -99,63 +99,64 @@ module _ {F : Type 0} (l : Layout F) (f : F) where
 
 -- ---- The fields in which versions differ
 
-module _ (version : code.Version) (known : Known version) where
-  pub common-room : (version.common.at ≤ 60) × (version.common.size ≤ 4)
+module _ (version : Version) (layouts : Layouts) (known : layouts ≡ layouts_for (meant_by version)) where
+  pub common-room : (layouts.common.at ≤ 60) × (layouts.common.size ≤ 4)
   common-room = (
-    field-room-of (header_frame (meant_by version)) Common version.common (common-known version known) (header-short
-        version.number),
-    common-small version known,
+    field-room-of (header_frame (meant_by version)) Common layouts.common (common-known version layouts known)
+        (header-short (layouts_number_of version)),
+    common-small version layouts known,
   )
 
-  pub run_room : (version.run.at ≤ 60) × (version.run.size ≤ 4)
+  pub run_room : (layouts.run.at ≤ 60) × (layouts.run.size ≤ 4)
   run_room = (
-    field-room-of (header_frame (meant_by version)) Run version.run (run-known version known) (header-short version.number),
-    run_small version known,
+    field-room-of (header_frame (meant_by version)) Run layouts.run (run-known version layouts known)
+        (header-short (layouts_number_of version)),
+    run_small version layouts known,
   )
 
-  pub own_room : (version.own.at ≤ 60) × (version.own.size ≤ 4)
+  pub own_room : (layouts.own.at ≤ 60) × (layouts.own.size ≤ 4)
   own_room = (
-    field-room-of (string_frame (meant_by version)) Own version.own (own-known version known) (string-short version.number),
-    own-small version known,
+    field-room-of (string_frame (meant_by version)) Own layouts.own (own-known version layouts known)
+        (string-short (layouts_number_of version)),
+    own-small version layouts known,
   )
 
-  pub late-room : (version.late.at ≤ 60) × (version.late.size ≤ 4)
+  pub late-room : (layouts.late.at ≤ 60) × (layouts.late.size ≤ 4)
   late-room = (
-    field-room-of (string_frame (meant_by version)) Late version.late (late-known version known) (string-short version.number),
-    late-small version known,
+    field-room-of (string_frame (meant_by version)) Late layouts.late (late-known version layouts known)
+        (string-short (layouts_number_of version)),
+    late-small version layouts known,
   )
 
-  pub due_room : (version.due.at ≤ 60) × (version.due.size ≤ 4)
+  pub due_room : (layouts.due.at ≤ 60) × (layouts.due.size ≤ 4)
   due_room = (
-    field-room-of (release_frame (meant_by version)) Due version.due (due-known version known) (release-short version.number),
-    due-small version known,
+    field-room-of (release_frame (meant_by version)) Due layouts.due (due-known version layouts known)
+        (release-short (layouts_number_of version)),
+    due-small version layouts known,
   )
 
-  pub common-two : 256 ^ version.common.size ≤ 65536
+  pub common-two : 256 ^ layouts.common.size ≤ 65536
   common-two =
-      worth-most version.common.size 2 (omega (
+      worth-most layouts.common.size 2 (omega (
         arith,
-        ap (λ (f : Field). f.size) (common-known version known),
-        cost-sizes
-            version.number,
+        ap (λ (f : Field). f.size) (common-known version layouts known),
+        cost-sizes (layouts_number_of version),
       ))
 
-  pub own-two : 256 ^ version.own.size ≤ 65536
+  pub own-two : 256 ^ layouts.own.size ≤ 65536
   own-two =
-      worth-most version.own.size 2 (omega (
+      worth-most layouts.own.size 2 (omega (
         arith,
-        ap (λ (f : Field). f.size) (own-known version known),
-        cost-sizes
-            version.number,
+        ap (λ (f : Field). f.size) (own-known version layouts known),
+        cost-sizes (layouts_number_of version),
       ))
 
-  pub late-two : 256 ^ version.late.size ≤ 65536
+  pub late-two : 256 ^ layouts.late.size ≤ 65536
   late-two =
-      worth-most version.late.size 2 (omega (
+      worth-most layouts.late.size 2 (omega (
         arith,
-        ap (λ (f : Field). f.size) (late-known version known),
-        late-sizes
-            version.number,
+        ap (λ (f : Field). f.size) (late-known version layouts known),
+        late-sizes (layouts_number_of version),
       ))
 
 -- ---- The version
@@ -164,10 +165,3 @@ pub version-first : (lines : List Line) → held_to (number_at (line_no lines 1)
 unfolding number_at version_of frame_of hex_bytes held_to number_on
 version-first [] = refl
 version-first (header ∷ lines) = refl
-
--- the code's version for a text is known
-pub version-held : (version : code.Version) (lines : List Line) → version ≡ code_of (version_of lines)
-    → Known version × (meant_by version ≡ version_of lines)
-version-held version lines is =
-    let held = held-known version (number_at (line_no lines 1).bytes 1 1) (is ∙ ap code_of (sym (version-first lines))) in
-    (held.0, held.1 ∙ version-first lines)

@@ -3,9 +3,9 @@
 --     refusal_text text      the line of the refusal with its reason; nothing where the text is lawful
 -- A text is refused by 1 to 8 (`read-numbers`).
 use Rattle.std.specs.Prelude.{ℕ, ◌-◌, cond, List, [], leb, eqb}
+use Rattle.faults.specs.Checks.{Checked}
+use Rattle.std.specs.Prelude.{Ok, Err}
 use Rattle.faults.specs.declared.Fault.{Fault}
-use Rattle.faults.specs.declared.Checked.{Checked}
-use Rattle.faults.specs.declared.Checked.TheVariants.{Lawful, Refused}
 use Rattle.faults.specs.Checks.{fault_number}
 use Rattle.rules.specs.Text.{lines_of, version_of, n_in, a_in, run_in, string_of, reading_of}
 use Rattle.lines.specs.declared.reasons.Reason.{Reason}
@@ -43,8 +43,8 @@ reason_for text f k =
     (cond (eqb (fault_number f) 7) OverThousand (framed_reason text (fault_number f) k)))
 
 unfoldable pub refusal_for : List ℕ → Checked → List ℕ
-refusal_for text Lawful = []
-refusal_for text (Refused f k) = reason_line f k (reason_for text f k)
+refusal_for text (Ok _) = []
+refusal_for text (Err e) = reason_line e.fault e.at (reason_for text e.fault e.at)
 
 unfoldable pub refusal_text : List ℕ → List ℕ
 refusal_text text = refusal_for text (reading_of text).checked

@@ -9,13 +9,14 @@ mod outside;
 mod releases;
 mod said;
 
-ghost use Rattle.std.specs.Prelude.{◌≡◌, ◌≤◌, length};
+ghost use Rattle.std.specs.Prelude.{◌≡◌};
+ghost use Rattle.faults.specs.Checks.{fault_number};
 ghost use Rattle.rules.specs.Text.{lines_of, version_of};
-ghost use Rattle.layouts.specs.inner.Versions.{code_of};
+ghost use Rattle.layouts.specs.inner.Versions.{meant_by};
 ghost use Rattle.lines.specs.Pages.{page_of};
 ghost use Rattle.naming.specs.Named.{bounds_reason, framed_reason, reason_for, refusal_text};
 
-use faults::{Checked, Fault, fault_number};
+use faults::Fault;
 use frames::frame_reason;
 use layouts::{HEADER_COUNT, Version};
 use lines::{Page, Reason, blank, reason_line};
@@ -26,68 +27,60 @@ use releases::release_reason;
 use said::{field_of, line_in, string_of, version_of};
 
 // Of 5: the header's numbers, or a string's.
+#[tactic(auto, unfolding(crate::specs::Named::bounds_reason, rules::specs::Text::a_in, rules::specs::Text::run_in))]
 fn bounds_reason(text: &[u8], k: usize, version: Version) -> Reason
-    requires { version ≡ code_of (version_of (lines_of text.now)) }
+    requires { meant_by version ≡ version_of (lines_of text.now) }
     ensures exact { result ≡ bounds_reason text.now k }
 {
     if k <= 1 {
-        return head_reason(
-            field_of(text, 1, version.common),
-            field_of(text, 1, version.run),
-        );
+        let layouts = version.layouts();
+        head_reason(
+            field_of(text, 1, layouts.common),
+            field_of(text, 1, layouts.run),
+        )
+    } else {
+        string_reason(k as u64 - 1, string_of(text, k, version))
     }
-    string_reason(k as u64 - 1, string_of(text, k, version))
 }
 
 // Of 3 to 6 and 8: by numbers that the version's frames say.
-fn framed_reason(text: &[u8], number: u32, k: usize, version: Version) -> Reason
-    requires { version ≡ code_of (version_of (lines_of text.now)) }
-    ensures exact { result ≡ framed_reason text.now number k }
+fn framed_reason(text: &[u8], fault: Fault, k: usize, version: Version) -> Reason
+    requires { meant_by version ≡ version_of (lines_of text.now) }
+    ensures exact { result ≡ framed_reason text.now (fault_number fault) k }
 {
     let n = field_of(text, 1, HEADER_COUNT);
-    if number == 3 {
-        return frame_reason(text, version, n, k);
+    match fault {
+        Fault::FrameWrong => frame_reason(text, version, n, k),
+        Fault::StringCount => Reason::StringsOut { n },
+        Fault::OutOfBounds => bounds_reason(text, k, version),
+        Fault::MultipleOver => multiple_reason(text, version),
+        _ => release_reason(text, k, version),
     }
-    if number == 4 {
-        return Reason::StringsOut { n };
-    }
-    if number == 5 {
-        return bounds_reason(text, k, version);
-    }
-    if number == 6 {
-        return multiple_reason(text, version);
-    }
-    release_reason(text, k, version)
 }
 
 // The reason of a fault at line k.
 fn reason_for(text: &[u8], fault: Fault, k: usize) -> Reason
     ensures exact { result ≡ reason_for text.now fault k }
 {
-    let number = fault_number(fault);
-    if number == 1 {
-        return Reason::TooLong;
+    match fault {
+        Fault::TextTooLong => Reason::TooLong,
+        Fault::LineMalformed => malformed_reason(line_in(text, k)),
+        Fault::ReleaseTooMany => Reason::OverThousand,
+        _ => framed_reason(text, fault, k, version_of(text)),
     }
-    if number == 2 {
-        let line = line_in(text, k);
-        return malformed_reason(line);
-    }
-    if number == 7 {
-        return Reason::OverThousand;
-    }
-    framed_reason(text, number, k, version_of(text))
 }
 
 // The line of a refused text's refusal, with its reason; a page without a text where it is lawful. The text is lent and keeps its bytes.
 pub fn refusal_line(text: &[u8]) -> Page
     ensures exact { result ≡ page_of (refusal_text text.now) }
-    ensures within { result.len ≤ length result.bytes }
     ensures kept { text.exit.now ≡ text.entry.now }
 {
-    let reading = reading::read(text);
-    let checked = reading.checked;
-    match checked {
-        Checked::Lawful => blank(),
-        Checked::Refused { fault, at } => reason_line(fault, at, reason_for(text, fault, at)),
+    match reading::read(text) {
+        Ok(_) => blank(),
+        Err(refusal) => reason_line(
+            refusal.fault,
+            refusal.at,
+            reason_for(text, refusal.fault, refusal.at),
+        ),
     }
 }

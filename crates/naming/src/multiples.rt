@@ -2,7 +2,7 @@
 ghost use Rattle.std.specs.Prelude.{◌≡◌, ◌≤◌, ◌<◌, ltb, length, get_or};
 ghost use Rattle.rules.specs.Plan.{multiple_of, no_string};
 ghost use Rattle.rules.specs.Text.{lines_of};
-ghost use Rattle.layouts.specs.inner.Versions.{meant_by, Known};
+ghost use Rattle.layouts.specs.inner.Versions.{meant_by};
 ghost use Rattle.naming.specs.Periods.{plan_named, first_to, retimed, multiple_fits, over_place, smaller_fit, multiple_reason};
 
 use super::said::{field_of, string_of};
@@ -13,28 +13,21 @@ use lines::Reason;
 use rules::{BatteryString, NO_STRING, Plan};
 
 // How many strings count: n, or ten where it is more.
+#[tactic(auto, unfolding(crate::specs::Periods::plan_named, rules::specs::Text::n_in))]
 fn counted_in(text: &[u8], version: Version) -> usize
-    requires { Known version }
     ensures exact { result ≡ (plan_named (meant_by version) (lines_of text.now)).n }
 {
-    let n = field_of(text, 1, HEADER_COUNT);
-    if n < 10 {
-        return n as usize;
-    }
-    10
+    field_of(text, 1, HEADER_COUNT).min(10) as usize
 }
 
 // The strings of a text as a plan.
 fn plan_named(text: &[u8], version: Version) -> Plan
-    requires { Known version }
     ensures exact { result ≡ plan_named (meant_by version) (lines_of text.now) }
 {
     let n = counted_in(text, version);
     let mut strings = [NO_STRING; 10];
-    let mut i: usize = 0;
-    while i < n {
+    for i in 0..n {
         strings[i] = string_of(text, i + 2, version);
-        i += 1;
     }
     Plan {
         n,
@@ -47,9 +40,7 @@ fn plan_named(text: &[u8], version: Version) -> Plan
 fn over_with(p: Plan, i: usize) -> bool
     ensures exact { result ≡ ltb 100000 (multiple_of (first_to p i)) }
 {
-    let run = p.run;
-    let strings = p.strings;
-    100000 < multiple(Plan { n: i, run, strings })
+    100000 < multiple(Plan { n: i, ..p })
 }
 
 // The first place at which it is.
@@ -69,26 +60,17 @@ fn over_place(p: Plan) -> usize
 }
 
 // Whether H of the first strings fits where the T of the last of them is t.
+#[tactic(auto, unfolding(crate::specs::Periods::multiple_fits))]
 fn fits_with(p: Plan, i: usize, t: u32) -> bool
     requires { (1 ≤ i) × (i ≤ 10) × (length p.strings ≡ 10) }
     ensures exact { result ≡ multiple_fits p i t }
 {
-    let run = p.run;
     let mut strings = p.strings;
-    let s = strings[i - 1];
-    let c = s.c;
-    let d = s.d;
-    let a = s.a;
-    let j = s.j;
     strings[i - 1] = BatteryString {
         t: Length(t),
-        c,
-        d,
-        x: s.x,
-        a,
-        j,
+        ..strings[i - 1]
     };
-    multiple(Plan { n: i, run, strings }) <= 100000
+    multiple(Plan { n: i, strings, ..p }) <= 100000
 }
 
 // The largest T of the string at place i below its own, and not below its D, that does; 0 where none does.
@@ -113,7 +95,6 @@ fn smaller_fit(p: Plan, i: usize) -> u32
 }
 
 pub(crate) fn multiple_reason(text: &[u8], version: Version) -> Reason
-    requires { Known version }
     ensures exact { result ≡ multiple_reason (plan_named (meant_by version) (lines_of text.now)) }
 {
     let p = plan_named(text, version);
@@ -125,8 +106,7 @@ pub(crate) fn multiple_reason(text: &[u8], version: Version) -> Reason
             d: 0,
         };
     }
-    let strings = p.strings;
-    let s = strings[i - 1];
+    let s = p.strings[i - 1];
     let smaller = smaller_fit(p, i);
     if smaller == 0 {
         return Reason::NoneFits {

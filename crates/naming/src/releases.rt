@@ -1,7 +1,7 @@
 // Refusal 8: which of its reasons.
 ghost use Rattle.std.specs.Prelude.{◌≡◌, ◌+◌, ◌≤◌};
 ghost use Rattle.rules.specs.Text.{lines_of, n_in, due_in};
-ghost use Rattle.layouts.specs.inner.Versions.{meant_by, Known};
+ghost use Rattle.layouts.specs.inner.Versions.{meant_by};
 ghost use Rattle.naming.specs.Lines.{line_no};
 ghost use Rattle.naming.specs.Released.{day_of_ahead, day_reason, release_reason};
 ghost use Rattle.naming.specs.inner.Bytes.{last_in};
@@ -13,19 +13,19 @@ use rules::BatteryString;
 
 // The due day that line k says: its day where it says none.
 fn due_of(text: &[u8], k: usize, version: Version) -> u64
-    requires { Known version }
     ensures exact { result ≡ due_in (meant_by version) (line_no (lines_of text.now) k) }
     ensures small { result ≤ 8589934592 }
 {
-    if 0 < version.due.size {
-        return field_of(text, k, version.due);
+    let due = version.layouts().due;
+    if 0 < due.size {
+        field_of(text, k, due)
+    } else {
+        field_of(text, k, RELEASE_DAY)
     }
-    field_of(text, k, RELEASE_DAY)
 }
 
 // The day of the release on the line ahead of line k; 0 where none is ahead.
 fn day_ahead(text: &[u8], n: usize, k: usize, version: Version) -> u64
-    requires known { Known version }
     requires n_bound { n ≤ 1000 }
     ensures exact { result ≡ day_of_ahead (meant_by version) (lines_of text.now) n k }
 {
@@ -51,29 +51,28 @@ fn last_line(text: &[u8], n: usize, k: usize, place: u64) -> usize
 }
 
 // A release whose place, need and day are in bounds.
+#[tactic(auto, unfolding(crate::specs::Released::day_reason))]
 fn day_reason(s: BatteryString, day: u64, due: u64, ahead: u64, last: u64) -> Reason
     requires { due ≤ 8589934592 }
     ensures exact { result ≡ day_reason s day due ahead last }
 {
-    let j = s.j.0 as u64;
+    let j = u64::from(s.j.0);
     if day < ahead {
-        return Reason::OutOfOrder { day, ahead };
-    }
-    if day < due {
-        return Reason::BeforeDue { day, due };
-    }
-    if due + j < day {
-        return Reason::TooLate { day, j, due };
-    }
-    Reason::TooClose {
-        due,
-        t: s.t.0 as u64,
-        last,
+        Reason::OutOfOrder { day, ahead }
+    } else if day < due {
+        Reason::BeforeDue { day, due }
+    } else if due + j < day {
+        Reason::TooLate { day, j, due }
+    } else {
+        Reason::TooClose {
+            due,
+            t: u64::from(s.t.0),
+            last,
+        }
     }
 }
 
 pub(crate) fn release_reason(text: &[u8], k: usize, version: Version) -> Reason
-    requires { Known version }
     ensures exact { result ≡ release_reason (meant_by version) (lines_of text.now) k }
 {
     let n = field_of(text, 1, HEADER_COUNT);
@@ -93,7 +92,7 @@ pub(crate) fn release_reason(text: &[u8], k: usize, version: Version) -> Reason
     if c < need {
         return Reason::NeedOut { place, need, c };
     }
-    let run = field_of(text, 1, version.run);
+    let run = field_of(text, 1, version.layouts().run);
     let day = field_of(text, k, RELEASE_DAY);
     if run <= day {
         return Reason::AfterRun { day, run };

@@ -2,7 +2,7 @@
 // says 0.
 ghost use Rattle.std.specs.Prelude.{◌≡◌, cond, ◌+◌, ◌*◌, ◌^◌, ◌≤◌, eqb, length, drop};
 ghost use Rattle.rules.specs.Text.{lines_of, digit_of, cost_of, string_of, version_of};
-ghost use Rattle.layouts.specs.inner.Versions.{code_of, meant_by, Known};
+ghost use Rattle.layouts.specs.inner.Versions.{meant_by};
 ghost use Rattle.naming.specs.Lines.{line_no};
 ghost use Rattle.naming.specs.inner.Bytes.{head_bytes, number_at};
 
@@ -114,26 +114,26 @@ pub(crate) fn field_of(text: &[u8], k: usize, field: Field) -> u64
 
 // The version that a text is held to.
 pub(crate) fn version_of(text: &[u8]) -> Version
-    ensures exact { result ≡ code_of (version_of (lines_of text.now)) }
+    ensures exact { meant_by result ≡ version_of (lines_of text.now) }
 {
     held_to(field_of(text, 1, HEADER_NUMBER) as u32)
 }
 
 // The moving cost of the string on line k: the header's where it says one for all, else its own.
 fn cost_of(text: &[u8], k: usize, version: Version) -> u32
-    requires { Known version }
     ensures exact { result ≡ cost_of (meant_by version) (line_no (lines_of text.now) 1)
         (line_no (lines_of text.now) k) }
 {
-    if 0 < version.common.size {
-        return field_of(text, 1, version.common) as u32;
+    let layouts = version.layouts();
+    if 0 < layouts.common.size {
+        field_of(text, 1, layouts.common) as u32
+    } else {
+        field_of(text, k, layouts.own) as u32
     }
-    field_of(text, k, version.own) as u32
 }
 
 // The string on line k.
 pub(crate) fn string_of(text: &[u8], k: usize, version: Version) -> BatteryString
-    requires { Known version }
     ensures exact { result ≡ string_of (meant_by version) (line_no (lines_of text.now) 1)
         (line_no (lines_of text.now) k) }
 {
@@ -142,6 +142,6 @@ pub(crate) fn string_of(text: &[u8], k: usize, version: Version) -> BatteryStrin
     let c = Length(field_of(text, k, STRING_C) as u32);
     let d = Length(field_of(text, k, STRING_D) as u32);
     let a = Length(cost_of(text, k, version));
-    let j = Length(field_of(text, k, version.late) as u32);
+    let j = Length(field_of(text, k, version.layouts().late) as u32);
     BatteryString { t, c, d, x, a, j }
 }

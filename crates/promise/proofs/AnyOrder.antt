@@ -7,8 +7,17 @@
 -- Where N is the same both are within their bounds or both are refused, by one number; the place named may differ.
 -- Then, whether two plans hold the same strings: what `same_strings` answered says it exactly.
 use Rattle.base.proofs.Prelude.{ℕ, ◌^◌, ◌<◌, ◌≡◌, sym, ap, ◌∙◌, ◌↔◌, List, arith, ones, length, length-take}
-use Rattle.faults.specs.{declared.Checked.Checked, declared.Checked.TheVariants.Lawful}
-use Rattle.rules.specs.{declared.Plan.Plan, declared.AskedVerdict.AskedVerdict, declared.AskedVerdict.TheVariants.Given, declared.AskedBroken.AskedBroken, declared.AskedAssign.AskedAssign, declared.Figures.Figures, Plan.strings_of, Search.with_set, Refusal.{plan_check, set_check}, Figures.figures_of}
+use Rattle.rules.specs.declared.Verdict.{Verdict}
+use Rattle.faults.specs.Checks.{Lawful, Checked}
+use Rattle.faults.specs.declared.Refusal.{Refusal}
+use Rattle.std.specs.Prelude.{Ok, Result}
+use Rattle.rules.specs.Found.{FirstBroken, Assign}
+use Rattle.rules.specs.declared.Plan.{Plan}
+use Rattle.rules.specs.declared.Figures.{Figures}
+use Rattle.rules.specs.Figures.{figures_of}
+use Rattle.rules.specs.Plan.{strings_of}
+use Rattle.rules.specs.Search.{with_set}
+use Rattle.rules.specs.Refusal.{plan_check, set_check}
 use Rattle.laws.proofs.{Lawful.plan_check-lawful, Answers.{set-lawful, figures-lawful}}
 use Rattle.demand.proofs.Answers.{quick-set-lawful}
 use Rattle.results.specs.{Order.{SameFault, AsManyTakers}, Places.{InAnotherOrder, AnotherOrder, SmallestTo}, Partners.LeftAlone}
@@ -30,26 +39,30 @@ use contract.Lifetimes.{Lfts}
 
 module _ (κs : Lfts 0) (p q : Plan) (order : InAnotherOrder p q) where
   module _ (ok : plan_check p ≡ Lawful) (also : plan_check q ≡ Lawful) where
-    pub verdict-any-order : (e f : _) (r s : AskedVerdict) → verdict.Learnt κs (p, tt) r e → verdict.Learnt κs (q, tt) s f → s ≡ r
+    pub verdict-any-order : (e f : _) (r s : Result Verdict Refusal) → verdict.Learnt κs (p, tt) r e → verdict.Learnt κs (q, tt) s f → s ≡ r
     verdict-any-order e f r s h k = k ∙ same_answer p q ((reordered-exactly p q).0 order) ok also ∙ sym h
 
-    pub quick-any-order : (e f : _) (r s : AskedVerdict) → quick.Learnt κs (p, tt) r e → quick.Learnt κs (q, tt) s f → s ≡ r
+    pub quick-any-order : (e f : _) (r s : Result Verdict Refusal) → quick.Learnt κs (p, tt) r e → quick.Learnt κs (q, tt) s f → s ≡ r
     quick-any-order e f r s h k = k ∙ same-quick-answer p q ((reordered-exactly p q).0 order) ok also ∙ sym h
 
-    pub first-break-any-order : (e f : _) (r s : AskedBroken) → first-break.Learnt κs (p, tt) r e → first-break.Learnt κs (q, tt) s f
+    pub first-break-any-order : (e f : _) (r s : Result FirstBroken Refusal) → first-break.Learnt κs (p, tt) r e
+        → first-break.Learnt κs (q, tt) s f
         → s ≡ r
     first-break-any-order e f r s h k = k ∙ same-break-answer p q ((reordered-exactly p q).0 order) ok also ∙ sym h
 
-    pub search-any-order : (e f : _) (r s : AskedAssign) → search-takers.Learnt κs (p, tt) r e → search-takers.Learnt κs (q, tt) s f
+    pub search-any-order : (e f : _) (r s : Result Assign Refusal) → search-takers.Learnt κs (p, tt) r e
+        → search-takers.Learnt κs (q, tt) s f
         → AsManyTakers r s
     search-any-order e f r s h k = rw (h, k) (same-search-answer p q ((reordered-exactly p q).0 order) ok also)
 
-    pub figures-any-order : (e f : _) (r s : Figures) → figures.Learnt κs (p, tt) r e → figures.Learnt κs (q, tt) s f
+    pub figures-any-order : (e f : _) (r s : Figures) → figures.Learnt κs (p, tt) (Ok r) e → figures.Learnt κs (q, tt) (Ok s) f
         → (s.multiple ≡ r.multiple) × (s.load ≡ r.load)
     unfolding figures_of
     figures-any-order e f r s h k =
-        let there = h ∙ figures-lawful p ok in
-        let here = k ∙ figures-lawful q also in
+        let said = h ∙ figures-lawful p ok in
+        let told = k ∙ figures-lawful q also in
+        let there : r ≡ figures_of p = cc in
+        let here : s ≡ figures_of q = cc in
         let moved = (reordered-exactly p q).0 order in (
           ap (λ (g : Figures). g.multiple) here ∙ same-multiple p q moved ∙ sym (ap (λ (g : Figures). g.multiple) there),
           ap (λ (g : Figures). g.load) here ∙ same_load p q moved ∙ sym (ap (λ (g : Figures). g.load) there),
@@ -70,17 +83,17 @@ module _ (κs : Lfts 0) (p q : Plan) (order : InAnotherOrder p q) where
 -- The set k of q gives each string the permission that the set m of p gives it.
 module _ (κs : Lfts 0) (p q : Plan) (m k : ℕ) (order : InAnotherOrder (with_set p m) (with_set q k)) where
   module _ (ok : set_check p m ≡ Lawful) (also : set_check q k ≡ Lawful) where
-    pub verdict-with-any-order : (e f : _) (r s : AskedVerdict) → verdict-with.Learnt κs (p, (m, tt)) r e
+    pub verdict-with-any-order : (e f : _) (r s : Result Verdict Refusal) → verdict-with.Learnt κs (p, (m, tt)) r e
         → verdict-with.Learnt κs (q, (k, tt)) s f → s ≡ r
     verdict-with-any-order e f r s h j =
         let moved = (reordered-exactly (with_set p m) (with_set q k)).0 order in
-        j ∙ set-lawful q k also ∙ ap Given (same-verdict (with_set p m) (with_set q k) moved) ∙ sym (h ∙ set-lawful p m ok)
+        j ∙ set-lawful q k also ∙ ap Ok (same-verdict (with_set p m) (with_set q k) moved) ∙ sym (h ∙ set-lawful p m ok)
 
-    pub quick-with-any-order : (e f : _) (r s : AskedVerdict) → quick-with.Learnt κs (p, (m, tt)) r e
+    pub quick-with-any-order : (e f : _) (r s : Result Verdict Refusal) → quick-with.Learnt κs (p, (m, tt)) r e
         → quick-with.Learnt κs (q, (k, tt)) s f → s ≡ r
     quick-with-any-order e f r s h j =
         let moved = (reordered-exactly (with_set p m) (with_set q k)).0 order in
-        j ∙ quick-set-lawful q k also ∙ ap Given (same-quick (with_set p m) (with_set q k) moved) ∙ sym (h ∙ quick-set-lawful p m ok)
+        j ∙ quick-set-lawful q k also ∙ ap Ok (same-quick (with_set p m) (with_set q k) moved) ∙ sym (h ∙ quick-set-lawful p m ok)
 
 -- every set is carried along, to one with as many takers
 pub set-any-order : (p q : Plan) → InAnotherOrder p q → (m : ℕ) → m < 2 ^ p.n

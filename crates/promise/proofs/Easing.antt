@@ -3,8 +3,19 @@
 -- new plan, if that is lawful; with a set the same, the set carried along past a dropped string. So what passed is never late, and stays
 -- never late. A string dropped from a plan of two or more leaves a lawful plan. Permissions are not on the list: P9, P1 and P3.
 use Rattle.base.proofs.Prelude.{ℕ, ◌≤◌, ◌≡◌, refl, sym, ap, ◌∙◌, arith, length}
-use Rattle.faults.specs.{declared.Checked.TheVariants.Lawful}
-use Rattle.rules.specs.{declared.Plan.Plan, declared.Releases.Releases, declared.AskedVerdict.AskedVerdict, declared.AskedOutcome.AskedOutcome, Demand.Passes, Verdict.{verdict_of, is_pass}, Search.with_set, Release.releases_of, Refusal.{plan_check, set_check, run_check, verdict_answer, set_answer}, Said.{overload, fail, pass, clean, asked_verdict_says, asked_outcome_says}}
+use Rattle.rules.specs.declared.Outcome.{Outcome}
+use Rattle.rules.specs.declared.Verdict.{Verdict}
+use Rattle.faults.specs.Checks.{Lawful}
+use Rattle.faults.specs.declared.Refusal.{Refusal}
+use Rattle.std.specs.Prelude.{Ok, Err, Result}
+use Rattle.rules.specs.declared.Plan.{Plan}
+use Rattle.rules.specs.declared.Releases.{Releases}
+use Rattle.rules.specs.Demand.{Passes}
+use Rattle.rules.specs.Verdict.{verdict_of, is_pass}
+use Rattle.rules.specs.Search.{with_set}
+use Rattle.rules.specs.Release.{releases_of}
+use Rattle.rules.specs.Refusal.{plan_check, set_check, run_check, verdict_answer, set_answer}
+use Rattle.rules.specs.Said.{overload, fail, pass, clean, asked_verdict_says, asked_outcome_says}
 use Rattle.laws.specs.Lawful.{LawfulPlan}
 use Rattle.laws.proofs.{Lawful.plan_check-lawful, LawfulChecked.lawful-checked, Answers.{verdict-lawful, set-plan}, Says.asked-pass, Releases.run_check-lawful}
 use Rattle.demand.specs.Quick.{apart_from_pairs, asked_apart, quick_answer, quick_set_answer}
@@ -16,7 +27,6 @@ use Rattle.results.proofs.{NeverHurts.{eased-passes, eased-keeps-rule}, Dropping
 use Rattle.promise.specs.{NeverMiss.NeverMiss, Wrong.SaysPass}
 use Rattle.promise.proofs.NeverMisses.{passed, rule-never-misses}
 use Rattle.rules.specs.declared.Verdict.TheVariants as verdict-is
-use Rattle.rules.specs.declared.AskedVerdict.TheVariants as asked-verdict
 use Rattle.verdict.proofs.verdict.Reads as verdict
 use Rattle.verdict.proofs.verdict_with.Reads as verdict-with
 use Rattle.verdict.proofs.quick.Reads as quick
@@ -29,19 +39,20 @@ use contract.Lifetimes.{Lfts}
 never : ◌≡◌ {A = ℕ} 0 1 → ⊥
 never z = omega arith
 
-pass-apart : (v : AskedVerdict) → SaysPass (asked_verdict_says v) → asked_apart v ≡ asked-verdict.Given (verdict-is.Pass 0)
+pass-apart : (v : Result Verdict Refusal) → SaysPass (asked_verdict_says v) → asked_apart v ≡ Ok (verdict-is.Pass 0)
 unfolding apart_from_pairs
 pass-apart v (k, said) = ap asked_apart (asked-pass v k said)
 
-apart-pass : (v : AskedVerdict) → asked_apart v ≡ asked-verdict.Given (verdict-is.Pass 0) → SaysPass (asked_verdict_says v)
+apart-pass : (v : Result Verdict Refusal) → asked_apart v ≡ Ok (verdict-is.Pass 0) → SaysPass (asked_verdict_says v)
 unfolding apart_from_pairs
-apart-pass (asked-verdict.Refused f at) h = absurd (never (cc))
-apart-pass (asked-verdict.Given verdict-is.Overload) h = absurd (never (cc))
-apart-pass (asked-verdict.Given (verdict-is.Fail l b d k)) h = absurd (never (cc))
-apart-pass (asked-verdict.Given (verdict-is.Pass k)) h = (k, refl)
+apart-pass (Err e) h = absurd (never (cc))
+apart-pass (Ok verdict-is.Overload) h = absurd (never (cc))
+apart-pass (Ok (verdict-is.Fail l b d k)) h = absurd (never (cc))
+apart-pass (Ok (verdict-is.Pass k)) h = (k, refl)
 
 -- two answers that agree apart from their counts both say pass, or neither does
-pass-of-apart : (v w : AskedVerdict) → asked_apart v ≡ asked_apart w → SaysPass (asked_verdict_says v) → SaysPass (asked_verdict_says w)
+pass-of-apart : (v w : Result Verdict Refusal) → asked_apart v ≡ asked_apart w → SaysPass (asked_verdict_says v)
+    → SaysPass (asked_verdict_says w)
 pass-of-apart v w same said = apart-pass w (sym same ∙ pass-apart v said)
 
 -- ---- Over the answers' definitions
@@ -61,7 +72,7 @@ lawful-rule p (k, said) =
 rule-says : (q : Plan) → plan_check q ≡ Lawful → Passes q → SaysPass (asked_verdict_says (verdict_answer q))
 rule-says q lawful rule =
     let is = pass-count q (pass-of-passes q (plan_check-lawful q lawful) rule) in
-    (_, ap asked_verdict_says (verdict-lawful q lawful ∙ ap asked-verdict.Given is))
+    (_, ap asked_verdict_says (verdict-lawful q lawful ∙ ap Ok is))
 
 answer-eased : (p q : Plan) → EasedPlan p q → plan_check q ≡ Lawful → SaysPass (asked_verdict_says (verdict_answer p))
     → SaysPass (asked_verdict_says (verdict_answer q))
@@ -84,7 +95,7 @@ set-answer-eased p q m k easier lawful said =
 
 -- ---- Of what the code answered
 
-module _ (κs : Lfts 0) (p q : Plan) (e f : _) (v w : AskedVerdict) where
+module _ (κs : Lfts 0) (p q : Plan) (e f : _) (v w : Result Verdict Refusal) where
   module _ (easier : EasedPlan p q) (lawful : plan_check q ≡ Lawful) where
     pub verdict-eased : verdict.Learnt κs (p, tt) v e → verdict.Learnt κs (q, tt) w f
         → SaysPass (asked_verdict_says v) → SaysPass (asked_verdict_says w)
@@ -120,7 +131,7 @@ module _ (κs : Lfts 0) (p q : Plan) (e f : _) (v w : AskedVerdict) where
 -- ---- With demand 3
 
 -- what passed is never late, and eased it is never late
-module _ (κs : Lfts 0) (p q : Plan) (e : _) (v : AskedVerdict) (answered-is : verdict.Learnt κs (p, tt) v e)
+module _ (κs : Lfts 0) (p q : Plan) (e : _) (v : Result Verdict Refusal) (answered-is : verdict.Learnt κs (p, tt) v e)
     (said : SaysPass (asked_verdict_says v)) (easier : EasedPlan p q) where
   new-rule : Passes q
   new-rule =
@@ -131,7 +142,7 @@ module _ (κs : Lfts 0) (p q : Plan) (e : _) (v : AskedVerdict) (answered-is : v
   eased-never-misses = rule-never-misses q new-rule
 
   -- over lawful releases its run ends clean
-  pub eased-runs-clean : (rs : Releases) (f : _) (o : AskedOutcome) → run.Learnt κs (q, (rs, tt)) o f → run_check q rs ≡ Lawful
+  pub eased-runs-clean : (rs : Releases) (f : _) (o : Result Outcome Refusal) → run.Learnt κs (q, (rs, tt)) o f → run_check q rs ≡ Lawful
       → (w : ℕ) × ((m : ℕ) × ((i : ℕ) × (asked_outcome_says o ≡ clean w m i)))
   eased-runs-clean rs f o ran lawful = (_, (_, (_, ap asked_outcome_says (ran ∙ never-misses q rs lawful new-rule))))
 
@@ -144,7 +155,7 @@ module _ (κs : Lfts 0) (p q : Plan) (e : _) (v : AskedVerdict) (answered-is : v
 
 -- ---- Permissions are not on the list
 
-module _ (κs : Lfts 0) (e f : _) (v w : AskedVerdict) where
+module _ (κs : Lfts 0) (e f : _) (v w : Result Verdict Refusal) where
   turned : (c : Change) → Hurts c → verdict.Learnt κs (c.before, tt) v e → verdict.Learnt κs (c.after, tt) w f
       → (asked_verdict_says v ≡ c.said) × (asked_verdict_says w ≡ c.says)
   turned c hurt h k = (ap asked_verdict_says h ∙ hurt.both.was, ap asked_verdict_says k ∙ hurt.both.is)

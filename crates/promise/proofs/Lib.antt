@@ -1,4 +1,5 @@
--- The user's demands, of what the code answered. UserWords: demand 2. QuickAgrees: both engines say the same. NeverMisses: demand 3.
+-- The user's demands, of what the code answered. Given: what is said of a plan file that is read. UserWords: demand 2. QuickAgrees: both
+-- engines say the same. NeverMisses: demand 3.
 -- Missing: where moving is free, a fail has a list that misses. Missed: the releases that miss, as a text. OneText: reading and writing
 -- undo each other. Register: so do those of the asset register's table. Turning: version 01 to 02 and back. OtherVersion, Refused: which
 -- number is given exactly when. AnyOrder: the order of
@@ -9,6 +10,7 @@
 -- Whiteboard: where a verdict comes from, string by string and interval by interval.
 -- EverySet: the plan with the set that the search finds, and every set. RunAsBars: the days of a run, drawn.
 -- ToldPrograms: demand 3 of what a C program is told. ShutOut, OnlyOne: what the contracts rule out.
+pub mod Given
 pub mod UserWords
 pub mod QuickAgrees
 pub mod Missing

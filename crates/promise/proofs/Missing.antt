@@ -2,9 +2,18 @@
 -- and where no string has late days, what it said fail of has one for each string that can block at the pair that it names, and misses by
 -- the day after the interval. `Learnt` is what a function's contract says of its answer.
 use Rattle.base.proofs.Prelude.{ℕ, ◌+◌, ◌≤◌, ◌≡◌, refl, sym, ap, ◌∙◌, subst, arith}
+use Rattle.rules.specs.declared.Outcome.{Outcome}
+use Rattle.faults.specs.Checks.{Lawful, Checked}
+use Rattle.faults.specs.declared.Refusal.{Refusal}
+use Rattle.std.specs.Prelude.{Ok, Err, Result}
 use Rattle.days.specs.declared.Length.{Length}
-use Rattle.faults.specs.{declared.Checked.Checked, declared.Checked.TheVariants.{Lawful, Refused}}
-use Rattle.rules.specs.{declared.Plan.Plan, declared.Releases.Releases, declared.Verdict.Verdict, declared.AskedOutcome.AskedOutcome, declared.AskedOutcome.TheVariants.Given, Plan.{multiple_of, with_run}, Release.releases_of, Verdict.verdict_of, Refusal.{on_verdict, plan_check, run_check, verdict_answer}}
+use Rattle.rules.specs.declared.Plan.{Plan}
+use Rattle.rules.specs.declared.Releases.{Releases}
+use Rattle.rules.specs.declared.Verdict.{Verdict}
+use Rattle.rules.specs.Plan.{multiple_of, with_run}
+use Rattle.rules.specs.Release.{releases_of}
+use Rattle.rules.specs.Verdict.{verdict_of}
+use Rattle.rules.specs.Refusal.{on_verdict, plan_check, run_check, verdict_answer}
 use Rattle.laws.specs.Lawful.{OnTime}
 use Rattle.laws.proofs.{Lawful.{LawfulPlan, plan_check-lawful}, LawfulChecked.lawful-checked, Answers.run-lawful, Releases.releases_check-good}
 use Rattle.demand.proofs.{Verdict.{fail-names, overload-exactly}, Range.overload-at-period}
@@ -13,7 +22,6 @@ use Rattle.exact.specs.Missing.{freely, interval_end, missing, MissesBy, FreeMov
 use Rattle.exact.proofs.{Freely.free-demand, Exact.{with_run-lawful, demand_but-nobody, free-can, sharp-break-misses}, NoLateDays.{some-string-blocks, break-misses-any}}
 use Rattle.promise.specs.SaysMiss.{SaysMiss}
 use Rattle.rules.specs.declared.Verdict.TheVariants as verdict-is
-use Rattle.rules.specs.declared.AskedVerdict.TheVariants as asked
 use Rattle.verdict.proofs.verdict.Reads as verdict
 use Rattle.run.proofs.run.Reads as run
 use contract.Lifetimes.{Lfts}
@@ -25,29 +33,30 @@ module _ (κs : Lfts 0) (p : Plan) (ok : LawfulPlan p) (rs : Releases) (few : rs
   unfolding run_check
   run-checked d m = rw (lawful-checked p ok, releases_check-good p rs few m.listed)
 
-  pub run-says-miss : (d : ℕ) (r : AskedOutcome) (e : _) → run.Learnt κs (p, (rs, tt)) r e → MissesBy p (releases_of rs) d → SaysMiss r d
+  pub run-says-miss : (d : ℕ) (r : Result Outcome Refusal) (e : _) → run.Learnt κs (p, (rs, tt)) r e → MissesBy p (releases_of rs) d
+      → SaysMiss r d
   run-says-miss d r e said m =
-      record { t = m.t; place = m.place; soon = m.soon; is = said ∙ run-lawful p rs (run-checked d m) ∙ ap Given m.ends }
+      record { t = m.t; place = m.place; soon = m.soon; is = said ∙ run-lawful p rs (run-checked d m) ∙ ap Ok m.ends }
 
 -- ---- Free moving
 
 -- a verdict that is given was given of a lawful plan
-answered : (c : Checked) (v w : Verdict) → on_verdict c v ≡ asked.Given w → (c ≡ Lawful) × (v ≡ w)
-answered Lawful v w h = (refl, cc)
-answered (Refused f at) v w h =
+answered : (c : Checked) (v w : Verdict) → on_verdict c v ≡ Ok w → (c ≡ Lawful) × (v ≡ w)
+answered (Ok _) v w h = (refl, cc)
+answered (Err e) v w h =
     let z : ◌≡◌ {A = ℕ} 0 1 = cc in
     absurd (omega arith)
 
 module _ (κs : Lfts 0) (p : Plan) (free : FreeMoving p) where
   -- where a fail names a blocking, some string can block so long
-  pub fail-blocks : (l b d : Length) (k : ℕ) (e : _) → verdict.Learnt κs (p, tt) (asked.Given (verdict-is.Fail l b d k)) e → 1 ≤ b.0
+  pub fail-blocks : (l b d : Length) (k : ℕ) (e : _) → verdict.Learnt κs (p, tt) (Ok (verdict-is.Fail l b d k)) e → 1 ≤ b.0
       → (q : ℕ) × CanBlock p l.0 b.0 q
   unfolding verdict_answer
   fail-blocks l b d k e said pos =
       let both = answered (plan_check p) (verdict_of p) (verdict-is.Fail l b d k) (sym said) in
       some-string-blocks p l.0 b.0 pos (fail-names p l b d k both.1).0.allowed
 
-  module _ (rs : Releases) (few : rs.count ≤ 1000) (n : ℕ) (most : n ≤ 1000000) (r : AskedOutcome) (f : _)
+  module _ (rs : Releases) (few : rs.count ≤ 1000) (n : ℕ) (most : n ≤ 1000000) (r : Result Outcome Refusal) (f : _)
       (ran : run.Learnt κs (with_run p n, (rs, tt)) r f) where
     -- the code's run over a list that misses
     list-says-miss : (l b q d : ℕ) → LawfulPlan p → 1 ≤ n → MissesBy (with_run p n) (missing p l b q) d → releases_of rs ≡ missing p l b q
@@ -57,7 +66,7 @@ module _ (κs : Lfts 0) (p : Plan) (free : FreeMoving p) where
         (subst (λ xs. MissesBy (with_run p n) xs d) (sym list) m)
 
     pub fail-then-miss : OnTime p → (l b d : Length) (k q : ℕ) (e : _)
-        → verdict.Learnt κs (p, tt) (asked.Given (verdict-is.Fail l b d k)) e → l.0 + 1 ≤ n
+        → verdict.Learnt κs (p, tt) (Ok (verdict-is.Fail l b d k)) e → l.0 + 1 ≤ n
         → (b.0 ≡ 0 → q ≡ 0) → (1 ≤ b.0 → CanBlock p l.0 b.0 q)
         → releases_of rs ≡ missing p l.0 b.0 q → SaysMiss r (l.0 + 1)
     unfolding verdict_answer
@@ -70,7 +79,7 @@ module _ (κs : Lfts 0) (p : Plan) (free : FreeMoving p) where
         (rw (free-demand p free l.0 b.0) first.breaks))
         list
 
-    pub overload-then-miss : (e : _) → verdict.Learnt κs (p, tt) (asked.Given verdict-is.Overload) e → interval_end p (multiple_of p) 0 ≤ n
+    pub overload-then-miss : (e : _) → verdict.Learnt κs (p, tt) (Ok verdict-is.Overload) e → interval_end p (multiple_of p) 0 ≤ n
         → releases_of rs ≡ missing p (multiple_of p) 0 0 → SaysMiss r (interval_end p (multiple_of p) 0)
     unfolding verdict_answer
     overload-then-miss e said room list =

@@ -2,8 +2,26 @@
 -- contract says of its
 -- answer. By numbers; with a permission set; with the set that the search found; and for a text.
 use Rattle.base.proofs.Prelude.{ℕ, ◌≤◌, ◌≡◌, refl, sym, ap, ◌∙◌, List, arith, le_refl, length}
-use Rattle.faults.specs.{declared.Fault.Fault, declared.Checked.Checked}
-use Rattle.rules.specs.{declared.Plan.Plan, declared.Releases.Releases, declared.Verdict.Verdict, declared.AskedVerdict.AskedVerdict, declared.Assign.Assign, declared.AskedAssign.AskedAssign, declared.Outcome.Outcome, declared.AskedOutcome.AskedOutcome, declared.Answer.Answer, Demand.Passes, Verdict.{verdict_of, is_pass}, Search.with_set, Release.releases_of, Run.run_of, Refusal.{on_verdict, plan_check, set_check, run_check, verdict_answer}, Text.reading_of, Answer.{answered, answer_of}, Said.{pass, takers, miss, clean, verdict_says, outcome_says, asked_verdict_says, asked_assign_says, asked_outcome_says}}
+use Rattle.faults.specs.Checks.{Refused, Lawful, Checked}
+use Rattle.faults.specs.declared.Refusal.{Refusal}
+use Rattle.std.specs.Prelude.{Ok, Err, Result}
+use Rattle.rules.specs.Answer.{Answered}
+use Rattle.rules.specs.declared.Answers.{Answers}
+use Rattle.rules.specs.Found.{Assign}
+use Rattle.faults.specs.declared.Fault.{Fault}
+use Rattle.rules.specs.declared.Plan.{Plan}
+use Rattle.rules.specs.declared.Releases.{Releases}
+use Rattle.rules.specs.declared.Verdict.{Verdict}
+use Rattle.rules.specs.declared.Outcome.{Outcome}
+use Rattle.rules.specs.Demand.{Passes}
+use Rattle.rules.specs.Verdict.{verdict_of, is_pass}
+use Rattle.rules.specs.Search.{with_set, search_of}
+use Rattle.rules.specs.Release.{releases_of}
+use Rattle.rules.specs.Run.{run_of}
+use Rattle.rules.specs.Refusal.{on_verdict, plan_check, set_check, run_check, verdict_answer}
+use Rattle.rules.specs.Text.{reading_of}
+use Rattle.rules.specs.Answer.{answered, answer_of}
+use Rattle.rules.specs.Said.{pass, takers, miss, clean, verdict_says, outcome_says, asked_verdict_says, asked_assign_says, asked_outcome_says}
 use Rattle.laws.specs.Lawful.{LawfulRun}
 use Rattle.laws.proofs.{Lawful.plan_check-lawful, Answers.run-refused, Says.{says-pass, asked-pass}, Releases.run_check-lawful, ReadLawful.read-lawful}
 use Rattle.demand.proofs.Verdict.{passes-of-pass}
@@ -11,11 +29,7 @@ use Rattle.sound.specs.Served.{released, due_of, Served}
 use Rattle.sound.proofs.{Clean.run-clean, CleanAnswer.never-misses, Served.served}
 use Rattle.promise.specs.NeverMiss.{NeverMiss}
 use Rattle.promise.proofs.UserWords.{search-finds, verdict-with-is}
-use Rattle.faults.specs.declared.Checked.TheVariants as checked
 use Rattle.rules.specs.declared.Verdict.TheVariants as verdict-is
-use Rattle.rules.specs.declared.AskedVerdict.TheVariants as asked-verdict
-use Rattle.rules.specs.declared.AskedOutcome.TheVariants as asked-outcome
-use Rattle.rules.specs.declared.Answer.TheVariants as answer-is
 use Rattle.verdict.proofs.verdict.Reads as verdict
 use Rattle.verdict.proofs.verdict_with.Reads as verdict-with
 use Rattle.verdict.proofs.search.Reads as search-takers
@@ -25,10 +39,10 @@ use contract.Lifetimes.{Lfts}
 
 -- ---- A verdict that says pass means the rule at every interval
 
-pub passed : (c : Checked) (v : Verdict) (k : ℕ) → on_verdict c v ≡ asked-verdict.Given (verdict-is.Pass k)
-    → (c ≡ checked.Lawful) × (v ≡ verdict-is.Pass k)
-passed checked.Lawful v k h = (refl, cc)
-passed (checked.Refused f at) v k h =
+pub passed : (c : Checked) (v : Verdict) (k : ℕ) → on_verdict c v ≡ Ok (verdict-is.Pass k)
+    → (c ≡ Lawful) × (v ≡ verdict-is.Pass k)
+passed (Ok _) v k h = (refl, cc)
+passed (Err e) v k h =
     absurd
     (let z : ◌≡◌ {A = ℕ} 0 1 = cc in
     omega arith)
@@ -41,12 +55,12 @@ pass-means p k h =
 
 -- ---- A plan that passes, over any releases
 
-clean-no-miss : (o : AskedOutcome) (t i w m d : ℕ) → asked_outcome_says o ≡ clean w m d → asked_outcome_says o ≡ miss t i → ⊥
+clean-no-miss : (o : Result Outcome Refusal) (t i w m d : ℕ) → asked_outcome_says o ≡ clean w m d → asked_outcome_says o ≡ miss t i → ⊥
 clean-no-miss o t i w m d h k =
     let z : ◌≡◌ {A = ℕ} 0 1 = cc in
     omega arith
 
-refused-no-miss : (f : Fault) (at : ℕ) (o : AskedOutcome) (t i : ℕ) → o ≡ asked-outcome.Refused f at → asked_outcome_says o ≡ miss t i → ⊥
+refused-no-miss : (f : Fault) (at : ℕ) (o : Result Outcome Refusal) (t i : ℕ) → o ≡ Refused f at → asked_outcome_says o ≡ miss t i → ⊥
 refused-no-miss f at o t i h k =
     let said = ap asked_outcome_says h in
     let z : ◌≡◌ {A = ℕ} 0 1 = cc in
@@ -56,12 +70,12 @@ pub rule-never-misses : (p : Plan) → Passes p → NeverMiss p
 rule-never-misses p passes κs rs e o ran t i said = go (run_check p rs) refl
   where
     go : (c : Checked) → run_check p rs ≡ c → ⊥
-    go checked.Lawful lawful = clean-no-miss o t i _ _ _ (ap asked_outcome_says (ran ∙ never-misses p rs lawful passes)) said
-    go (checked.Refused f at) is = refused-no-miss f at o t i (ran ∙ run-refused p rs f at is) said
+    go (Ok _) lawful = clean-no-miss o t i _ _ _ (ap asked_outcome_says (ran ∙ never-misses p rs lawful passes)) said
+    go (Err e) is = refused-no-miss e.fault e.at o t i (ran ∙ run-refused p rs e.fault e.at is) said
 
 -- ---- By numbers
 
-module _ (κs : Lfts 0) (p : Plan) (e : _) (v : AskedVerdict) (answered-is : verdict.Learnt κs (p, tt) v e) (k : ℕ)
+module _ (κs : Lfts 0) (p : Plan) (e : _) (v : Result Verdict Refusal) (answered-is : verdict.Learnt κs (p, tt) v e) (k : ℕ)
     (said : asked_verdict_says v ≡ pass k) where
   rule : Passes p
   rule = pass-means p k (ap asked_verdict_says (sym answered-is) ∙ said)
@@ -71,11 +85,11 @@ module _ (κs : Lfts 0) (p : Plan) (e : _) (v : AskedVerdict) (answered-is : ver
   pass-never-misses = rule-never-misses p rule
 
   -- over lawful releases the run ends clean
-  pub pass-runs-clean : (rs : Releases) (f : _) (o : AskedOutcome) → run.Learnt κs (p, (rs, tt)) o f → run_check p rs ≡ checked.Lawful
+  pub pass-runs-clean : (rs : Releases) (f : _) (o : Result Outcome Refusal) → run.Learnt κs (p, (rs, tt)) o f → run_check p rs ≡ Lawful
       → (w : ℕ) × ((m : ℕ) × ((i : ℕ) × (asked_outcome_says o ≡ clean w m i)))
   pass-runs-clean rs f o ran lawful = (_, (_, (_, ap asked_outcome_says (ran ∙ never-misses p rs lawful rule))))
 
-  module _ (rs : Releases) (lawful : run_check p rs ≡ checked.Lawful) (i : ℕ) (low : 1 ≤ i) (high : i ≤ length (releases_of rs)) where
+  module _ (rs : Releases) (lawful : run_check p rs ≡ Lawful) (i : ℕ) (low : 1 ≤ i) (high : i ≤ length (releases_of rs)) where
     -- the i-th release has had all its work, and any moving it caused, before its deadline, and no other day later
     pub pass-served : (d : ℕ) → due_of p (released (releases_of rs) i) ≤ d → Served p (releases_of rs) i d
     pass-served d due =
@@ -89,46 +103,51 @@ module _ (κs : Lfts 0) (p : Plan) (e : _) (v : AskedVerdict) (answered-is : ver
 
 -- ---- With a permission set, given or found
 
-pub set-never-misses : (κs : Lfts 0) (p : Plan) (m : ℕ) (e : _) (v : AskedVerdict) → verdict-with.Learnt κs (p, (m, tt)) v e
-    → set_check p m ≡ checked.Lawful
+pub set-never-misses : (κs : Lfts 0) (p : Plan) (m : ℕ) (e : _) (v : Result Verdict Refusal) → verdict-with.Learnt κs (p, (m, tt)) v e
+    → set_check p m ≡ Lawful
     → (k : ℕ) → asked_verdict_says v ≡ pass k → NeverMiss (with_set p m)
 set-never-misses κs p m e v answered-is ok k said =
     rule-never-misses (with_set p m)
     (pass-means (with_set p m) k (ap asked_verdict_says (sym (verdict-with-is κs p m e v answered-is ok)) ∙ said))
 
-pub found-never-misses : (κs : Lfts 0) (p : Plan) (e : _) (a : AskedAssign) → search-takers.Learnt κs (p, tt) a e
-    → plan_check p ≡ checked.Lawful
+pub found-never-misses : (κs : Lfts 0) (p : Plan) (e : _) (a : Result Assign Refusal) → search-takers.Learnt κs (p, tt) a e
+    → plan_check p ≡ Lawful
     → (m : ℕ) → asked_assign_says a ≡ takers m → NeverMiss (with_set p m)
 found-never-misses κs p e a answered-is ok m said =
     rule-never-misses (with_set p m) ((search-finds κs p e a answered-is ok m).0 said).passes
 
 -- ---- For a text
 
-refused-not-answered : (f : Fault) (at : ℕ) (v : Verdict) (a : Assign) (o : Outcome) → answer-is.Refused f at ≡ answer-is.Answered v a o → ⊥
+refused-not-answered : (f : Fault) (at : ℕ) (v : Verdict) (a : Assign) (o : Outcome) → Refused f at ≡ Answered v a o → ⊥
 refused-not-answered f at v a o h =
     let z : ◌≡◌ {A = ℕ} 0 1 = cc in
     omega arith
 
 -- an answer with three lines comes of a reading that is lawful, and each line is what the rules give
 record AnswerParts (text : List ℕ) (v : Verdict) (a : Assign) (o : Outcome) : Type 0 where
-  pub lawful : (reading_of text).checked ≡ checked.Lawful
+  pub lawful : (reading_of text).checked ≡ Lawful
   pub verdict-is : verdict_of (reading_of text).plan ≡ v
   pub outcome-is : run_of (reading_of text).plan (releases_of (reading_of text).releases) ≡ o
 
 answered-parts : (text : List ℕ) (v : Verdict) (a : Assign) (o : Outcome)
-    → answer_of text ≡ answer-is.Answered v a o → AnswerParts text v a o
+    → answer_of text ≡ Answered v a o → AnswerParts text v a o
 unfolding answer_of answered
 answered-parts text v a o h = go (reading_of text).checked refl
   where
     go : (c : Checked) → (reading_of text).checked ≡ c → AnswerParts text v a o
-    go checked.Lawful e =
+    go (Ok _) e =
         let same = sym (ap (λ c. answered c (reading_of text)) e) ∙ h in
-        record { lawful = e; verdict-is = cc; outcome-is = cc }
-    go (checked.Refused f at) e = absurd (refused-not-answered f at v a o (sym (ap (λ c. answered c (reading_of text)) e) ∙ h))
+        let p = (reading_of text).plan in
+        let told : Answers = record
+        { verdict = verdict_of p; assign = search_of p; outcome = run_of p (releases_of (reading_of text).releases) } in
+        let one : told ≡ record { verdict = v; assign = a; outcome = o } = cc in
+        record { lawful = e; verdict-is = ap (λ (x : Answers). x.verdict) one; outcome-is = ap (λ (x : Answers). x.outcome) one }
+    go (Err e') e = absurd (refused-not-answered e'.fault e'.at v a o (sym (ap (λ c. answered c (reading_of text)) e) ∙ h))
 
 -- the code answered a text with three lines, of which the first says pass
-module _ (κs : Lfts 1) (lent : _) (e : _) (r : Answer) (answered-is : answer.Learnt κs lent r e) (v : Verdict) (a : Assign) (o : Outcome)
-    (three : r ≡ answer-is.Answered v a o) (k : ℕ) (said : verdict_says v ≡ pass k) where
+module _ (κs : Lfts 1) (lent : _) (e : _) (r : Result Answers Refusal) (answered-is : answer.Learnt κs lent r e) (v : Verdict)
+    (a : Assign) (o : Outcome)
+    (three : r ≡ Answered v a o) (k : ℕ) (said : verdict_says v ≡ pass k) where
   -- what the text writes
   abbrev pub plan_given_for : Plan
   plan_given_for = (reading_of lent.0.now).plan

@@ -3,24 +3,38 @@
 -- the `ensures` clauses of a function say of its result, so a clause that is weakened or gone is refused here. The test command asks for a
 -- line to each.
 --     κs the lifetimes of what is lent; a the arguments; e, f what holds at the return; r, s two results
-use Rattle.base.proofs.Prelude.{◌≡◌, sym, ◌∙◌, Bool, ℕ, List}
-use Rattle.days.specs.{declared.Later.Later, declared.Gap.Gap, declared.Length.Length}
-use Rattle.faults.specs.declared.Checked.{Checked}
-use Rattle.rules.specs.{declared.Reading.Reading, declared.AskedVerdict.AskedVerdict, declared.AskedBroken.AskedBroken, declared.AskedAssign.AskedAssign, declared.AskedOutcome.AskedOutcome, declared.Figures.Figures, declared.Answer.Answer, declared.Job.Job, declared.Slot.Slot, declared.Use.Use, declared.Stint.Stint, declared.Stinted.Stinted, declared.Plan.Plan, declared.Releases.Releases}
+use Rattle.base.proofs.Prelude.{◌≡◌, ◌≤◌, refl, sym, ap, ◌∙◌, Bool, ◌&&◌, ℕ, List, arith, ltb, length}
+use Rattle.rules.specs.declared.Outcome.{Outcome}
+use Rattle.rules.specs.declared.Verdict.{Verdict}
+use Rattle.days.specs.declared.Day.{Day}
+use Rattle.calendar.specs.declared.Weekday.{Weekday}
+use Rattle.calendar.specs.declared.YearlyDate.{YearlyDate}
+use Rattle.faults.specs.Checks.{Checked}
+use Rattle.faults.specs.declared.Refusal.{Refusal}
+use Rattle.std.specs.Prelude.{Result, Option, Some, None, unwrap_or, IfSome}
+use Rattle.rules.specs.declared.Answers.{Answers}
+use Rattle.rules.specs.Found.{FirstBroken, Assign}
+use Rattle.lines.specs.Limits.{Limit}
+use Rattle.days.specs.declared.Length.{Length}
+use Rattle.rules.specs.declared.PlanFile.{PlanFile}
+use Rattle.rules.specs.declared.Figures.{Figures}
+use Rattle.rules.specs.declared.Job.{Job}
+use Rattle.rules.specs.declared.Slot.{Slot}
+use Rattle.rules.specs.Run.{late_at, holder, chosen, may_take, due_before, next_up, left}
+use Rattle.rules.specs.declared.Use.{Use}
+use Rattle.rules.specs.declared.Stint.{Stint}
+use Rattle.rules.specs.declared.Plan.{Plan}
+use Rattle.rules.specs.declared.Releases.{Releases}
 use Rattle.lines.specs.declared.Page.{Page}
-use Rattle.calendar.specs.{declared.Date.Date, declared.WhichDate.WhichDate, declared.WhichDay.WhichDay, declared.WhichWeekday.WhichWeekday, declared.WhichYearly.WhichYearly, declared.WhichEdition.WhichEdition, declared.Listed.Listed, declared.DateText.DateText, declared.YearlyText.YearlyText}
+use Rattle.calendar.specs.declared.Date.{Date}
 use Rattle.missed.specs.declared.Missed.{Missed}
 use Rattle.layouts.specs.declared.Version.{Version}
-use Rattle.writing.specs.declared.Saved.{Saved}
-use Rattle.tries.specs.declared.Shown.{Shown}
+use Rattle.tries.specs.declared.Missing.{Missing}
 use Rattle.matching.specs.declared.Matched.{Matched}
 use Rattle.register.specs.{declared.Row.Row, declared.Export.Export, Reader.row_at}
 use denote.Ref.{Bor}
 use Rattle.days.proofs.Day.plus.Reads as Day-plus
 use Rattle.days.proofs.Day.since.Reads as Day-since
-use Rattle.days.proofs.Day.before.Reads as Day-before
-use Rattle.days.proofs.Length.shorter.Reads as Length-shorter
-use Rattle.faults.proofs.fault_number.Reads as fault-number
 use Rattle.calendar.proofs.Date.first.Reads as Date-first
 use Rattle.calendar.proofs.Date.from_day.Reads as Date-from-day
 use Rattle.calendar.proofs.Date.day_number.Reads as Date-day-number
@@ -39,7 +53,6 @@ use Rattle.lines.proofs.missed_line.Reads as missed-line
 use Rattle.lines.proofs.number_line.Reads as number-line
 use Rattle.lines.proofs.visit_line.Reads as visit-line
 use Rattle.lines.proofs.limits_line.Reads as limits-line
-use Rattle.slack.specs.declared.AskedLimit.{AskedLimit}
 use Rattle.slack.proofs.limit_at.Reads as limit-at
 use Rattle.slack.proofs.limits_shown.Reads as limits-shown
 use Rattle.register.specs.declared.LineRead.{LineRead}
@@ -48,7 +61,7 @@ use Rattle.visits.specs.{declared.Visit.Visit, declared.OwnVisits.OwnVisits, Vis
 use Rattle.visits.proofs.own_visits.Reads as own-visits
 use Rattle.visits.proofs.check_visit_text.Reads as check-visit-text
 use Rattle.visits.proofs.check_visit_files.Reads as check-visit-files
-use Rattle.boards.specs.{declared.Input.Input, declared.Board.Board, declared.Filled.Filled}
+use Rattle.boards.specs.{declared.CrewInput.CrewInput, declared.Board.Board, declared.Filled.Filled}
 use Rattle.boards.proofs.input_read.Reads as input-read
 use Rattle.boards.proofs.board_read.Reads as board-read
 use Rattle.boards.proofs.board_page.Reads as board-page
@@ -56,7 +69,6 @@ use Rattle.boards.proofs.board_end.Reads as board-end
 use Rattle.rules.proofs.Plan.moving_cost.Reads as Plan-moving-cost
 use Rattle.rules.proofs.Plan.with_run.Reads as Plan-with-run
 use Rattle.rules.proofs.Verdict.passes.Reads as Verdict-passes
-use Rattle.slots.proofs.chosen_place.Reads as chosen-place
 use Rattle.slots.proofs.stopped_job.Reads as stopped-job
 use Rattle.slots.proofs.seated_job.Reads as seated-job
 use Rattle.slots.proofs.part_left.Reads as part_left
@@ -72,8 +84,11 @@ use Rattle.bounds.proofs.multiple_check.Reads as multiple-check
 use Rattle.bounds.proofs.plan_check.Reads as plan-check
 use Rattle.bounds.proofs.set_check.Reads as set-check
 use Rattle.bounds.proofs.run_check.Reads as run-check
+use Rattle.layouts.specs.declared.Layouts.{Layouts}
+use Rattle.layouts.proofs.Versions.{version_one}
 use Rattle.layouts.proofs.held_to.Reads as held_to
-use Rattle.rules.proofs.refused_reading.Reads as refused-reading
+use Rattle.layouts.proofs.Version.layouts.Reads as Version-layouts
+use Rattle.writing.proofs.room_check.Reads as room-check
 use Rattle.reading.proofs.read.Reads as read
 use Rattle.reading.proofs.read_01.Reads as read-01
 use Rattle.reading.proofs.read_02.Reads as read-02
@@ -146,7 +161,6 @@ use Rattle.showing.proofs.plan_shown.Reads as plan-shown
 use Rattle.showing.proofs.string_shown.Reads as string-shown
 use Rattle.showing.proofs.load_shown.Reads as load-shown
 use Rattle.showing.proofs.release_shown.Reads as release-shown
-use Rattle.assigning.specs.declared.Assigned.{Assigned}
 use Rattle.assigning.proofs.assign.Reads as assign
 use Rattle.sets.proofs.set_shown.Reads as set-shown
 use Rattle.bars.proofs.head_shown.Reads as head-shown
@@ -172,63 +186,58 @@ use Rattle.entries.proofs.desk_day.Reads as desk-day
 use contract.Lifetimes.{Lfts}
 
 -- days
-pub one-Day-plus : (κs : Lfts 0) (a : _) (e f : _) (r s : Later) → Day-plus.Learnt κs a r e → Day-plus.Learnt κs a s f → r ≡ s
+pub one-Day-plus : (κs : Lfts 0) (a : _) (e f : _) (r s : Option Day) → Day-plus.Learnt κs a r e → Day-plus.Learnt κs a s f → r ≡ s
 one-Day-plus κs a e f r s h k = h ∙ sym k
 
-pub one-Day-since : (κs : Lfts 0) (a : _) (e f : _) (r s : Gap) → Day-since.Learnt κs a r e → Day-since.Learnt κs a s f → r ≡ s
+pub one-Day-since : (κs : Lfts 0) (a : _) (e f : _) (r s : Option Length) → Day-since.Learnt κs a r e → Day-since.Learnt κs a s f → r ≡ s
 one-Day-since κs a e f r s h k = h ∙ sym k
-
-pub one-Day-before : (κs : Lfts 0) (a : _) (e f : _) (r s : Bool) → Day-before.Learnt κs a r e → Day-before.Learnt κs a s f → r ≡ s
-one-Day-before κs a e f r s h k = h ∙ sym k
-
-pub one-Length-shorter : (κs : Lfts 0) (a : _) (e f : _) (r s : Bool) → Length-shorter.Learnt κs a r e → Length-shorter.Learnt κs a s f
-    → r ≡ s
-one-Length-shorter κs a e f r s h k = h ∙ sym k
-
--- faults
-pub one-fault-number : (κs : Lfts 0) (a : _) (e f : _) (r s : ℕ) → fault-number.Learnt κs a r e → fault-number.Learnt κs a s f → r ≡ s
-one-fault-number κs a e f r s h k = h ∙ sym k
 
 -- calendar
 pub one-Date-first : (κs : Lfts 0) (a : _) (e f : _) (r s : Date) → Date-first.Learnt κs a r e → Date-first.Learnt κs a s f → r ≡ s
 one-Date-first κs a e f r s h k = h ∙ sym k
 
-pub one-Date-from-day : (κs : Lfts 0) (a : _) (e f : _) (r s : WhichDate) → Date-from-day.Learnt κs a r e → Date-from-day.Learnt κs a s f
+pub one-Date-from-day : (κs : Lfts 0) (a : _) (e f : _) (r s : Result Date Refusal) → Date-from-day.Learnt κs a r e
+    → Date-from-day.Learnt κs a s f
     → r ≡ s
 one-Date-from-day κs a e f r s h k = h ∙ sym k
 
-pub one-Date-day-number : (κs : Lfts 0) (a : _) (e f : _) (r s : WhichDay) → Date-day-number.Learnt κs a r e
+pub one-Date-day-number : (κs : Lfts 0) (a : _) (e f : _) (r s : Result Day Refusal) → Date-day-number.Learnt κs a r e
     → Date-day-number.Learnt κs a s f → r ≡ s
 one-Date-day-number κs a e f r s h k = h ∙ sym k
 
-pub one-Date-weekday : (κs : Lfts 0) (a : _) (e f : _) (r s : WhichWeekday) → Date-weekday.Learnt κs a r e → Date-weekday.Learnt κs a s f
+pub one-Date-weekday : (κs : Lfts 0) (a : _) (e f : _) (r s : Result Weekday Refusal) → Date-weekday.Learnt κs a r e
+    → Date-weekday.Learnt κs a s f
     → r ≡ s
 one-Date-weekday κs a e f r s h k = h ∙ sym k
 
-pub one-yearly : (κs : Lfts 1) (a : _) (e f : _) (r s : Listed) → yearly.Learnt κs a r e → yearly.Learnt κs a s f
+pub one-yearly : (κs : Lfts 1) (a : _) (e f : _) (r s : Result ℕ Refusal) → yearly.Learnt κs a r e → yearly.Learnt κs a s f
     → (r ≡ s) × (e.1.1.1.1.0.now ≡ f.1.1.1.1.0.now)
 one-yearly κs a e f r s h k = (h.0 ∙ sym k.0, h.1 ∙ sym k.1)
 
-pub one-date-read : (κs : Lfts 1) (a : _) (e f : _) (r s : WhichDate) → date-read.Learnt κs a r e → date-read.Learnt κs a s f
+pub one-date-read : (κs : Lfts 1) (a : _) (e f : _) (r s : Result Date Refusal) → date-read.Learnt κs a r e → date-read.Learnt κs a s f
     → (r ≡ s) × (e.0.now ≡ f.0.now)
 one-date-read κs a e f r s h k = (h.0 ∙ sym k.0, h.1 ∙ sym k.1)
 
-pub one-day-read : (κs : Lfts 1) (a : _) (e f : _) (r s : WhichDay) → day-read.Learnt κs a r e → day-read.Learnt κs a s f
+pub one-day-read : (κs : Lfts 1) (a : _) (e f : _) (r s : Result Day Refusal) → day-read.Learnt κs a r e → day-read.Learnt κs a s f
     → (r ≡ s) × (e.0.now ≡ f.0.now)
 one-day-read κs a e f r s h k = (h.0 ∙ sym k.0, h.1 ∙ sym k.1)
 
-pub one-date-text : (κs : Lfts 0) (a : _) (e f : _) (r s : DateText) → date-text.Learnt κs a r e → date-text.Learnt κs a s f → r ≡ s
+pub one-date-text : (κs : Lfts 0) (a : _) (e f : _) (r s : Result (List ℕ) Refusal)
+    → date-text.Learnt κs a r e → date-text.Learnt κs a s f → r ≡ s
 one-date-text κs a e f r s h k = h ∙ sym k
 
-pub one-yearly-read : (κs : Lfts 1) (a : _) (e f : _) (r s : WhichYearly) → yearly-read.Learnt κs a r e → yearly-read.Learnt κs a s f
+pub one-yearly-read : (κs : Lfts 1) (a : _) (e f : _) (r s : Result YearlyDate Refusal) → yearly-read.Learnt κs a r e
+    → yearly-read.Learnt κs a s f
     → (r ≡ s) × (e.0.now ≡ f.0.now)
 one-yearly-read κs a e f r s h k = (h.0 ∙ sym k.0, h.1 ∙ sym k.1)
 
-pub one-edition-read : (κs : Lfts 1) (a : _) (e f : _) (r s : WhichEdition) → edition-read.Learnt κs a r e → edition-read.Learnt κs a s f
+pub one-edition-read : (κs : Lfts 1) (a : _) (e f : _) (r s : Result ℕ Refusal) → edition-read.Learnt κs a r e
+    → edition-read.Learnt κs a s f
     → (r ≡ s) × (e.0.now ≡ f.0.now)
 one-edition-read κs a e f r s h k = (h.0 ∙ sym k.0, h.1 ∙ sym k.1)
 
-pub one-yearly-text : (κs : Lfts 0) (a : _) (e f : _) (r s : YearlyText) → yearly-text.Learnt κs a r e → yearly-text.Learnt κs a s f → r ≡ s
+pub one-yearly-text : (κs : Lfts 0) (a : _) (e f : _) (r s : Result (List ℕ) Refusal)
+    → yearly-text.Learnt κs a r e → yearly-text.Learnt κs a s f → r ≡ s
 one-yearly-text κs a e f r s h k = h ∙ sym k
 
 pub one-falls-on : (κs : Lfts 0) (a : _) (e f : _) (r s : Bool) → falls-on.Learnt κs a r e → falls-on.Learnt κs a s f → r ≡ s
@@ -251,8 +260,44 @@ pub one-Verdict-passes : (κs : Lfts 0) (a : _) (e f : _) (r s : Bool) → Verdi
 one-Verdict-passes κs a e f r s h k = h ∙ sym k
 
 -- slots
-pub one-chosen-place : (κs : Lfts 0) (a : _) (e f : _) (r s : ℕ) → chosen-place.Learnt κs a r e → chosen-place.Learnt κs a s f → r ≡ s
-one-chosen-place κs a e f r s h k = h ∙ sym k
+-- a place from 1 on is one, whether it is said by a number, 0 for none, or by an option
+place-one : (n : ℕ) (r s : Option ℕ) → (unwrap_or r 0 ≡ n) × IfSome r (λ k. 1 ≤ k) → (unwrap_or s 0 ≡ n) × IfSome s (λ k. 1 ≤ k) → r ≡ s
+place-one n None None h k = refl
+place-one n (Some a) (Some b) h k = ap Some (h.0 ∙ sym k.0)
+place-one n None (Some b) h k = absurd (omega (arith, h.0, k.0, k.1))
+place-one n (Some a) None h k = absurd (omega (arith, h.0, k.0, h.1))
+
+-- the places that a day asks for: each function is lent a slice of slots, of which the kit exports no contract to cite; its clauses are
+-- written out (slots/src/choice.rt). A place of n, 0 for none, is an option in one way only
+abbrev Placed : ℕ → List Slot → Option ℕ → Type 0
+Placed n slots r = (unwrap_or r 0 ≡ n) × IfSome r (λ place. (1 ≤ place) × (place ≤ length slots))
+
+from-one : (slots : List Slot) (r : Option ℕ) → IfSome r (λ place. (1 ≤ place) × (place ≤ length slots)) → IfSome r (λ k. 1 ≤ k)
+from-one slots None h = tt
+from-one slots (Some k) h = h.0
+
+placed-one : (n : ℕ) (slots : List Slot) (r s : Option ℕ) → Placed n slots r → Placed n slots s → r ≡ s
+placed-one n slots r s h k = place-one n r s (h.0, from-one slots r h.1) (k.0, from-one slots s k.1)
+
+pub one-late-place : (day : ℕ) (slots : List Slot) (r s : Option ℕ) → Placed (late_at day slots) slots r
+    → Placed (late_at day slots) slots s → r ≡ s
+one-late-place day slots r s h k = placed-one _ slots r s h k
+
+pub one-holder-place : (slots : List Slot) (r s : Option ℕ) → Placed (holder slots) slots r → Placed (holder slots) slots s → r ≡ s
+one-holder-place slots r s h k = placed-one _ slots r s h k
+
+pub one-taker-place : (day due : ℕ) (slots : List Slot) (r s : Option ℕ)
+    → Placed (chosen (may_take day due) due_before slots (length slots)) slots r
+    → Placed (chosen (may_take day due) due_before slots (length slots)) slots s → r ≡ s
+one-taker-place day due slots r s h k = placed-one _ slots r s h k
+
+pub one-next-place : (slots : List Slot) (r s : Option ℕ) → Placed (next_up slots) slots r → Placed (next_up slots) slots s → r ≡ s
+one-next-place slots r s h k = placed-one _ slots r s h k
+
+pub one-due-place : (after : ℕ) (slots : List Slot) (r s : Option ℕ)
+    → Placed (chosen (λ t. ltb after t.deadline.0 && ltb 0 (left t.job)) due_before slots (length slots)) slots r
+    → Placed (chosen (λ t. ltb after t.deadline.0 && ltb 0 (left t.job)) due_before slots (length slots)) slots s → r ≡ s
+one-due-place after slots r s h k = placed-one _ slots r s h k
 
 pub one-stopped-job : (κs : Lfts 0) (a : _) (e f : _) (r s : Job) → stopped-job.Learnt κs a r e → stopped-job.Learnt κs a s f → r ≡ s
 one-stopped-job κs a e f r s h k = h ∙ sym k
@@ -279,8 +324,9 @@ one-string-lawful κs a e f r s h k = h ∙ sym k
 pub one-multiple : (κs : Lfts 0) (a : _) (e f : _) (r s : ℕ) → multiple.Learnt κs a r e → multiple.Learnt κs a s f → r ≡ s
 one-multiple κs a e f r s h k = h ∙ sym k
 
-pub one-first-unlawful : (κs : Lfts 0) (a : _) (e f : _) (r s : ℕ) → first-unlawful.Learnt κs a r e → first-unlawful.Learnt κs a s f → r ≡ s
-one-first-unlawful κs a e f r s h k = h ∙ sym k
+pub one-first-unlawful : (κs : Lfts 0) (a : _) (e f : _) (r s : Option ℕ) → first-unlawful.Learnt κs a r e → first-unlawful.Learnt κs a s f
+    → r ≡ s
+one-first-unlawful κs a e f r s h k = place-one _ r s h k
 
 pub one-head-check : (κs : Lfts 0) (a : _) (e f : _) (r s : Checked) → head-check.Learnt κs a r e → head-check.Learnt κs a s f → r ≡ s
 one-head-check κs a e f r s h k = h ∙ sym k
@@ -302,55 +348,59 @@ pub one-run-check : (κs : Lfts 0) (a : _) (e f : _) (r s : Checked) → run-che
 one-run-check κs a e f r s h k = h ∙ sym k
 
 -- reading
-pub one-refused-reading : (κs : Lfts 0) (a : _) (e f : _) (r s : Reading) → refused-reading.Learnt κs a r e
-    → refused-reading.Learnt κs a s f → r ≡ s
-one-refused-reading κs a e f r s h k = h ∙ sym k
-
-pub one-read : (κs : Lfts 1) (a : _) (e f : _) (r s : Reading) → read.Learnt κs a r e → read.Learnt κs a s f
+pub one-read : (κs : Lfts 1) (a : _) (e f : _) (r s : Result PlanFile Refusal) → read.Learnt κs a r e → read.Learnt κs a s f
     → (r ≡ s) × (e.0.now ≡ f.0.now)
 one-read κs a e f r s h k = (h.0 ∙ sym k.0, h.1 ∙ sym k.1)
 
-pub one-read-01 : (κs : Lfts 1) (a : _) (e f : _) (r s : Reading) → read-01.Learnt κs a r e → read-01.Learnt κs a s f
+pub one-read-01 : (κs : Lfts 1) (a : _) (e f : _) (r s : Result PlanFile Refusal) → read-01.Learnt κs a r e → read-01.Learnt κs a s f
     → (r ≡ s) × (e.0.now ≡ f.0.now)
 one-read-01 κs a e f r s h k = (h.0 ∙ sym k.0, h.1 ∙ sym k.1)
 
-pub one-read-02 : (κs : Lfts 1) (a : _) (e f : _) (r s : Reading) → read-02.Learnt κs a r e → read-02.Learnt κs a s f
+pub one-read-02 : (κs : Lfts 1) (a : _) (e f : _) (r s : Result PlanFile Refusal) → read-02.Learnt κs a r e → read-02.Learnt κs a s f
     → (r ≡ s) × (e.0.now ≡ f.0.now)
 one-read-02 κs a e f r s h k = (h.0 ∙ sym k.0, h.1 ∙ sym k.1)
 
 -- layouts
 pub one-held-to : (κs : Lfts 0) (a : _) (e f : _) (r s : Version) → held_to.Learnt κs a r e → held_to.Learnt κs a s f → r ≡ s
-one-held-to κs a e f r s h k = h ∙ sym k
+one-held-to κs a e f r s h k = version_one r s (h ∙ sym k)
+
+pub one-Version-layouts : (κs : Lfts 0) (a : _) (e f : _) (r s : Layouts) → Version-layouts.Learnt κs a r e
+    → Version-layouts.Learnt κs a s f → r ≡ s
+one-Version-layouts κs a e f r s h k = h ∙ sym k
 
 -- writing: the page is lent
-pub one-write : (κs : Lfts 1) (a : _) (e f : _) (r s : Saved) → write.Learnt κs a r e → write.Learnt κs a s f
+pub one-room-check : (κs : Lfts 1) (a : _) (e f : _) (r s : Checked) → room-check.Learnt κs a r e → room-check.Learnt κs a s f
+    → (r ≡ s) × (e.0.now ≡ f.0.now)
+one-room-check κs a e f r s h k = (h.0 ∙ sym k.0, h.1 ∙ sym k.1)
+
+pub one-write : (κs : Lfts 1) (a : _) (e f : _) (r s : Result ℕ Refusal) → write.Learnt κs a r e → write.Learnt κs a s f
     → (r ≡ s) × (e.1.1.0.now ≡ f.1.1.0.now)
 one-write κs a e f r s h k = (h.0 ∙ sym k.0, h.1 ∙ sym k.1)
 
-pub one-write-02 : (κs : Lfts 1) (a : _) (e f : _) (r s : Saved) → write-02.Learnt κs a r e → write-02.Learnt κs a s f
+pub one-write-02 : (κs : Lfts 1) (a : _) (e f : _) (r s : Result ℕ Refusal) → write-02.Learnt κs a r e → write-02.Learnt κs a s f
     → (r ≡ s) × (e.1.1.0.now ≡ f.1.1.0.now)
 one-write-02 κs a e f r s h k = (h.0 ∙ sym k.0, h.1 ∙ sym k.1)
 
-pub one-write-01 : (κs : Lfts 1) (a : _) (e f : _) (r s : Saved) → write-01.Learnt κs a r e → write-01.Learnt κs a s f
+pub one-write-01 : (κs : Lfts 1) (a : _) (e f : _) (r s : Result ℕ Refusal) → write-01.Learnt κs a r e → write-01.Learnt κs a s f
     → (r ≡ s) × (e.1.1.0.now ≡ f.1.1.0.now)
 one-write-01 κs a e f r s h k = (h.0 ∙ sym k.0, h.1 ∙ sym k.1)
 
 -- turning: the text and the page are lent
-pub one-to-02 : (κs : Lfts 2) (a : _) (e f : _) (r s : Saved) → to-02.Learnt κs a r e → to-02.Learnt κs a s f
+pub one-to-02 : (κs : Lfts 2) (a : _) (e f : _) (r s : Result ℕ Refusal) → to-02.Learnt κs a r e → to-02.Learnt κs a s f
     → (r ≡ s) × (e.1.0.now ≡ f.1.0.now) × (e.0.now ≡ f.0.now)
 one-to-02 κs a e f r s h k = (h.0 ∙ sym k.0, h.1.0 ∙ sym k.1.0, h.1.1 ∙ sym k.1.1)
 
-pub one-to-01 : (κs : Lfts 2) (a : _) (e f : _) (r s : Saved) → to-01.Learnt κs a r e → to-01.Learnt κs a s f
+pub one-to-01 : (κs : Lfts 2) (a : _) (e f : _) (r s : Result ℕ Refusal) → to-01.Learnt κs a r e → to-01.Learnt κs a s f
     → (r ≡ s) × (e.1.0.now ≡ f.1.0.now) × (e.0.now ≡ f.0.now)
 one-to-01 κs a e f r s h k = (h.0 ∙ sym k.0, h.1.0 ∙ sym k.1.0, h.1.1 ∙ sym k.1.1)
 
 -- missed: the same are lent
-pub one-miss : (κs : Lfts 2) (a : _) (e f : _) (r s : Missed) → miss.Learnt κs a r e → miss.Learnt κs a s f
+pub one-miss : (κs : Lfts 2) (a : _) (e f : _) (r s : Result Missed Refusal) → miss.Learnt κs a r e → miss.Learnt κs a s f
     → (r ≡ s) × (e.1.0.now ≡ f.1.0.now) × (e.0.now ≡ f.0.now)
 one-miss κs a e f r s h k = (h.0 ∙ sym k.0, h.1.0 ∙ sym k.1.0, h.1.1 ∙ sym k.1.1)
 
 -- assigning: the same are lent
-pub one-assign : (κs : Lfts 2) (a : _) (e f : _) (r s : Assigned) → assign.Learnt κs a r e → assign.Learnt κs a s f
+pub one-assign : (κs : Lfts 2) (a : _) (e f : _) (r s : Result (Option ℕ) Refusal) → assign.Learnt κs a r e → assign.Learnt κs a s f
     → (r ≡ s) × (e.1.0.now ≡ f.1.0.now) × (e.0.now ≡ f.0.now)
 one-assign κs a e f r s h k = (h.0 ∙ sym k.0, h.1.0 ∙ sym k.1.0, h.1.1 ∙ sym k.1.1)
 
@@ -358,37 +408,41 @@ one-assign κs a e f r s h k = (h.0 ∙ sym k.0, h.1.0 ∙ sym k.1.0, h.1.1 ∙ 
 pub one-with-set : (κs : Lfts 0) (a : _) (e f : _) (r s : Plan) → with-set.Learnt κs a r e → with-set.Learnt κs a s f → r ≡ s
 one-with-set κs a e f r s h k = h ∙ sym k
 
-pub one-verdict : (κs : Lfts 0) (a : _) (e f : _) (r s : AskedVerdict) → verdict.Learnt κs a r e → verdict.Learnt κs a s f → r ≡ s
+pub one-verdict : (κs : Lfts 0) (a : _) (e f : _) (r s : Result Verdict Refusal) → verdict.Learnt κs a r e → verdict.Learnt κs a s f → r ≡ s
 one-verdict κs a e f r s h k = h ∙ sym k
 
-pub one-verdict-with : (κs : Lfts 0) (a : _) (e f : _) (r s : AskedVerdict) → verdict-with.Learnt κs a r e → verdict-with.Learnt κs a s f
+pub one-verdict-with : (κs : Lfts 0) (a : _) (e f : _) (r s : Result Verdict Refusal) → verdict-with.Learnt κs a r e
+    → verdict-with.Learnt κs a s f
     → r ≡ s
 one-verdict-with κs a e f r s h k = h ∙ sym k
 
-pub one-quick : (κs : Lfts 0) (a : _) (e f : _) (r s : AskedVerdict) → quick.Learnt κs a r e → quick.Learnt κs a s f → r ≡ s
+pub one-quick : (κs : Lfts 0) (a : _) (e f : _) (r s : Result Verdict Refusal) → quick.Learnt κs a r e → quick.Learnt κs a s f → r ≡ s
 one-quick κs a e f r s h k = h ∙ sym k
 
-pub one-quick-with : (κs : Lfts 0) (a : _) (e f : _) (r s : AskedVerdict) → quick-with.Learnt κs a r e → quick-with.Learnt κs a s f → r ≡ s
+pub one-quick-with : (κs : Lfts 0) (a : _) (e f : _) (r s : Result Verdict Refusal) → quick-with.Learnt κs a r e
+    → quick-with.Learnt κs a s f → r ≡ s
 one-quick-with κs a e f r s h k = h ∙ sym k
 
-pub one-first-break : (κs : Lfts 0) (a : _) (e f : _) (r s : AskedBroken) → first-break.Learnt κs a r e → first-break.Learnt κs a s f
+pub one-first-break : (κs : Lfts 0) (a : _) (e f : _) (r s : Result FirstBroken Refusal) → first-break.Learnt κs a r e
+    → first-break.Learnt κs a s f
     → r ≡ s
 one-first-break κs a e f r s h k = h ∙ sym k
 
 pub one-breaks : (κs : Lfts 0) (a : _) (e f : _) (r s : Bool) → breaks.Learnt κs a r e → breaks.Learnt κs a s f → r ≡ s
 one-breaks κs a e f r s h k = h ∙ sym k
 
-pub one-search : (κs : Lfts 0) (a : _) (e f : _) (r s : AskedAssign) → search-takers.Learnt κs a r e → search-takers.Learnt κs a s f → r ≡ s
+pub one-search : (κs : Lfts 0) (a : _) (e f : _) (r s : Result Assign Refusal) → search-takers.Learnt κs a r e
+    → search-takers.Learnt κs a s f → r ≡ s
 one-search κs a e f r s h k = h ∙ sym k
 
-pub one-figures : (κs : Lfts 0) (a : _) (e f : _) (r s : Figures) → figures.Learnt κs a r e → figures.Learnt κs a s f → r ≡ s
+pub one-figures : (κs : Lfts 0) (a : _) (e f : _) (r s : Result Figures Refusal) → figures.Learnt κs a r e → figures.Learnt κs a s f → r ≡ s
 one-figures κs a e f r s h k = h ∙ sym k
 
 -- run
-pub one-run : (κs : Lfts 0) (a : _) (e f : _) (r s : AskedOutcome) → run.Learnt κs a r e → run.Learnt κs a s f → r ≡ s
+pub one-run : (κs : Lfts 0) (a : _) (e f : _) (r s : Result Outcome Refusal) → run.Learnt κs a r e → run.Learnt κs a s f → r ≡ s
 one-run κs a e f r s h k = h ∙ sym k
 
-pub one-stints : (κs : Lfts 1) (a : _) (e f : _) (r s : Stinted) → stints.Learnt κs a r e → stints.Learnt κs a s f
+pub one-stints : (κs : Lfts 1) (a : _) (e f : _) (r s : Result ℕ Refusal) → stints.Learnt κs a r e → stints.Learnt κs a s f
     → (r ≡ s) × (e.1.1.0.now ≡ f.1.1.0.now)
 one-stints κs a e f r s h k = (h.0 ∙ sym k.0, h.1 ∙ sym k.1)
 
@@ -397,189 +451,190 @@ pub one-stint-at : (κs : Lfts 1) (a : _) (e f : _) (r s : Stint) → stint-at.L
 one-stint-at κs a e f r s h k = (h.0 ∙ sym k.0, h.1 ∙ sym k.1)
 
 -- tries
-pub one-releases-that-miss : (κs : Lfts 0) (a : _) (e f : _) (r s : Shown) → releases-that-miss.Learnt κs a r e
+pub one-releases-that-miss : (κs : Lfts 0) (a : _) (e f : _) (r s : Result Missing Refusal) → releases-that-miss.Learnt κs a r e
     → releases-that-miss.Learnt κs a s f → r ≡ s
 one-releases-that-miss κs a e f r s h k = h ∙ sym k
 
 -- lines
 pub one_written : (κs : Lfts 0) (a : _) (e f : _) (r s : Page) → written.Learnt κs a r e → written.Learnt κs a s f → r ≡ s
-one_written κs a e f r s h k = h.0 ∙ sym k.0
+one_written κs a e f r s h k = h ∙ sym k
 
 pub one-verdict-written : (κs : Lfts 0) (a : _) (e f : _) (r s : Page) → verdict-written.Learnt κs a r e → verdict-written.Learnt κs a s f
     → r ≡ s
-one-verdict-written κs a e f r s h k = h.0 ∙ sym k.0
+one-verdict-written κs a e f r s h k = h ∙ sym k
 
 pub one-run-written : (κs : Lfts 0) (a : _) (e f : _) (r s : Page) → run-written.Learnt κs a r e → run-written.Learnt κs a s f → r ≡ s
-one-run-written κs a e f r s h k = h.0 ∙ sym k.0
+one-run-written κs a e f r s h k = h ∙ sym k
 
 pub one-date-line : (κs : Lfts 1) (a : _) (e f : _) (r s : Page) → date-line.Learnt κs a r e → date-line.Learnt κs a s f
     → (r ≡ s) × (e.0.now ≡ f.0.now)
-one-date-line κs a e f r s h k = (h.0 ∙ sym k.0, h.1.1 ∙ sym k.1.1)
+one-date-line κs a e f r s h k = (h.0 ∙ sym k.0, h.1 ∙ sym k.1)
 
 pub one-day-line : (κs : Lfts 0) (a : _) (e f : _) (r s : Page) → day-line.Learnt κs a r e → day-line.Learnt κs a s f → r ≡ s
-one-day-line κs a e f r s h k = h.0 ∙ sym k.0
+one-day-line κs a e f r s h k = h ∙ sym k
 
 pub one-blank : (κs : Lfts 0) (a : _) (e f : _) (r s : Page) → blank.Learnt κs a r e → blank.Learnt κs a s f → r ≡ s
-one-blank κs a e f r s h k = h ∙ sym k
+one-blank κs a e f r s h k = h.0 ∙ sym k.0
 
 pub one-put-text : (κs : Lfts 2) (a : _) (e f : _) (r s : ℕ) → put-text.Learnt κs a r e → put-text.Learnt κs a s f
     → (r ≡ s) × (e.1.0.now ≡ f.1.0.now) × (e.0.now ≡ f.0.now)
 one-put-text κs a e f r s h k = (h.0 ∙ sym k.0, h.1.0 ∙ sym k.1.0, h.1.1 ∙ sym k.1.1)
 
 pub one-row-line : (κs : Lfts 0) (a : _) (e f : _) (r s : Page) → row_line.Learnt κs a r e → row_line.Learnt κs a s f → r ≡ s
-one-row-line κs a e f r s h k = h.0 ∙ sym k.0
+one-row-line κs a e f r s h k = h ∙ sym k
 
 pub one-plan-line : (κs : Lfts 0) (a : _) (e f : _) (r s : Page) → plan-line.Learnt κs a r e → plan-line.Learnt κs a s f → r ≡ s
-one-plan-line κs a e f r s h k = h.0 ∙ sym k.0
+one-plan-line κs a e f r s h k = h ∙ sym k
 
 pub one-string-line : (κs : Lfts 0) (a : _) (e f : _) (r s : Page) → string-line.Learnt κs a r e → string-line.Learnt κs a s f → r ≡ s
-one-string-line κs a e f r s h k = h.0 ∙ sym k.0
+one-string-line κs a e f r s h k = h ∙ sym k
 
 pub one-set-line : (κs : Lfts 0) (a : _) (e f : _) (r s : Page) → set_line.Learnt κs a r e → set_line.Learnt κs a s f → r ≡ s
-one-set-line κs a e f r s h k = h.0 ∙ sym k.0
+one-set-line κs a e f r s h k = h ∙ sym k
 
 pub one-day-row : (κs : Lfts 0) (a : _) (e f : _) (r s : Page) → day-row.Learnt κs a r e → day-row.Learnt κs a s f → r ≡ s
-one-day-row κs a e f r s h k = h.0 ∙ sym k.0
+one-day-row κs a e f r s h k = h ∙ sym k
 
 pub one-bar-row : (κs : Lfts 0) (a : _) (e f : _) (r s : Page) → bar-row.Learnt κs a r e → bar-row.Learnt κs a s f → r ≡ s
-one-bar-row κs a e f r s h k = h.0 ∙ sym k.0
+one-bar-row κs a e f r s h k = h ∙ sym k
 
 pub one-marks-line : (κs : Lfts 0) (a : _) (e f : _) (r s : Page) → marks-line.Learnt κs a r e → marks-line.Learnt κs a s f → r ≡ s
-one-marks-line κs a e f r s h k = h.0 ∙ sym k.0
+one-marks-line κs a e f r s h k = h ∙ sym k
 
 pub one-idle-line : (κs : Lfts 0) (a : _) (e f : _) (r s : Page) → idle-line.Learnt κs a r e → idle-line.Learnt κs a s f → r ≡ s
-one-idle-line κs a e f r s h k = h.0 ∙ sym k.0
+one-idle-line κs a e f r s h k = h ∙ sym k
 
 pub one-cut-line : (κs : Lfts 0) (a : _) (e f : _) (r s : Page) → cut-line.Learnt κs a r e → cut-line.Learnt κs a s f → r ≡ s
-one-cut-line κs a e f r s h k = h.0 ∙ sym k.0
+one-cut-line κs a e f r s h k = h ∙ sym k
 
 pub one-stint-line : (κs : Lfts 0) (a : _) (e f : _) (r s : Page) → stint-line.Learnt κs a r e → stint-line.Learnt κs a s f → r ≡ s
-one-stint-line κs a e f r s h k = h.0 ∙ sym k.0
+one-stint-line κs a e f r s h k = h ∙ sym k
 
 pub one-load-line : (κs : Lfts 0) (a : _) (e f : _) (r s : Page) → load-line.Learnt κs a r e → load-line.Learnt κs a s f → r ≡ s
-one-load-line κs a e f r s h k = h.0 ∙ sym k.0
+one-load-line κs a e f r s h k = h ∙ sym k
 
 pub one-release-line : (κs : Lfts 0) (a : _) (e f : _) (r s : Page) → release-line.Learnt κs a r e → release-line.Learnt κs a s f → r ≡ s
-one-release-line κs a e f r s h k = h.0 ∙ sym k.0
+one-release-line κs a e f r s h k = h ∙ sym k
 
 pub one-same-line : (κs : Lfts 0) (a : _) (e f : _) (r s : Page) → same_line.Learnt κs a r e → same_line.Learnt κs a s f → r ≡ s
-one-same-line κs a e f r s h k = h.0 ∙ sym k.0
+one-same-line κs a e f r s h k = h ∙ sym k
 
 pub one-alone-line : (κs : Lfts 0) (a : _) (e f : _) (r s : Page) → alone-line.Learnt κs a r e → alone-line.Learnt κs a s f → r ≡ s
-one-alone-line κs a e f r s h k = h.0 ∙ sym k.0
+one-alone-line κs a e f r s h k = h ∙ sym k
 
 pub one-counts-line : (κs : Lfts 0) (a : _) (e f : _) (r s : Page) → counts-line.Learnt κs a r e → counts-line.Learnt κs a s f → r ≡ s
-one-counts-line κs a e f r s h k = h.0 ∙ sym k.0
+one-counts-line κs a e f r s h k = h ∙ sym k
 
 -- matching
 pub one-same-strings : (κs : Lfts 0) (a : _) (e f : _) (r s : Matched) → same-strings.Learnt κs a r e → same-strings.Learnt κs a s f → r ≡ s
 one-same-strings κs a e f r s h k = h ∙ sym k
 
 pub one-matched-line : (κs : Lfts 0) (a : _) (e f : _) (r s : Page) → matched-line.Learnt κs a r e → matched-line.Learnt κs a s f → r ≡ s
-one-matched-line κs a e f r s h k = h.0 ∙ sym k.0
+one-matched-line κs a e f r s h k = h ∙ sym k
 
 -- showing
 pub one-plan-shown : (κs : Lfts 0) (a : _) (e f : _) (r s : Page) → plan-shown.Learnt κs a r e → plan-shown.Learnt κs a s f → r ≡ s
-one-plan-shown κs a e f r s h k = h.0 ∙ sym k.0
+one-plan-shown κs a e f r s h k = h ∙ sym k
 
 pub one-string-shown : (κs : Lfts 0) (a : _) (e f : _) (r s : Page) → string-shown.Learnt κs a r e → string-shown.Learnt κs a s f → r ≡ s
-one-string-shown κs a e f r s h k = h.0 ∙ sym k.0
+one-string-shown κs a e f r s h k = h ∙ sym k
 
 pub one-limits-line : (κs : Lfts 0) (a : _) (e f : _) (r s : Page) → limits-line.Learnt κs a r e → limits-line.Learnt κs a s f → r ≡ s
-one-limits-line κs a e f r s h k = h.0 ∙ sym k.0
+one-limits-line κs a e f r s h k = h ∙ sym k
 
-pub one-limit-at : (κs : Lfts 0) (a : _) (e f : _) (r s : AskedLimit) → limit-at.Learnt κs a r e → limit-at.Learnt κs a s f → r ≡ s
+pub one-limit-at : (κs : Lfts 0) (a : _) (e f : _) (r s : Result Limit Refusal) → limit-at.Learnt κs a r e → limit-at.Learnt κs a s f → r
+    ≡ s
 one-limit-at κs a e f r s h k = h ∙ sym k
 
 pub one-limits-shown : (κs : Lfts 0) (a : _) (e f : _) (r s : Page) → limits-shown.Learnt κs a r e → limits-shown.Learnt κs a s f → r ≡ s
-one-limits-shown κs a e f r s h k = h.0 ∙ sym k.0
+one-limits-shown κs a e f r s h k = h ∙ sym k
 
 pub one-set-shown : (κs : Lfts 0) (a : _) (e f : _) (r s : Page) → set-shown.Learnt κs a r e → set-shown.Learnt κs a s f → r ≡ s
-one-set-shown κs a e f r s h k = h.0 ∙ sym k.0
+one-set-shown κs a e f r s h k = h ∙ sym k
 
 pub one-head-shown : (κs : Lfts 0) (a : _) (e f : _) (r s : Page) → head-shown.Learnt κs a r e → head-shown.Learnt κs a s f → r ≡ s
-one-head-shown κs a e f r s h k = h.0 ∙ sym k.0
+one-head-shown κs a e f r s h k = h ∙ sym k
 
 pub one-row-shown : (κs : Lfts 0) (a : _) (e f : _) (r s : Page) → row-shown.Learnt κs a r e → row-shown.Learnt κs a s f → r ≡ s
-one-row-shown κs a e f r s h k = h.0 ∙ sym k.0
+one-row-shown κs a e f r s h k = h ∙ sym k
 
 pub one-idle-shown : (κs : Lfts 0) (a : _) (e f : _) (r s : Page) → idle-shown.Learnt κs a r e → idle-shown.Learnt κs a s f → r ≡ s
-one-idle-shown κs a e f r s h k = h.0 ∙ sym k.0
+one-idle-shown κs a e f r s h k = h ∙ sym k
 
 pub one-cut-shown : (κs : Lfts 0) (a : _) (e f : _) (r s : Page) → cut-shown.Learnt κs a r e → cut-shown.Learnt κs a s f → r ≡ s
-one-cut-shown κs a e f r s h k = h.0 ∙ sym k.0
+one-cut-shown κs a e f r s h k = h ∙ sym k
 
 pub one-load-shown : (κs : Lfts 0) (a : _) (e f : _) (r s : Page) → load-shown.Learnt κs a r e → load-shown.Learnt κs a s f → r ≡ s
-one-load-shown κs a e f r s h k = h.0 ∙ sym k.0
+one-load-shown κs a e f r s h k = h ∙ sym k
 
 pub one-release-shown : (κs : Lfts 0) (a : _) (e f : _) (r s : Page) → release-shown.Learnt κs a r e → release-shown.Learnt κs a s f → r ≡ s
-one-release-shown κs a e f r s h k = h.0 ∙ sym k.0
+one-release-shown κs a e f r s h k = h ∙ sym k
 
 -- a refusal by name
 pub one-reason-line : (κs : Lfts 0) (a : _) (e f : _) (r s : Page) → reason-line.Learnt κs a r e → reason-line.Learnt κs a s f → r ≡ s
-one-reason-line κs a e f r s h k = h.0 ∙ sym k.0
+one-reason-line κs a e f r s h k = h ∙ sym k
 
 pub one-refusal-line : (κs : Lfts 1) (a : _) (e f : _) (r s : Page) → refusal-line.Learnt κs a r e → refusal-line.Learnt κs a s f
     → (r ≡ s) × (e.0.now ≡ f.0.now)
-one-refusal-line κs a e f r s h k = (h.0 ∙ sym k.0, h.1.1 ∙ sym k.1.1)
+one-refusal-line κs a e f r s h k = (h.0 ∙ sym k.0, h.1 ∙ sym k.1)
 
 -- lines of a verdict explained, and why
-pub one-named : (κs : Lfts 0) (a : _) (e f : _) (r s : Subject) → named.Learnt κs a r e → named.Learnt κs a s f → r ≡ s
+pub one-named : (κs : Lfts 0) (a : _) (e f : _) (r s : Result Subject Refusal) → named.Learnt κs a r e → named.Learnt κs a s f → r ≡ s
 one-named κs a e f r s h k = h ∙ sym k
 
 pub one-last-interval : (κs : Lfts 0) (a : _) (e f : _) (r s : ℕ) → last-interval.Learnt κs a r e → last-interval.Learnt κs a s f → r ≡ s
 one-last-interval κs a e f r s h k = h ∙ sym k
 
 pub one-blocker-shown : (κs : Lfts 0) (a : _) (e f : _) (r s : Page) → blocker-shown.Learnt κs a r e → blocker-shown.Learnt κs a s f → r ≡ s
-one-blocker-shown κs a e f r s h k = h.0 ∙ sym k.0
+one-blocker-shown κs a e f r s h k = h ∙ sym k
 
 pub one-share-shown : (κs : Lfts 0) (a : _) (e f : _) (r s : Page) → share-shown.Learnt κs a r e → share-shown.Learnt κs a s f → r ≡ s
-one-share-shown κs a e f r s h k = h.0 ∙ sym k.0
+one-share-shown κs a e f r s h k = h ∙ sym k
 
 pub one-demand-shown : (κs : Lfts 0) (a : _) (e f : _) (r s : Page) → demand-shown.Learnt κs a r e → demand-shown.Learnt κs a s f → r ≡ s
-one-demand-shown κs a e f r s h k = h.0 ∙ sym k.0
+one-demand-shown κs a e f r s h k = h ∙ sym k
 
 pub one-stair-shown : (κs : Lfts 0) (a : _) (e f : _) (r s : Page) → stair-shown.Learnt κs a r e → stair-shown.Learnt κs a s f → r ≡ s
-one-stair-shown κs a e f r s h k = h.0 ∙ sym k.0
+one-stair-shown κs a e f r s h k = h ∙ sym k
 
 pub one-stretch-shown : (κs : Lfts 0) (a : _) (e f : _) (r s : Page) → stretch-shown.Learnt κs a r e → stretch-shown.Learnt κs a s f → r ≡ s
-one-stretch-shown κs a e f r s h k = h.0 ∙ sym k.0
+one-stretch-shown κs a e f r s h k = h ∙ sym k
 
 pub one-nowhere-shown : (κs : Lfts 0) (a : _) (e f : _) (r s : Page) → nowhere-shown.Learnt κs a r e → nowhere-shown.Learnt κs a s f → r ≡ s
-one-nowhere-shown κs a e f r s h k = h.0 ∙ sym k.0
+one-nowhere-shown κs a e f r s h k = h ∙ sym k
 
 pub one-pair-line : (κs : Lfts 0) (a : _) (e f : _) (r s : Page) → pair_line.Learnt κs a r e → pair_line.Learnt κs a s f → r ≡ s
-one-pair-line κs a e f r s h k = h.0 ∙ sym k.0
+one-pair-line κs a e f r s h k = h ∙ sym k
 
 pub one-blocker-line : (κs : Lfts 0) (a : _) (e f : _) (r s : Page) → blocker-line.Learnt κs a r e → blocker-line.Learnt κs a s f → r ≡ s
-one-blocker-line κs a e f r s h k = h.0 ∙ sym k.0
+one-blocker-line κs a e f r s h k = h ∙ sym k
 
 pub one-blocking-line : (κs : Lfts 0) (a : _) (e f : _) (r s : Page) → blocking-line.Learnt κs a r e → blocking-line.Learnt κs a s f → r ≡ s
-one-blocking-line κs a e f r s h k = h.0 ∙ sym k.0
+one-blocking-line κs a e f r s h k = h ∙ sym k
 
 pub one-share-line : (κs : Lfts 0) (a : _) (e f : _) (r s : Page) → share-line.Learnt κs a r e → share-line.Learnt κs a s f → r ≡ s
-one-share-line κs a e f r s h k = h.0 ∙ sym k.0
+one-share-line κs a e f r s h k = h ∙ sym k
 
 pub one-demand-line : (κs : Lfts 0) (a : _) (e f : _) (r s : Page) → demand-line.Learnt κs a r e → demand-line.Learnt κs a s f → r ≡ s
-one-demand-line κs a e f r s h k = h.0 ∙ sym k.0
+one-demand-line κs a e f r s h k = h ∙ sym k
 
 pub one-multiple-line : (κs : Lfts 0) (a : _) (e f : _) (r s : Page) → multiple-line.Learnt κs a r e → multiple-line.Learnt κs a s f → r ≡ s
-one-multiple-line κs a e f r s h k = h.0 ∙ sym k.0
+one-multiple-line κs a e f r s h k = h ∙ sym k
 
 pub one-over-line : (κs : Lfts 0) (a : _) (e f : _) (r s : Page) → over-line.Learnt κs a r e → over-line.Learnt κs a s f → r ≡ s
-one-over-line κs a e f r s h k = h.0 ∙ sym k.0
+one-over-line κs a e f r s h k = h ∙ sym k
 
 pub one-stair-line : (κs : Lfts 0) (a : _) (e f : _) (r s : Page) → stair-line.Learnt κs a r e → stair-line.Learnt κs a s f → r ≡ s
-one-stair-line κs a e f r s h k = h.0 ∙ sym k.0
+one-stair-line κs a e f r s h k = h ∙ sym k
 
 pub one-stretch-line : (κs : Lfts 0) (a : _) (e f : _) (r s : Page) → stretch-line.Learnt κs a r e → stretch-line.Learnt κs a s f → r ≡ s
-one-stretch-line κs a e f r s h k = h.0 ∙ sym k.0
+one-stretch-line κs a e f r s h k = h ∙ sym k
 
 pub one-nowhere-line : (κs : Lfts 0) (a : _) (e f : _) (r s : Page) → nowhere-line.Learnt κs a r e → nowhere-line.Learnt κs a s f → r ≡ s
-one-nowhere-line κs a e f r s h k = h.0 ∙ sym k.0
+one-nowhere-line κs a e f r s h k = h ∙ sym k
 
 -- answers
-pub one_answer : (κs : Lfts 1) (a : _) (e f : _) (r s : Answer) → answer.Learnt κs a r e → answer.Learnt κs a s f
+pub one_answer : (κs : Lfts 1) (a : _) (e f : _) (r s : Result Answers Refusal) → answer.Learnt κs a r e → answer.Learnt κs a s f
     → (r ≡ s) × (e.0.now ≡ f.0.now)
 one_answer κs a e f r s h k = (h.0 ∙ sym k.0, h.1 ∙ sym k.1)
 
@@ -600,28 +655,28 @@ pub one-moved : (reader : Export) (at : ℕ) (r s : Export) → (r.text ≡ read
     → (s.text ≡ reader.text) × (s.at ≡ at) → r ≡ s
 one-moved reader at r s h k = one-opened reader.text at r s h k
 
-pub one-register : (κs : Lfts 1) (a : _) (e f : _) (r s : Reading) → register.Learnt κs a r e → register.Learnt κs a s f
+pub one-register : (κs : Lfts 1) (a : _) (e f : _) (r s : Result PlanFile Refusal) → register.Learnt κs a r e → register.Learnt κs a s f
     → (r ≡ s) × (e.0.now ≡ f.0.now)
 one-register κs a e f r s h k = (h.0 ∙ sym k.0, h.1 ∙ sym k.1)
 
-pub one_table : (κs : Lfts 1) (a : _) (e f : _) (r s : Saved) → table.Learnt κs a r e → table.Learnt κs a s f
+pub one_table : (κs : Lfts 1) (a : _) (e f : _) (r s : Result ℕ Refusal) → table.Learnt κs a r e → table.Learnt κs a s f
     → (r ≡ s) × (e.1.1.0.now ≡ f.1.1.0.now)
 one_table κs a e f r s h k = (h.0 ∙ sym k.0, h.1 ∙ sym k.1)
 
 -- the board
 pub one-used-line : (κs : Lfts 0) (a : _) (e f : _) (r s : Page) → used-line.Learnt κs a r e → used-line.Learnt κs a s f → r ≡ s
-one-used-line κs a e f r s h k = h.0 ∙ sym k.0
+one-used-line κs a e f r s h k = h ∙ sym k
 
 pub one-missed-line : (κs : Lfts 0) (a : _) (e f : _) (r s : Page) → missed-line.Learnt κs a r e → missed-line.Learnt κs a s f → r ≡ s
-one-missed-line κs a e f r s h k = h.0 ∙ sym k.0
+one-missed-line κs a e f r s h k = h ∙ sym k
 
 pub one-number-line : (κs : Lfts 0) (a : _) (e f : _) (r s : Page) → number-line.Learnt κs a r e → number-line.Learnt κs a s f → r ≡ s
-one-number-line κs a e f r s h k = h.0 ∙ sym k.0
+one-number-line κs a e f r s h k = h ∙ sym k
 
 pub one-visit-line : (κs : Lfts 0) (a : _) (e f : _) (r s : Page) → visit-line.Learnt κs a r e → visit-line.Learnt κs a s f → r ≡ s
-one-visit-line κs a e f r s h k = h.0 ∙ sym k.0
+one-visit-line κs a e f r s h k = h ∙ sym k
 
-pub one-three-at : (κs : Lfts 1) (a : _) (e f : _) (r s : LineRead) → three-at.Learnt κs a r e → three-at.Learnt κs a s f
+pub one-three-at : (κs : Lfts 1) (a : _) (e f : _) (r s : LineRead (List ℕ)) → three-at.Learnt κs a r e → three-at.Learnt κs a s f
     → (r ≡ s) × (e.0.now ≡ f.0.now)
 one-three-at κs a e f r s h k = (h.0 ∙ sym k.0, h.1 ∙ sym k.1)
 
@@ -631,7 +686,8 @@ pub one-check-visits : (p : Plan) (rs : Releases) (vs xs ys : List Visit) (r s :
     → (s ≡ visits_check p rs vs) × (ys ≡ vs) → (r ≡ s) × (xs ≡ ys)
 one-check-visits p rs vs xs ys r s h k = (h.0 ∙ sym k.0, h.1 ∙ sym k.1)
 
-pub one-own-visits : (κs : Lfts 0) (a : _) (e f : _) (r s : OwnVisits) → own-visits.Learnt κs a r e → own-visits.Learnt κs a s f → r ≡ s
+pub one-own-visits : (κs : Lfts 0) (a : _) (e f : _) (r s : Result OwnVisits Refusal) → own-visits.Learnt κs a r e
+    → own-visits.Learnt κs a s f → r ≡ s
 one-own-visits κs a e f r s h k = h ∙ sym k
 
 pub one-check-visit-text : (κs : Lfts 1) (a : _) (e f : _) (r s : Checked) → check-visit-text.Learnt κs a r e
@@ -642,11 +698,12 @@ pub one-check-visit-files : (κs : Lfts 2) (a : _) (e f : _) (r s : Checked) →
     → check-visit-files.Learnt κs a s f → (r ≡ s) × (e.0.now ≡ f.0.now) × (e.1.0.now ≡ f.1.0.now)
 one-check-visit-files κs a e f r s h k = (h.0 ∙ sym k.0, h.1.0 ∙ sym k.1.0, h.1.1 ∙ sym k.1.1)
 
-pub one-input-read : (κs : Lfts 1) (a : _) (e f : _) (r s : Input) → input-read.Learnt κs a r e → input-read.Learnt κs a s f
+pub one-input-read : (κs : Lfts 1) (a : _) (e f : _) (r s : Result CrewInput Refusal) → input-read.Learnt κs a r e
+    → input-read.Learnt κs a s f
     → (r ≡ s) × (e.0.now ≡ f.0.now)
 one-input-read κs a e f r s h k = (h.0 ∙ sym k.0, h.1 ∙ sym k.1)
 
-pub one-board-read : (κs : Lfts 3) (a : _) (e f : _) (r s : Board) → board-read.Learnt κs a r e → board-read.Learnt κs a s f
+pub one-board-read : (κs : Lfts 3) (a : _) (e f : _) (r s : Result Board Refusal) → board-read.Learnt κs a r e → board-read.Learnt κs a s f
     → (r ≡ s) × (e.1.1.0.now ≡ f.1.1.0.now) × (e.0.now ≡ f.0.now) × (e.1.0.now ≡ f.1.0.now)
 one-board-read κs a e f r s h k =
     (h.0 ∙ sym k.0, h.1.0 ∙ sym k.1.0, h.1.1.0 ∙ sym k.1.1.0, h.1.1.1 ∙ sym k.1.1.1)

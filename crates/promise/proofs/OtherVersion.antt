@@ -1,18 +1,21 @@
 -- A reader of one version gives 3 at line 1 exactly for a text whose first line is no header of that version, and so for the lawful
 -- files of every other version.
 use Rattle.base.proofs.Prelude.{ℕ, ◌≤◌, ◌≡◌, refl, sym, ap, ◌∙◌, ◌↔◌, Bool, true, false, not, ◌&&◌, List, [], ◌∷◌, arith, ltb-false, le-ltb, eqb-true, ne_eqb, ltb, eqb, length}
+use Rattle.faults.specs.Checks.{Lawful, Checked}
+use Rattle.std.specs.Prelude.{Ok, Err}
 use Rattle.base.proofs.Lists.{true-not-false}
-use Rattle.faults.specs.{declared.Fault.TheVariants.{TextTooLong, LineMalformed, FrameWrong}, declared.Checked.Checked, declared.Checked.TheVariants.{Lawful, Refused}, Checks.{fault_number, then, refuse_if}}
+use Rattle.faults.specs.declared.Fault.TheVariants.{TextTooLong, LineMalformed, FrameWrong}
+use Rattle.faults.specs.Checks.{fault_number, then, refuse_if}
 use Rattle.faults.proofs.{Checks.{refused-not-lawful, then-first, then-second, refuse_if-not}, Refusing.{Refusals, refusals-then, refusals-if}}
 use Rattle.rules.specs.{Layout.{Version, frame_size, kind_in, version_in, field_among, field_in, header_frame, version01, version02, version03, Number}, Refusal.{head_check, cost_check}, Text.{Line, lines_of, well_formed, frame_of, field_of, n_in, run_in, a_in, plan_in, frame_check, layout_check, version_check, header_check, body_check, lines_check, text_check, reading_in}, Said.{refused, checked_says}}
 use Rattle.laws.proofs.{Versions.lines-checked, RefusedBy.{Never, Behind, lawful-no-refusal, second-says, body-behind, numbers-behind, reading-is-checked}}
 use Rattle.promise.specs.OtherVersion.{headed, NoHeader}
 
 not_three : (c : Checked) → Refusals Behind c → checked_says c ≡ refused 3 1 → ⊥
-not_three Lawful h says = lawful-no-refusal 3 1 says
-not_three (Refused f at) h says =
-    let number : fault_number f ≡ 3 = cc in
-    let place : at ≡ 1 = cc in
+not_three (Ok _) h says = lawful-no-refusal 3 1 says
+not_three (Err e) h says =
+    let number : fault_number e.fault ≡ 3 = cc in
+    let place : e.at ≡ 1 = cc in
     let behind = h.1 number in
     omega arith
 

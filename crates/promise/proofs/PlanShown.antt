@@ -1,8 +1,8 @@
 -- A plan shown: the lines that the code gave for the plan, for each place and for each release, put together, are the whole text.
 use Rattle.base.proofs.Prelude.{ℕ, ◌≡◌, refl, ap, ◌∙◌, List, [], ◌∷◌, ◌++◌}
+use Rattle.faults.specs.Checks.{Lawful}
 use mathlib.Core.List.{flat_map}
 use Rattle.base.specs.Count.{up_from}
-use Rattle.faults.specs.declared.Checked.TheVariants.{Lawful}
 use Rattle.faults.proofs.Checks.{then-first}
 use Rattle.rules.specs.{declared.Plan.Plan, declared.Releases.Releases, Refusal.{plan_check, releases_check, run_check}, Text.reading_of}
 use Rattle.laws.proofs.ReadLawful.{read-lawful}
@@ -36,10 +36,10 @@ module _ (κs : Lfts 0) (p : Plan) (rs : Releases) (head load : Page) (strings r
       ++ flat_map (λ k. text_of (releases k)) (up_from 1 rs.count)
       ≡ shown_text p rs
   shows-whole lawful =
-      let by_place = flat_map-same (λ i. text_of (strings i)) (string_shown p) (λ i. text-is (strings i) _ (placed i).0) (up_from 1 p.n) in
-      let by-list = flat_map-same (λ k. text_of (releases k)) (release_shown rs) (λ k. text-is (releases k) _ (listed k).0)
+      let by_place = flat_map-same (λ i. text_of (strings i)) (string_shown p) (λ i. text-is (strings i) _ (placed i)) (up_from 1 p.n) in
+      let by-list = flat_map-same (λ k. text_of (releases k)) (release_shown rs) (λ k. text-is (releases k) _ (listed k))
       (up_from 1 rs.count) in
-      rw (text-is head _ headed.0, by_place, text-is load _ loaded.0, by-list) (shown-whole p rs lawful)
+      rw (text-is head _ headed, by_place, text-is load _ loaded, by-list) (shown-whole p rs lawful)
 
 -- the plan of a text that is read without a fault is lawful, so it is shown whole
 pub read-plan-lawful : (text : List ℕ) → (reading_of text).checked ≡ Lawful → plan_check (reading_of text).plan ≡ Lawful

@@ -2,19 +2,31 @@
 -- a page keeps every byte where the text is refused.
 --     κs the lifetimes of what is lent; a the arguments; e what holds at the return; r the answer
 use Rattle.base.proofs.Prelude.{ℕ, ◌≤◌, ◌≡◌, refl, sym, ap, ◌∙◌, ◌↔◌, Bool, true, ◌&&◌, List, arith, leb, length}
+use Rattle.faults.specs.Checks.{Refused, Lawful, Checked}
+use Rattle.faults.specs.declared.Refusal.{Refusal}
+use Rattle.std.specs.Prelude.{Ok, Err, Result}
 use Rattle.days.specs.declared.Length.{Length}
-use Rattle.faults.specs.{declared.Fault.TheVariants.{NoRoom, CostsDiffer}, declared.Checked.Checked, declared.Checked.TheVariants.{Lawful, Refused}, Checks.{fault_number, then, refuse_if, or_refused}}
+use Rattle.faults.specs.declared.Fault.TheVariants.{NoRoom, CostsDiffer}
+use Rattle.faults.specs.Checks.{fault_number, then, refuse_if, or_refused}
 use Rattle.faults.proofs.Refusing.{Refusals, refusals-then, refusals-if}
-use Rattle.rules.specs.{declared.Reading.Reading, Layout.{has_field, header_frame, version01, version02, version03, Common}, Refusal.run_check, Text.{lines_of, reading_in, reading_of}, Said.{refused, checked_says, refused_with}, Plan.with_run}
+use Rattle.rules.specs.Text.{lines_of, reading_in, reading_of}
+use Rattle.rules.specs.declared.PlanFile.{PlanFile}
+use Rattle.promise.specs.FileSaid.{file_says}
+use Rattle.promise.proofs.Given.{file-says}
+use Rattle.rules.specs.Layout.{has_field, header_frame, version01, version02, version03, Common}
+use Rattle.rules.specs.Refusal.{run_check}
+use Rattle.rules.specs.declared.Releases.{Releases}
+use Rattle.rules.specs.Said.{refused, checked_says, refused_with}
+use Rattle.rules.specs.Plan.{with_run}
 use Rattle.laws.proofs.RefusedBy.{Numbered, Never, never-above, lawful-no-refusal, if-says, first_says, second-says, run_check-numbers, reading-numbers}
-use Rattle.writing.specs.{declared.Saved.Saved, Saved.{no_room, on_page, saved_text, writable_check, save_check, saved_answer, saved_page, first_other, alike_check}, Said.saved_says}
+use Rattle.writing.specs.Saved.{no_room, on_page, saved_text, writable_check, save_check, saved_answer, saved_page, first_other, alike_check}
+use Rattle.writing.specs.Said.{saved_says}
 use Rattle.turning.specs.Turned.{line_of, turned_text, turn_check, turned_answer, turned_page}
 use Rattle.tries.specs.Tries.{missing_answer}
 use Rattle.missed.specs.{declared.Missed.Missed, Said.missed_says}
 use Rattle.missed.proofs.OfText.{missed-nine}
 use Rattle.promise.specs.OtherVersion.{NoHeader}
 use Rattle.promise.proofs.OtherVersion.{three-exactly, three-of-03}
-use Rattle.writing.specs.declared.Saved.TheVariants as saved
 use Rattle.tries.specs.declared.Missing.TheVariants as missing
 use Rattle.reading.proofs.read_01.Reads as read-01
 use Rattle.reading.proofs.read_02.Reads as read-02
@@ -28,36 +40,36 @@ use contract.Lifetimes.{Lfts}
 -- ---- A text put into a page after its checks
 
 -- what is answered: the refusal, or the length of the text
-abbrev on_saved : Checked → ℕ → Saved
-on_saved c len = or_refused saved.Refused c (saved.Text len)
+abbrev on_saved : Checked → ℕ → Result ℕ Refusal
+on_saved c len = or_refused Refused c (Ok len)
 
 -- a chain of checks is one, wherever its brackets stand
 then-chain : (a b c : Checked) → then (then a b) c ≡ then a (then b c)
-then-chain Lawful b c = refl
-then-chain (Refused f at) b c = refl
+then-chain (Ok _) b c = refl
+then-chain (Err e) b c = refl
 
 saved-says : (c : Checked) (len n k : ℕ) → (saved_says (on_saved c len) ≡ refused_with n k) ↔ (checked_says c ≡ refused n k)
-saved-says Lawful len n k = (
+saved-says (Ok _) len n k = (
   λ h.
       let z : ◌≡◌ {A = ℕ} 0 1 = cc in
       absurd (omega arith),
   λ h. absurd (lawful-no-refusal n k h),
 )
-saved-says (Refused f at) len n k = (
+saved-says (Err e) len n k = (
   λ h.
-      let number : fault_number f ≡ n = cc in
-      let place : at ≡ k = cc in
-      ap (λ m. refused m at) number ∙ ap (refused n) place,
+      let number : fault_number e.fault ≡ n = cc in
+      let place : e.at ≡ k = cc in
+      ap (λ m. refused m e.at) number ∙ ap (refused n) place,
   λ h.
-      let number : fault_number f ≡ n = cc in
-      let place : at ≡ k = cc in
-      ap (λ m. refused_with m at) number ∙ ap (refused_with n) place,
+      let number : fault_number e.fault ≡ n = cc in
+      let place : e.at ≡ k = cc in
+      ap (λ m. refused_with m e.at) number ∙ ap (refused_with n) place,
 )
 
 saved-keeps : (c : Checked) (len n k : ℕ) (page after : List ℕ) → saved_says (on_saved c len) ≡ refused_with n k → on_page c page after
     ≡ page
-saved-keeps Lawful len n k page after h = absurd (lawful-no-refusal n k ((saved-says Lawful len n k).0 h))
-saved-keeps (Refused f at) len n k page after h = refl
+saved-keeps (Ok _) len n k page after h = absurd (lawful-no-refusal n k ((saved-says Lawful len n k).0 h))
+saved-keeps (Err e) len n k page after h = refl
 
 module _ (c : Checked) (low : Refusals (Numbered 8) c) (bad : Bool) (len : ℕ) where
   abbrev room : Checked
@@ -122,7 +134,7 @@ module _ (c : Checked) (low : Refusals (Numbered 8) c) (bad : Bool) (len : ℕ) 
 
 -- ---- What `write` answered: the arguments are the plan, the releases, the page and the place
 
-module _ (κs : Lfts 1) (a : _) (e : _) (r : Saved) (did : write.Learnt κs a r e) where
+module _ (κs : Lfts 1) (a : _) (e : _) (r : Result ℕ Refusal) (did : write.Learnt κs a r e) where
   -- 9 with 0 exactly when the page has too little room for a lawful plan
   pub write-nine : (saved_says r ≡ refused_with 9 0)
       ↔ ((run_check a.0 a.1.0 ≡ Lawful) × (no_room a.1.1.0.now a.1.1.1.0 (saved_text version03 a.0 a.1.0) ≡ true))
@@ -141,7 +153,7 @@ module _ (κs : Lfts 1) (a : _) (e : _) (r : Saved) (did : write.Learnt κs a r 
 
 -- ---- What `write_01` answered, of the same arguments
 
-module _ (κs : Lfts 1) (a : _) (e : _) (r : Saved) (did : write-01.Learnt κs a r e) where
+module _ (κs : Lfts 1) (a : _) (e : _) (r : Result ℕ Refusal) (did : write-01.Learnt κs a r e) where
   -- 12 with a place exactly when the moving costs of a lawful plan differ, the place being the first whose cost is not that of place 1
   pub write-01-twelve : (k : ℕ) → (saved_says r ≡ refused_with 12 k)
       ↔ ((run_check a.0 a.1.0 ≡ Lawful) × (leb (first_other a.0) a.0.n ≡ true) × (first_other a.0 ≡ k))
@@ -177,19 +189,19 @@ module _ (κs : Lfts 1) (a : _) (e : _) (r : Saved) (did : write-01.Learnt κs a
 
 -- ---- What `read_01` and `read_02` answered: the argument is the text
 
-module _ (κs : Lfts 1) (a : _) (e : _) (r : Reading) where
+module _ (κs : Lfts 1) (a : _) (e : _) (r : Result PlanFile Refusal) where
   -- 3 at line 1 exactly when the first line of a text of lawful length is no header of the version
   pub read-01-three : read-01.Learnt κs a r e
-      → (checked_says r.checked ≡ refused 3 1) ↔ ((length a.0.now ≤ 65536) × NoHeader version01 (lines_of a.0.now))
-  read-01-three did = rw did.0 (three-exactly version01 a.0.now)
+      → (file_says r ≡ refused 3 1) ↔ ((length a.0.now ≤ 65536) × NoHeader version01 (lines_of a.0.now))
+  read-01-three did = rw (did.0, file-says (reading_in version01 a.0.now)) (three-exactly version01 a.0.now)
 
   pub read-02-three : read-02.Learnt κs a r e
-      → (checked_says r.checked ≡ refused 3 1) ↔ ((length a.0.now ≤ 65536) × NoHeader version02 (lines_of a.0.now))
-  read-02-three did = rw did.0 (three-exactly version02 a.0.now)
+      → (file_says r ≡ refused 3 1) ↔ ((length a.0.now ≤ 65536) × NoHeader version02 (lines_of a.0.now))
+  read-02-three did = rw (did.0, file-says (reading_in version02 a.0.now)) (three-exactly version02 a.0.now)
 
 -- ---- What `to_02` and `to_01` answered: the arguments are the text, the page and the place
 
-module _ (κs : Lfts 2) (a : _) (e : _) (r : Saved) (did : to-02.Learnt κs a r e) where
+module _ (κs : Lfts 2) (a : _) (e : _) (r : Result ℕ Refusal) (did : to-02.Learnt κs a r e) where
   to-02-says : (n k : ℕ) → n ≤ 8 → (saved_says r ≡ refused_with n k)
       ↔ (checked_says (reading_in version01 a.0.now).checked ≡ refused n k)
   unfolding turned_answer turn_check alike_check
@@ -226,7 +238,7 @@ module _ (κs : Lfts 2) (a : _) (e : _) (r : Saved) (did : to-02.Learnt κs a r 
       let says = (to-02-says 3 1 (omega arith)).1 (three-of-03 a.0.now lawful).0 in
       (says, to-02-refusal-keeps 3 1 says)
 
-module _ (κs : Lfts 2) (a : _) (e : _) (r : Saved) (did : to-01.Learnt κs a r e) where
+module _ (κs : Lfts 2) (a : _) (e : _) (r : Result ℕ Refusal) (did : to-01.Learnt κs a r e) where
   abbrev costs-line : ℕ
   costs-line = line_of (first_other (reading_in version02 a.0.now).plan)
 
@@ -282,10 +294,9 @@ module _ (κs : Lfts 2) (a : _) (e : _) (r : Saved) (did : to-01.Learnt κs a r 
 -- ---- What `miss` answered: the same arguments
 
 -- 9 with 0 exactly when a list was found and there is too little room for its text
-pub miss-nine : (κs : Lfts 2) (a : _) (e : _) (r : Missed) → miss.Learnt κs a r e
+pub miss-nine : (κs : Lfts 2) (a : _) (e : _) (r : Result Missed Refusal) → miss.Learnt κs a r e
     → (missed_says r ≡ refused_with 9 0)
     ↔ (((reading_of a.0.now).checked ≡ Lawful)
-    × ((n : Length) × ((missing_answer (reading_of a.0.now).plan).missing ≡ missing.Found n)
-    × (no_room a.1.0.now a.1.1.0
-    (saved_text version03 (with_run (reading_of a.0.now).plan n.0) (missing_answer (reading_of a.0.now).plan).releases) ≡ true)))
+    × ((n : Length) × (rs : Releases) × (missing_answer (reading_of a.0.now).plan ≡ Ok (missing.Found n rs))
+    × (no_room a.1.0.now a.1.1.0 (saved_text version03 (with_run (reading_of a.0.now).plan n.0) rs) ≡ true)))
 miss-nine κs a e r did = rw did.0 (missed-nine a.0.now a.1.0.now a.1.1.0)

@@ -2,11 +2,19 @@
 -- read and written back the same bytes; and what is read is lawful.
 -- The arguments of `register` are the text and N; those of `table` are the plan, the releases, the page and the place.
 use Rattle.base.proofs.Prelude.{ℕ, ◌+◌, ◌≤◌, ◌≡◌, sym, ap, ◌∙◌, true, false, List, [], ◌∷◌, length, take, drop}
+use Rattle.faults.specs.Checks.{Lawful}
+use Rattle.std.specs.Prelude.{Result, Ok}
+use Rattle.faults.specs.declared.Refusal.{Refusal}
+use Rattle.rules.specs.declared.PlanFile.{PlanFile}
+use Rattle.promise.proofs.Given.{GivenAs, given-as, given-lawful}
 use Rattle.base.specs.Count.{put_at}
-use Rattle.faults.specs.declared.Checked.TheVariants.{Lawful}
-use Rattle.rules.specs.{declared.Plan.Plan, declared.Releases.Releases, declared.Reading.Reading, Plan.strings_of, Release.releases_of, Refusal.run_check, Text.{Line, lines_of, no_releases}}
+use Rattle.rules.specs.declared.Plan.{Plan}
+use Rattle.rules.specs.declared.Releases.{Releases}
+use Rattle.rules.specs.Text.{Line, lines_of, no_releases}
+use Rattle.rules.specs.Plan.{strings_of}
+use Rattle.rules.specs.Release.{releases_of}
+use Rattle.rules.specs.Refusal.{run_check}
 use Rattle.laws.proofs.Releases.{run_check-lawful}
-use Rattle.writing.specs.declared.Saved.TheVariants.{Text}
 use Rattle.roundtrip.proofs.InPage.{fit-lawful, fit-page, fit-stands}
 use Rattle.register.specs.{Table.{row_formed, row_string, table_plan, table_check, table_reading}, Reader.{line_long, row_given, row_at, ended, no_row, row, row_says}, Export.{table_text, export_check, export_answer, export_page}}
 use Rattle.register.proofs.BothWays.{strings-again, rows-written-read, table-checked, rows-read-written, table-lawful}
@@ -16,7 +24,7 @@ use contract.Lifetimes.{Lfts}
 
 -- ---- The rows in the page
 
-module _ (p : Plan) (rs : Releases) (page : List ℕ) (at len : ℕ) (h : export_answer p rs page at ≡ Text len) where
+module _ (p : Plan) (rs : Releases) (page : List ℕ) (at len : ℕ) (h : export_answer p rs page at ≡ Ok len) where
   rows-lawful : run_check p rs ≡ Lawful
   unfolding export_answer export_check
   rows-lawful = fit-lawful (run_check p rs) (table_text p) page at len h
@@ -31,7 +39,7 @@ module _ (p : Plan) (rs : Releases) (page : List ℕ) (at len : ℕ) (h : export
 
 -- ---- Both ways
 
-module _ (κs κt : Lfts 1) (lent : _) (after : _) (r : Reading) (was_read : register.Learnt κs lent r after) where
+module _ (κs κt : Lfts 1) (lent : _) (after : _) (r : Result PlanFile Refusal) (was_read : register.Learnt κs lent r after) where
   abbrev text : List ℕ
   text = lent.0.now
 
@@ -39,9 +47,9 @@ module _ (κs κt : Lfts 1) (lent : _) (after : _) (r : Reading) (was_read : reg
   run = lent.1.0.0
 
   -- the rows of a plan, read with a lawful N, are its strings again
-  pub table-reads-back : (a : _) (e : _) (len : ℕ) → table.Learnt κt a (Text len) e → length a.0.strings ≡ 10 → 1 ≤ run → run ≤ 1000000
+  pub table-reads-back : (a : _) (e : _) (len : ℕ) → table.Learnt κt a (Ok len) e → length a.0.strings ≡ 10 → 1 ≤ run → run ≤ 1000000
       → text ≡ take len (drop a.1.1.1.0 e.1.1.0.now)
-      → (r.checked ≡ Lawful) × (strings_of r.plan ≡ strings_of a.0) × (r.plan.run.0 ≡ run) × (releases_of r.releases ≡ [])
+      → (o : PlanFile) × (r ≡ Ok o) × (strings_of o.plan ≡ strings_of a.0) × (o.plan.run.0 ≡ run) × (releases_of o.releases ≡ [])
   table-reads-back a e len wrote ten low high same =
       let p = a.0 in
       let page = a.1.1.0.now in
@@ -49,27 +57,31 @@ module _ (κs κt : Lfts 1) (lent : _) (after : _) (r : Reading) (was_read : reg
       let saved = sym wrote.0 in
       let ok = (run_check-lawful p a.1.0 (rows-lawful p a.1.0 page at len saved)).plan in
       let rows : text ≡ table_text p = same ∙ ap (λ pg. take len (drop at pg)) wrote.1 ∙ rows-stand p a.1.0 page at len saved in
-      let is = was_read.0 ∙ ap (table_reading run) rows ∙ rows-written-read p ok ten run low high in (
-        ap (λ s. s.checked) is,
+      let is = ap (table_reading run) rows ∙ rows-written-read p ok ten run low high in (
+        record { plan = (table_reading run text).plan; releases = (table_reading run text).releases },
+        was_read.0 ∙ given-lawful (table_reading run text) (ap (λ s. s.checked) is),
         ap (λ s. strings_of s.plan) is ∙ strings-again p ok ten run low high,
         ap (λ s. s.plan.run.0) is,
         ap (λ s. releases_of s.releases) is,
       )
 
-  module _ (lawful : r.checked ≡ Lawful) where
+  module _ (o : PlanFile) (given : r ≡ Ok o) where
+    parts : GivenAs (table_reading run text) o
+    parts = given-as (table_reading run text) o (sym was_read.0 ∙ given)
+
     checked : table_check run text ≡ Lawful
-    checked = table-checked run text (sym (ap (λ s. s.checked) was_read.0) ∙ lawful)
+    checked = table-checked run text parts.lawful
 
-    is-plan : r.plan ≡ table_plan run (lines_of text)
+    is-plan : o.plan ≡ table_plan run (lines_of text)
     unfolding table_reading
-    is-plan = ap (λ s. s.plan) was_read.0 ∙ rw checked
+    is-plan = sym parts.plan ∙ rw checked
 
-    is-list : r.releases ≡ no_releases
+    is-list : o.releases ≡ no_releases
     unfolding table_reading
-    is-list = ap (λ s. s.releases) was_read.0 ∙ rw checked
+    is-list = sym parts.releases ∙ rw checked
 
     -- what was read, written into a page, is the table byte for byte; the rest of the page stays
-    pub table-writes-back : (a : _) (e : _) (len : ℕ) → table.Learnt κt a (Text len) e → a.0 ≡ r.plan
+    pub table-writes-back : (a : _) (e : _) (len : ℕ) → table.Learnt κt a (Ok len) e → a.0 ≡ o.plan
         → e.1.1.0.now ≡ put_at a.1.1.1.0 text a.1.1.0.now
     table-writes-back a e len wrote plan =
         let page = a.1.1.0.now in
@@ -78,9 +90,9 @@ module _ (κs κt : Lfts 1) (lent : _) (after : _) (r : Reading) (was_read : reg
         ∙ ap (λ rows. put_at at rows page) (ap table_text (plan ∙ is-plan) ∙ rows-read-written run text checked)
 
     -- and no entry refuses it
-    pub table-read-lawful : run_check r.plan r.releases ≡ Lawful
+    pub table-read-lawful : run_check o.plan o.releases ≡ Lawful
     table-read-lawful =
-        ap (λ p. run_check p r.releases) is-plan ∙ ap (run_check (table_plan run (lines_of text))) is-list ∙ table-lawful run text checked
+        ap (λ p. run_check p o.releases) is-plan ∙ ap (run_check (table_plan run (lines_of text))) is-list ∙ table-lawful run text checked
 
 -- ---- A line, in the page's numbers
 

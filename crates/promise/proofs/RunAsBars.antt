@@ -1,8 +1,8 @@
 -- The run as bars, of what the code answered: the lines put together are the whole text.
 use Rattle.base.proofs.Prelude.{ℕ, ◌≡◌, ◌++◌}
+use Rattle.faults.specs.Checks.{Lawful}
 use mathlib.Core.List.{flat_map}
 use Rattle.base.specs.Count.{up_from}
-use Rattle.faults.specs.declared.Checked.TheVariants.{Lawful}
 use Rattle.rules.specs.{declared.Plan.Plan, declared.Releases.Releases, Refusal.run_check}
 use Rattle.lines.specs.{declared.Page.Page, Pages.text_of}
 use Rattle.lines.proofs.Growing.{text-is}
@@ -29,6 +29,6 @@ module _ (κs : Lfts 0) (p : Plan) (rs : Releases) (head marks cut : Page) (rows
       ++ text_of cut
       ≡ bars_text p rs
   draws-bars lawful =
-      let by_place = pages-same rows (row_shown p rs) (λ i. text-is (rows i) _ (placed i).0) (up_from 1 p.n) in
-      let by-column = pages-same idle (idle_shown p rs) (λ k. text-is (idle k) _ (shared k).0) (up_from 1 70) in
-      rw (text-is head _ headed.0, by_place, text-is marks _ marked.0, by-column, text-is cut _ ended.0) (bars-whole p rs lawful)
+      let by_place = pages-same rows (row_shown p rs) (λ i. text-is (rows i) _ (placed i)) (up_from 1 p.n) in
+      let by-column = pages-same idle (idle_shown p rs) (λ k. text-is (idle k) _ (shared k)) (up_from 1 70) in
+      rw (text-is head _ headed, by_place, text-is marks _ marked, by-column, text-is cut _ ended) (bars-whole p rs lawful)

@@ -2,14 +2,30 @@
 -- function of its
 -- input; `after` is what it leaves at its return, and `meets` says that the function's own contract (`Learnt`) holds for every input.
 use Rattle.base.proofs.Prelude.{ℕ, ◌≡◌, refl, sym, ap, ◌∙◌, subst, [], ◌∷◌, map, arith, length, get_or}
-use Rattle.faults.specs.{declared.Checked.Checked, declared.Checked.TheVariants.{Lawful, Refused}}
-use Rattle.rules.specs.{declared.Plan.Plan, declared.Releases.Releases, declared.Reading.Reading, declared.Verdict.Verdict, declared.AskedVerdict.AskedVerdict, declared.Assign.Assign, declared.AskedAssign.AskedAssign, declared.Outcome.Outcome, declared.AskedOutcome.AskedOutcome, declared.Answer.Answer, Verdict.{all_pairs, compared}, Search.with_set, Refusal.{on_verdict, on_assign, on_outcome, plan_check, set_check, run_check, verdict_answer, set_answer, search_answer, run_answer}, Text.reading_of, Answer.{answered, answer_of}, Said.{Said, lawful, fail, pass, takers, clean, checked_says, asked_verdict_says, asked_assign_says, asked_outcome_says}}
+use Rattle.faults.specs.Checks.{Lawful, Checked}
+use Rattle.faults.specs.declared.Refusal.{Refusal}
+use Rattle.std.specs.Prelude.{Ok, Err, Result}
+use Rattle.rules.specs.Answer.{Answered}
+use Rattle.rules.specs.declared.Answers.{Answers}
+use Rattle.rules.specs.Found.{Assign}
+use Rattle.rules.specs.declared.Plan.{Plan}
+use Rattle.rules.specs.declared.Releases.{Releases}
+use Rattle.rules.specs.declared.PlanFile.{PlanFile}
+use Rattle.rules.specs.Text.{reading_of}
+use Rattle.promise.specs.FileSaid.{file_says}
+use Rattle.promise.proofs.Given.{file-says}
+use Rattle.rules.specs.declared.Verdict.{Verdict}
+use Rattle.rules.specs.declared.Outcome.{Outcome}
+use Rattle.rules.specs.Verdict.{all_pairs, compared}
+use Rattle.rules.specs.Search.{with_set}
+use Rattle.rules.specs.Refusal.{on_verdict, on_assign, on_outcome, plan_check, set_check, run_check, verdict_answer, set_answer, search_answer, run_answer}
+use Rattle.rules.specs.Answer.{answered, answer_of}
+use Rattle.rules.specs.Said.{Said, lawful, fail, pass, takers, clean, checked_says, asked_verdict_says, asked_assign_says, asked_outcome_says}
 use Rattle.rules.proofs.Worked.{table, row, release, releases, two, level, sample, worked}
 use Rattle.laws.proofs.Says.{says-lawful}
 use Rattle.demand.proofs.Permissions.{set-is-plan}
 use Rattle.promise.specs.Wrong.{Refuses, SaysPass, SaysFail, fails, overloads, WorksAtMost, misses, ends}
 use Rattle.promise.proofs.UserWords.{verdict-counts, verdict-fails}
-use Rattle.rules.specs.declared.Answer.TheVariants as answer-is
 use Rattle.rules.proofs.Worked as page
 use Rattle.reading.proofs.read.Reads as read
 use Rattle.verdict.proofs.verdict.Reads as verdict
@@ -69,16 +85,16 @@ never : ◌≡◌ {A = ℕ} 0 1 → ⊥
 never z = omega arith
 
 set-was-lawful : (c : Checked) (v : Verdict) (s : Said) → asked_verdict_says (on_verdict c v) ≡ s → (Refuses s → ⊥) → c ≡ Lawful
-set-was-lawful Lawful v s h not = refl
-set-was-lawful (Refused f at) v s h not = absurd (not (_, (_, sym h)))
+set-was-lawful (Ok _) v s h not = refl
+set-was-lawful (Err e) v s h not = absurd (not (_, (_, sym h)))
 
 assign-was-lawful : (c : Checked) (a : Assign) (s : Said) → asked_assign_says (on_assign c a) ≡ s → (Refuses s → ⊥) → c ≡ Lawful
-assign-was-lawful Lawful a s h not = refl
-assign-was-lawful (Refused f at) a s h not = absurd (not (_, (_, sym h)))
+assign-was-lawful (Ok _) a s h not = refl
+assign-was-lawful (Err e) a s h not = absurd (not (_, (_, sym h)))
 
 run-was-lawful : (c : Checked) (o : Outcome) (s : Said) → asked_outcome_says (on_outcome c o) ≡ s → (Refuses s → ⊥) → c ≡ Lawful
-run-was-lawful Lawful o s h not = refl
-run-was-lawful (Refused f at) o s h not = absurd (not (_, (_, sym h)))
+run-was-lawful (Ok _) o s h not = refl
+run-was-lawful (Err e) o s h not = absurd (not (_, (_, sym h)))
 
 pass-not-refused : (k : ℕ) → Refuses (pass k) → ⊥
 pass-not-refused k (n, (at, h)) = never (cc)
@@ -129,7 +145,7 @@ pass-no-fail k s h (overloads j) = never (cc)
 
 -- ---- `verdict`
 
-module _ (κs : Lfts 0) (program : Plan → AskedVerdict) (after : Plan → _)
+module _ (κs : Lfts 0) (program : Plan → Result Verdict Refusal) (after : Plan → _)
     (meets : (p : Plan) → verdict.Learnt κs (p, tt) (program p) (after p)) where
   -- refuses every plan
   pub verdict-refusing-all : ((p : Plan) → Refuses (asked_verdict_says (program p))) → ⊥
@@ -160,7 +176,7 @@ module _ (κs : Lfts 0) (program : Plan → AskedVerdict) (after : Plan → _)
 
 -- ---- `verdict_with`
 
-module _ (κs : Lfts 0) (program : Plan → ℕ → AskedVerdict) (after : Plan → ℕ → _)
+module _ (κs : Lfts 0) (program : Plan → ℕ → Result Verdict Refusal) (after : Plan → ℕ → _)
     (meets : (p : Plan) (m : ℕ) → verdict-with.Learnt κs (p, (m, tt)) (program p m) (after p m)) where
   pub with-refusing-all : ((p : Plan) (m : ℕ) → Refuses (asked_verdict_says (program p m))) → ⊥
   with-refusing-all wrong = pass-not-refused 39 (subst Refuses (ap asked_verdict_says (meets two 1) ∙ p1-with) (wrong two 1))
@@ -177,7 +193,7 @@ module _ (κs : Lfts 0) (program : Plan → ℕ → AskedVerdict) (after : Plan 
 
 -- ---- `search`
 
-module _ (κs : Lfts 0) (program : Plan → AskedAssign) (after : Plan → _)
+module _ (κs : Lfts 0) (program : Plan → Result Assign Refusal) (after : Plan → _)
     (meets : (p : Plan) → search-takers.Learnt κs (p, tt) (program p) (after p)) where
   pub search-refusing-all : ((p : Plan) → Refuses (asked_assign_says (program p))) → ⊥
   search-refusing-all wrong = takers-not-refused 1 (subst Refuses (ap asked_assign_says (meets two) ∙ p1-search) (wrong two))
@@ -190,7 +206,7 @@ module _ (κs : Lfts 0) (program : Plan → AskedAssign) (after : Plan → _)
 
 -- ---- `run`
 
-module _ (κs : Lfts 0) (program : Plan → Releases → AskedOutcome) (after : Plan → Releases → _)
+module _ (κs : Lfts 0) (program : Plan → Releases → Result Outcome Refusal) (after : Plan → Releases → _)
     (meets : (p : Plan) (rs : Releases) → run.Learnt κs (p, (rs, tt)) (program p rs) (after p rs)) where
   pub run-refusing-all : ((p : Plan) (rs : Releases) → Refuses (asked_outcome_says (program p rs))) → ⊥
   run-refusing-all wrong =
@@ -211,17 +227,17 @@ module _ (κs : Lfts 0) (program : Plan → Releases → AskedOutcome) (after : 
 
 -- ---- `read` and `answer`: a call with the sample file's text
 
-pub read-refusing-all : (κs : Lfts 1) (lent : _) (e : _) (r : Reading) → read.Learnt κs lent r e → lent.0.now ≡ sample
-    → Refuses (checked_says r.checked) → ⊥
+pub read-refusing-all : (κs : Lfts 1) (lent : _) (e : _) (r : Result PlanFile Refusal) → read.Learnt κs lent r e → lent.0.now ≡ sample
+    → Refuses (file_says r) → ⊥
 read-refusing-all κs lent e r meets text wrong =
-    let is : r.checked ≡ Lawful = ap (λ s. s.checked) meets.0 ∙ ap (λ t. (reading_of t).checked) text ∙ sample-read in
+    let is : (reading_of lent.0.now).checked ≡ Lawful = ap (λ t. (reading_of t).checked) text ∙ sample-read in
     let said = wrong.1.1 in
-    let spoken = ap checked_says is in
+    let spoken = ap file_says meets.0 ∙ file-says (reading_of lent.0.now) ∙ ap checked_says is in
     never (cc)
 
 -- `answer` does not refuse it either: it gives the three answers
-pub answer-refusing-all : (κs : Lfts 1) (lent : _) (e : _) (r : Answer) → answer.Learnt κs lent r e → lent.0.now ≡ sample
-    → (v : Verdict) × ((a : Assign) × ((o : Outcome) × (r ≡ answer-is.Answered v a o)))
+pub answer-refusing-all : (κs : Lfts 1) (lent : _) (e : _) (r : Result Answers Refusal) → answer.Learnt κs lent r e → lent.0.now ≡ sample
+    → (v : Verdict) × ((a : Assign) × ((o : Outcome) × (r ≡ Answered v a o)))
 unfolding answer_of answered
 answer-refusing-all κs lent e r meets text =
     (_, (_, (_, meets.0 ∙ ap answer_of text ∙ ap (λ c. answered c (reading_of sample)) sample-read)))

@@ -6,6 +6,8 @@ use Rattle.base.proofs.Lists.{by_bool}
 use Rattle.faults.proofs.Checks.{by-checked}
 use Rattle.rules.specs.{declared.Plan.Plan, declared.Releases.Releases, declared.Outcome.Outcome, Release.releases_of, Run.run_of, Refusal.{verdict_answer, run_check, run_answer}, Said.{Said, lawful, refused, overload, fail, pass, takers, none, miss, clean, outcome_says, asked_verdict_says, asked_outcome_says}}
 use Rattle.laws.proofs.{Releases.run_check-lawful, Answers.run-lawful}
+use Rattle.std.specs.Prelude.{Result, Ok, Err}
+use Rattle.faults.specs.declared.Refusal.{Refusal}
 use Rattle.exact.specs.Missing.{NeverMisses}
 use Rattle.exact.proofs.Longer.{miss-soon}
 use Rattle.tries.specs.{declared.Missing.Missing, Tries.missing_answer}
@@ -64,19 +66,20 @@ told-pass-no-miss κs a e passed λs b f missed same =
 
 -- ---- Where no list misses
 
-kind-none : (m : Missing) → ((missing_row m).kind ≡ 13) ⊎ ((missing_row m).kind ≡ 14) → (m ≡ missing.Passes) ⊎ (m ≡ missing.Never)
-kind-none missing.Passes h = inl refl
-kind-none missing.Never h = inr refl
-kind-none (missing.Refused f at) (inl h) = absurd (omega arith)
-kind-none (missing.Refused f at) (inr h) = absurd (omega arith)
-kind-none missing.NoneFound (inl h) = absurd (omega arith)
-kind-none missing.NoneFound (inr h) = absurd (omega arith)
-kind-none missing.TooMany (inl h) = absurd (omega arith)
-kind-none missing.TooMany (inr h) = absurd (omega arith)
-kind-none (missing.Found n) (inl h) = absurd (omega arith)
-kind-none (missing.Found n) (inr h) = absurd (omega arith)
+kind-none : (m : Result Missing Refusal) → ((missing_row m).kind ≡ 13) ⊎ ((missing_row m).kind ≡ 14)
+    → (m ≡ Ok missing.Passes) ⊎ (m ≡ Ok missing.Never)
+kind-none (Ok missing.Passes) h = inl refl
+kind-none (Ok missing.Never) h = inr refl
+kind-none (Err e) (inl h) = absurd (omega arith)
+kind-none (Err e) (inr h) = absurd (omega arith)
+kind-none (Ok missing.NoneFound) (inl h) = absurd (omega arith)
+kind-none (Ok missing.NoneFound) (inr h) = absurd (omega arith)
+kind-none (Ok missing.TooMany) (inl h) = absurd (omega arith)
+kind-none (Ok missing.TooMany) (inr h) = absurd (omega arith)
+kind-none (Ok (missing.Found n rs)) (inl h) = absurd (omega arith)
+kind-none (Ok (missing.Found n rs)) (inr h) = absurd (omega arith)
 
-never-by : (p : Plan) → ((missing_answer p).missing ≡ missing.Passes) ⊎ ((missing_answer p).missing ≡ missing.Never) → NeverMisses p
+never-by : (p : Plan) → (missing_answer p ≡ Ok missing.Passes) ⊎ (missing_answer p ≡ Ok missing.Never) → NeverMisses p
 never-by p (inl h) = answer-passes-never p h
 never-by p (inr h) = answer-never p h
 
@@ -119,12 +122,12 @@ told-none-no-miss κs a e kind told cannot λs b f missed same =
     let room = b.1.1.0.now in
     let run-told = missed.0 ∙ ap (λ ns. kind_told (row_of (asked_outcome_says (run_answer (plan_given ns) rs))) room) same in
     let is-miss = kind-miss run-says (row-kind (row_of run-says) room 7 (λ h. omega arith) run-told) in
-    let answered = (missing_answer p).missing in
+    let answered = missing_answer p in
     let never = never-by p (kind-none answered (kinds cannot)) in
     no-miss-answered p rs is-miss.0 is-miss.1.0 never is-miss.1.1
   where
     kinds : (kind ≡ 13) ⊎ (kind ≡ 14)
-        → ((missing_row (missing_answer (plan_given a.0.now)).missing).kind ≡ 13)
-        ⊎ ((missing_row (missing_answer (plan_given a.0.now)).missing).kind ≡ 14)
+        → ((missing_row (missing_answer (plan_given a.0.now))).kind ≡ 13)
+        ⊎ ((missing_row (missing_answer (plan_given a.0.now))).kind ≡ 14)
     kinds (inl h) = inl (row-kind _ a.1.0.now kind (λ z. omega arith) told.0 ∙ h)
     kinds (inr h) = inr (row-kind _ a.1.0.now kind (λ z. omega arith) told.0 ∙ h)

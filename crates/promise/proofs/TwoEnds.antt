@@ -2,9 +2,16 @@
 -- verdict is a pass exactly by the rule of windows, with nobody exactly by np-EDF's; where either passes the search finds a set, and where
 -- nobody needs a permission it gives none.
 use Rattle.base.proofs.Prelude.{ℕ, ◌≡◌, sym, ap, ◌∙◌, ◌⊎◌, ◌↔◌, length}
-use Rattle.faults.specs.declared.Checked.TheVariants.{Lawful}
-use Rattle.rules.specs.{declared.Plan.Plan, declared.AskedVerdict.AskedVerdict, declared.AskedAssign.AskedAssign, declared.Assign.TheVariants.Takers, Verdict.all_pairs, Search.{with_set, search_of}, Refusal.{plan_check, set_check}, Said.{pass, takers, asked_verdict_says, asked_assign_says}}
-use Rattle.rules.specs.declared.AskedAssign.TheVariants as asked-assign
+use Rattle.rules.specs.declared.Verdict.{Verdict}
+use Rattle.faults.specs.Checks.{Lawful}
+use Rattle.faults.specs.declared.Refusal.{Refusal}
+use Rattle.std.specs.Prelude.{Ok, Result, Some}
+use Rattle.rules.specs.Found.{Assign}
+use Rattle.rules.specs.declared.Plan.{Plan}
+use Rattle.rules.specs.Verdict.{all_pairs}
+use Rattle.rules.specs.Search.{with_set, search_of}
+use Rattle.rules.specs.Refusal.{plan_check, set_check}
+use Rattle.rules.specs.Said.{pass, takers, asked_verdict_says, asked_assign_says}
 use Rattle.laws.proofs.{Lawful.plan_check-lawful, Answers.{set-plan, search-lawful}, Says.asked-takers}
 use Rattle.results.specs.TwoEnds.{everybody, EverybodyRule, NobodyRule}
 use Rattle.results.proofs.TwoEnds.{everybody-exactly, nobody-exactly, nobody-found, never-worse}
@@ -15,7 +22,7 @@ use contract.Lifetimes.{Lfts}
 
 -- ---- The verdict at either end
 
-module _ (κs : Lfts 0) (p : Plan) (e : _) (v : AskedVerdict) where
+module _ (κs : Lfts 0) (p : Plan) (e : _) (v : Result Verdict Refusal) where
   pub everybody-passes : verdict-with.Learnt κs (p, (everybody p, tt)) v e → set_check p (everybody p) ≡ Lawful
       → (asked_verdict_says v ≡ pass (length (all_pairs (with_set p (everybody p))))) ↔ EverybodyRule p
   everybody-passes answered ok =
@@ -32,10 +39,10 @@ module _ (κs : Lfts 0) (p : Plan) (e : _) (v : AskedVerdict) where
 
 -- ---- The search
 
-module _ (κs : Lfts 0) (p : Plan) (e : _) (a : AskedAssign) (answered : search-takers.Learnt κs (p, tt) a e)
+module _ (κs : Lfts 0) (p : Plan) (e : _) (a : Result Assign Refusal) (answered : search-takers.Learnt κs (p, tt) a e)
     (ok : plan_check p ≡ Lawful) where
-  said : (m : ℕ) → search_of p ≡ Takers m → asked_assign_says a ≡ takers m
-  said m found = ap asked_assign_says (answered ∙ search-lawful p ok ∙ ap asked-assign.Given found)
+  said : (m : ℕ) → search_of p ≡ Some m → asked_assign_says a ≡ takers m
+  said m found = ap asked_assign_says (answered ∙ search-lawful p ok ∙ ap Ok found)
 
   -- never worse than everybody's set, nor than nobody's
   pub search-never-worse : EverybodyRule p ⊎ NobodyRule p → (m : ℕ) × (asked_assign_says a ≡ takers m)
@@ -48,7 +55,7 @@ module _ (κs : Lfts 0) (p : Plan) (e : _) (a : AskedAssign) (answered : search-
       let exactly = nobody-found p (plan_check-lawful p ok) in
       (λ h. exactly.1 (told (asked-takers a 0 h)), λ rule. said 0 (exactly.0 rule))
     where
-      told : a ≡ asked-assign.Given (Takers 0) → search_of p ≡ Takers 0
+      told : a ≡ Ok (Some 0) → search_of p ≡ Some 0
       told h =
           let both = sym (search-lawful p ok) ∙ sym answered ∙ h in
           cc

@@ -4,11 +4,21 @@
 -- What the kit learns of a contract it does not learn of functions over a slice of structs, so the clause of `check_visits` is written out
 -- (visits/src/lib.rt): r is its answer for the plan p, the releases rs and a lent list whose records are vs.
 use Rattle.base.proofs.Prelude.{ℕ, ◌≤◌, ◌≡◌, refl, sym, ◌∙◌, subst, ◌↔◌, arith, leb, ltb, lt-ltb, le-leb, leb-true, ltb-true, ap, length, take, take_at}
+use Rattle.faults.specs.Checks.{Lawful, Checked}
+use Rattle.std.specs.Prelude.{Ok}
 use Rattle.base.proofs.Lists.{All}
 use Rattle.days.specs.declared.Length.{Length}
-use Rattle.faults.specs.{declared.Fault.TheVariants.{VisitUnlawful, SumDiffers}, declared.Checked.Checked, declared.Checked.TheVariants.Lawful, Checks.{fault_number, then, refuse_if}}
+use Rattle.faults.specs.declared.Fault.TheVariants.{VisitUnlawful, SumDiffers}
+use Rattle.faults.specs.Checks.{fault_number, then, refuse_if}
 use Rattle.faults.proofs.Refusing.{Refusals, refusals-then, refusals-if}
-use Rattle.rules.specs.{declared.Plan.Plan, declared.Releases.Releases, declared.Outcome.TheVariants.Clean, declared.AskedOutcome.TheVariants.Given, Plan.strings_of, Demand.moving_cost, Release.{releases_of, released, deadline_of}, Refusal.run_check, Said.{refused, checked_says}}
+use Rattle.rules.specs.declared.Plan.{Plan}
+use Rattle.rules.specs.declared.Releases.{Releases}
+use Rattle.rules.specs.declared.Outcome.TheVariants.{Clean}
+use Rattle.rules.specs.Plan.{strings_of}
+use Rattle.rules.specs.Demand.{moving_cost}
+use Rattle.rules.specs.Release.{releases_of, released, deadline_of}
+use Rattle.rules.specs.Refusal.{run_check}
+use Rattle.rules.specs.Said.{refused, checked_says}
 use Rattle.laws.proofs.RefusedBy.{Never, run_check-numbers, never-above, if-says, first_says, second-says}
 use Rattle.visits.specs.{declared.Visit.Visit, declared.OwnVisits.OwnVisits, Visits.{first_breaking, first_short, visit_list_check, visits_check}, Accepted.Accepted, OwnRun.{run_visits, handed_out, own_visits}, Texts.{visits_text, visit_text_check}}
 use Rattle.visits.proofs.{AcceptedExactly.accepted-exactly, OwnRun.clean-run-accepted, OwnText.own-text-accepted}
@@ -95,7 +105,7 @@ module _ (p : Plan) (rs : Releases) (vs : List Visit) (r : Checked) (answered : 
       )
 
 -- Of what `run` answered and what `check_visits` answered for the visits of that run: a is the plan and the releases.
-pub own-run-visits : (κs : Lfts 0) (a : _) (e : _) (w m i : Length) (r : Checked) → run.Learnt κs a (Given (Clean w m i)) e
+pub own-run-visits : (κs : Lfts 0) (a : _) (e : _) (w m i : Length) (r : Checked) → run.Learnt κs a (Ok (Clean w m i)) e
     → r ≡ visits_check a.0 a.1.0 (run_visits a.0 (releases_of a.1.0))
     → All (λ s. moving_cost a.0 s ≡ 0) (strings_of a.0)
     → ((k : ℕ) → 1 ≤ k → k ≤ length (releases_of a.1.0) → deadline_of a.0 (released (releases_of a.1.0) k) ≤ a.0.run.0)
@@ -106,15 +116,16 @@ own-run-visits κs a e w m i r ran answered free inside =
 -- The same of a text: what `check_visit_text` answered for the lines of the visits that `own_visits` gave. Its arguments are the plan, the
 -- releases and the text.
 module _ (κs κt : Lfts 0) (a : _) (e f : _) (w m i : Length) (own : OwnVisits)
-    (ran : run.Learnt κs a (Given (Clean w m i)) e)
-    (gave : own-visits.Learnt κt a own f)
+    (ran : run.Learnt κs a (Ok (Clean w m i)) e)
+    (gave : own-visits.Learnt κt a (Ok own) f)
   where
     own-are : take own.count own.list ≡ run_visits a.0 (releases_of a.1.0)
     unfolding own_visits
     own-are =
         let vs = run_visits a.0 (releases_of a.1.0) in
         let good = (answer-clean a.0 w m i a.1.0 (sym ran)).0 in
-        let is : own ≡ handed_out vs = gave ∙ rw good in
+        let said : Ok own ≡ Ok (handed_out vs) = gave ∙ rw good in
+        let is : own ≡ handed_out vs = cc in
         ap (λ (o : OwnVisits). take o.count o.list) is ∙ take_at vs _ (length vs) refl
 
     pub own-text-visits : (κu : Lfts 1) (b : _) (g : _) (r : Checked) → check-visit-text.Learnt κu b r g → b.0 ≡ a.0 → b.1.0 ≡ a.1.0

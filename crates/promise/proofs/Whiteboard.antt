@@ -1,12 +1,21 @@
 -- Where a verdict comes from: the lines that the code gave, put together, are the whole text; what is named is what the verdict names; and
 -- the numbers add up.
 use Rattle.base.proofs.Prelude.{ℕ, ◌+◌, ◌≡◌, refl, sym, ap, List, [], ◌∷◌, ◌++◌}
+use Rattle.std.specs.Prelude.{Result, Ok}
+use Rattle.faults.specs.declared.Refusal.{Refusal}
+use Rattle.faults.specs.Checks.{Lawful}
 use mathlib.Core.List.{flat_map}
 use Rattle.base.specs.Count.{sum_of, up_from}
 use Rattle.days.specs.declared.Length.{Length}
 use Rattle.days.specs.Days.{days}
-use Rattle.faults.specs.declared.Checked.TheVariants.{Lawful}
-use Rattle.rules.specs.{declared.Plan.Plan, declared.Figures.Figures, declared.Verdict.TheVariants.{Overload, Fail}, Plan.{strings_of, multiple_of}, Demand.{demand, load}, Verdict.verdict_of, Refusal.plan_check, Figures.{figures_of, figures_answer}}
+use Rattle.rules.specs.declared.Plan.{Plan}
+use Rattle.rules.specs.declared.Figures.{Figures}
+use Rattle.rules.specs.Figures.{figures_of, figures_answer}
+use Rattle.rules.specs.declared.Verdict.TheVariants.{Overload, Fail}
+use Rattle.rules.specs.Plan.{strings_of, multiple_of}
+use Rattle.rules.specs.Demand.{demand, load}
+use Rattle.rules.specs.Verdict.{verdict_of}
+use Rattle.rules.specs.Refusal.{plan_check}
 use Rattle.laws.proofs.Lawful.{plan_check-lawful}
 use Rattle.lines.specs.{declared.Page.Page, Pages.text_of}
 use Rattle.lines.proofs.Growing.{text-is}
@@ -38,12 +47,13 @@ pages-same f g h (x ∷ xs) = rw (h x, pages-same f g h xs)
 
 module _ (κs : Lfts 0) (p : Plan) (lawful : plan_check p ≡ Lawful) where
   -- the pair of a fail, and the overload
-  pub fail-named : (r : Subject) (e : _) (l b d : Length) (k : ℕ) → named.Learnt κs (p, tt) r e → verdict_of p ≡ Fail l b d k
-      → r ≡ subject.At l b
+  pub fail-named : (r : Result Subject Refusal) (e : _) (l b d : Length) (k : ℕ) → named.Learnt κs (p, tt) r e → verdict_of p ≡ Fail l b d k
+      → r ≡ Ok (subject.At l b)
   unfolding named_answer named_by
   fail-named r e l b d k h v = rw (lawful, v) at h
 
-  pub overload-named : (r : Subject) (e : _) → named.Learnt κs (p, tt) r e → verdict_of p ≡ Overload → r ≡ subject.Overload
+  pub overload-named : (r : Result Subject Refusal) (e : _) → named.Learnt κs (p, tt) r e → verdict_of p ≡ Overload → r
+      ≡ Ok subject.Overload
   unfolding named_answer named_by
   overload-named r e h v = rw (lawful, v) at h
 
@@ -64,40 +74,47 @@ module _ (κs : Lfts 0) (p : Plan) (lawful : plan_check p ≡ Lawful) where
         ≡ pair_text p l.0 b.0
     unfolding pair_text blocker_shown share_shown demand_shown
     pair-whole =
-        let by_place = pages-same strings (share_text p l.0 b.0) (λ i. rw lawful at (text-is (strings i) _ (placed i).0))
+        let by_place = pages-same strings (share_text p l.0 b.0) (λ i. rw lawful at (text-is (strings i) _ (placed i)))
         (up_from 1 p.n) in
         rw (
-          text-is head _ headed.0,
-          rw lawful at (text-is who _ blocks.0),
-          text-is blocked _ blocking.0,
+          text-is head _ headed,
+          rw lawful at (text-is who _ blocks),
+          text-is blocked _ blocking,
           by_place,
-          rw lawful at (text-is sum _ summed.0),
+          rw lawful at (text-is sum _ summed),
         )
 
   -- what is written where this is named is the whole text
-  pub why-pair : (e : _) (l b : Length) → named.Learnt κs (p, tt) (subject.At l b) e → why_text p ≡ pair_text p l.0 b.0
+  pub why-pair : (e : _) (l b : Length) → named.Learnt κs (p, tt) (Ok (subject.At l b)) e → why_text p ≡ pair_text p l.0 b.0
   unfolding why_text text_named named_answer
-  why-pair e l b h = ap (text_named p) (sym (rw lawful at h))
+  why-pair e l b h =
+      let is = rw lawful at h in
+      let same : subject.At l b ≡ named_by p (verdict_of p) = cc in
+      ap (text_named p) (sym same)
 
-  pub why-overload : (e : _) → named.Learnt κs (p, tt) subject.Overload e → why_text p ≡ over_text p
+  pub why-overload : (e : _) → named.Learnt κs (p, tt) (Ok subject.Overload) e → why_text p ≡ over_text p
   unfolding why_text text_named named_answer
-  why-overload e h = ap (text_named p) (sym (rw lawful at h))
+  why-overload e h =
+      let is = rw lawful at h in
+      let same : subject.Overload ≡ named_by p (verdict_of p) = cc in
+      ap (text_named p) (sym same)
 
   -- the pages of an overload, in the order in which the clerk writes them
   module _ (found : Figures) (head sum : Page) (strings : ℕ → Page) (d e f : _) (h : ℕ → _)
-      (figured : figures.Learnt κs (p, tt) found d) (headed : multiple-line.Learnt κs (found.multiple, tt) head e)
+      (figured : figures.Learnt κs (p, tt) (Ok found) d) (headed : multiple-line.Learnt κs (found.multiple, tt) head e)
       (placed : (i : ℕ) → share-shown.Learnt κs (p, (days found.multiple, (days 0, (i, tt)))) (strings i) (h i))
       (summed : over-line.Learnt κs (found.load, (found.multiple, tt)) sum f) where
     pub over-whole : text_of head ++ flat_map (λ i. text_of (strings i)) (up_from 1 p.n) ++ text_of sum ≡ over_text p
     unfolding over_text share_shown figures_answer figures_of
     over-whole =
-        let shown = rw lawful at figured in
-        let by_place = pages-same strings (share_text p found.multiple 0) (λ i. rw lawful at (text-is (strings i) _ (placed i).0))
+        let said = rw lawful at figured in
+        let shown : found ≡ figures_of p = cc in
+        let by_place = pages-same strings (share_text p found.multiple 0) (λ i. rw lawful at (text-is (strings i) _ (placed i)))
         (up_from 1 p.n) in
         rw (
-          text-is head _ headed.0,
+          text-is head _ headed,
           by_place,
-          text-is sum _ summed.0,
+          text-is sum _ summed,
           ap (λ g. g.multiple) shown,
           ap (λ g. g.load) shown,
         )
@@ -114,8 +131,8 @@ module _ (κs : Lfts 0) (p : Plan) (lawful : plan_check p ≡ Lawful) where
     unfolding stairs_text stair_shown stretch_shown nowhere_shown last_answer
     stairs-whole =
         let range = rw lawful at ends in
-        let steps = pages-same stairs (stair_text p) (λ l. rw lawful at (text-is (stairs l) _ (stepped l).0))
+        let steps = pages-same stairs (stair_text p) (λ l. rw lawful at (text-is (stairs l) _ (stepped l)))
         (up_from 1 (last_interval p)) in
-        let stretching = pages-same stretches (stretch_text p) (λ l. rw lawful at (text-is (stretches l) _ (stretched l).0))
+        let stretching = pages-same stretches (stretch_text p) (λ l. rw lawful at (text-is (stretches l) _ (stretched l)))
         (up_from 1 (last_interval p)) in
-        rw (range, steps, stretching, rw lawful at (text-is nowhere _ unbroken.0))
+        rw (range, steps, stretching, rw lawful at (text-is nowhere _ unbroken))

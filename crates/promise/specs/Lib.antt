@@ -2,3 +2,4 @@ pub mod NeverMiss
 pub mod Wrong
 pub mod SaysMiss
 pub mod OtherVersion
+pub mod FileSaid

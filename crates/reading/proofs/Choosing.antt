@@ -1,11 +1,12 @@
 -- Which version a text is held to: the one that its first line names in its digits 3 and 4. A first line that is malformed is refused
 -- alike in all versions.
 use Rattle.base.proofs.Prelude.{ℕ, ◌/◌, ◌≤◌, ◌<◌, ◌≡◌, refl, sym, ap, ◌∙◌, true, false, List, [], ◌∷◌, arith, dec_le, not-suc-le-zero, le_of_suc-le-suc, length}
-use Rattle.faults.specs.{declared.Fault.TheVariants.LineMalformed, declared.Checked.TheVariants.Refused}
+use Rattle.faults.specs.Checks.{Refused}
+use Rattle.faults.specs.declared.Fault.TheVariants.{LineMalformed}
 use Rattle.faults.proofs.Checks.{then-refused}
 use Rattle.base.specs.Digits.{number_on}
 use Rattle.base.proofs.Lists.{by_bool}
-use Rattle.rules.specs.{Layout.{Version, frame_size, version_in, version01, held_to, header_frame}, Text.{lines_of, well_formed, frame_of, header_check, reading_in, version_of, reading_of}}
+use Rattle.rules.specs.{Layout.{Version, frame_size, version_in, version01, held_to, header_frame}, Text.{lines_of, well_formed, frame_of, header_check, reading_in, version_of, reading_of, said_in}}
 use Rattle.reading.specs.inner.Positions.{digits_ahead, line_at, Frame, number_in}
 use Rattle.reading.proofs.{Lines.formed-is, Framing.{check-malformed, formed-frame, frame-next, frame-length, frame-number}, Whole.{read-long, read-empty, read-refused}}
 
@@ -22,14 +23,12 @@ module _ (text : List ℕ) where
     unfolding header_check
     header-bad v = then-refused _ _ _ _ (check-malformed text 0 1 (header_frame v).kind (frame_size (header_frame v)) bad)
 
-    malformed-alike : (v w : Version) → reading_in v text ≡ reading_in w text
+    malformed-alike : (v w : Version) → said_in (reading_in v text) ≡ said_in (reading_in w text)
     malformed-alike v w =
         elim (dec_le (length text) 65536) [
           | yes fits ↦
               elim (dec_le 1 (length text)) [
-                | yes some ↦
-                    read-refused v text fits some LineMalformed 1 (header-bad v)
-                    ∙ sym (read-refused w text fits some LineMalformed 1 (header-bad w))
+                | yes some ↦ read-refused v text fits some _ (header-bad v) ∙ sym (read-refused w text fits some _ (header-bad w))
                 | no none ↦ read-empty v text fits (omega arith) ∙ sym (read-empty w text fits (omega arith))
               ]
           | no long ↦ read-long v text (omega arith) ∙ sym (read-long w text (omega arith))
@@ -44,13 +43,14 @@ module _ (text : List ℕ) where
   held t = rw (frame-next text 0 (digits_ahead text / 2) (framed t))
 
   -- held to a version that is known of a first line that is a frame
-  choose : (v : Version) → (well_formed (line_at text 0) ≡ true → version_of (lines_of text) ≡ v) → reading_of text ≡ reading_in v text
+  choose : (v : Version) → (well_formed (line_at text 0) ≡ true → version_of (lines_of text) ≡ v)
+      → said_in (reading_of text) ≡ said_in (reading_in v text)
   unfolding reading_of
   choose v good =
-      by_bool (well_formed (line_at text 0)) (λ t. ap (λ w. reading_in w text) (good t))
+      by_bool (well_formed (line_at text 0)) (λ t. ap (λ w. said_in (reading_in w text)) (good t))
       (λ bad. malformed-alike bad (version_of (lines_of text)) v)
 
-  pub held-short : digits_ahead text < 4 → reading_of text ≡ reading_in version01 text
+  pub held-short : digits_ahead text < 4 → said_in (reading_of text) ≡ said_in (reading_in version01 text)
   unfolding held_to
   held-short few = choose version01 short
     where
@@ -59,7 +59,7 @@ module _ (text : List ℕ) where
           let one = frame-length text 0 (digits_ahead text / 2) (framed t) in
           held t ∙ ap held_to (no-version (frame_of (line_at text 0)) (omega arith))
 
-  pub held-named : 4 ≤ digits_ahead text → reading_of text ≡ reading_in (held_to (number_in text 0 1 1)) text
+  pub held-named : 4 ≤ digits_ahead text → said_in (reading_of text) ≡ said_in (reading_in (held_to (number_in text 0 1 1)) text)
   held-named long =
       choose (held_to (number_in text 0 1 1))
       (λ t. held t ∙ ap held_to (frame-number text 0 (digits_ahead text / 2) (framed t) 1 1 (omega arith)))

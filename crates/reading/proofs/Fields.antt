@@ -6,7 +6,7 @@ use Rattle.base.proofs.{Digits.number_on-last, Lists.by_bool}
 use Rattle.rules.specs.{Layout.{Layout, size_of, frame_size, number_of, field_among, field_in}, Text.{hex_bytes, frame_of, field_of}}
 use Rattle.layouts.specs.inner.Versions.{offset_among, size_among, offset_in, size_in}
 use Rattle.reading.specs.inner.Positions.{digits_ahead, line_at, Frame, byte_in, number_in}
-use Rattle.reading.proofs.{Hex.{ahead-inside, ahead-digit}, Framing.{twice-more, frame-number}}
+use Rattle.reading.proofs.{Hex.{digits_ahead-fits, ahead-digit}, Framing.{twice-more, frame-number}}
 
 -- ---- Where a field stands
 
@@ -52,29 +52,25 @@ pairs_of-at (high ∷ low ∷ xs) (suc k) h =
     let low : suc (suc (k * 2)) + 1 ≡ suc (suc (k * 2 + 1)) = omega arith in
     rw (twice-more k, low) (omega (arith, later.0), later.1)
 
-module _ (text : List ℕ) (at k : ℕ) where
-  pub number-none : number_in text at k 0 ≡ 0
+module _ (frame : List ℕ) (k : ℕ) where
+  pub number-none : number_in frame 0 k 0 ≡ 0
   unfolding number_in number_on
   number-none = refl
 
-  module _ (i : ℕ) (h : (k + i) * 2 + 1 < digits_ahead (drop at text)) where
-    pub number-next : number_in text at k (i + 1) ≡ number_in text at k i * 256 + byte_in text (at + (k + i) * 2)
+  module _ (i : ℕ) (h : (k + i) * 2 + 1 < digits_ahead frame) where
+    pub number-next : number_in frame 0 k (i + 1) ≡ number_in frame 0 k i * 256 + byte_in frame ((k + i) * 2)
     unfolding number_in
     number-next =
-        let bytes = hex_bytes (drop at text) in
-        let inside = ahead-inside text at ((k + i) * 2 + 1) h in
-        let there = pairs_of-at (drop at text) (k + i) (omega (arith, length-drop at text)) in
+        let bytes = hex_bytes frame in
+        let there = pairs_of-at frame (k + i) (omega (arith, digits_ahead-fits frame)) in
         let long : i < length (drop k bytes) = omega (arith, there.0, length-drop k bytes) in
-        let low : at + ((k + i) * 2 + 1) ≡ at + (k + i) * 2 + 1 = omega arith in
         rw (add-one i, take-suc (drop k bytes) i 0 long, number_on-last 256 0 (take i (drop k bytes)) _, get_or-drop k bytes i 0)
-        (ap (λ b. number_of (take i (drop k bytes)) * 256 + b)
-        (there.1 ∙ rw (get_or-drop at text ((k + i) * 2) 0, get_or-drop at text ((k + i) * 2 + 1) 0, low)))
+        (ap (λ b. number_of (take i (drop k bytes)) * 256 + b) there.1)
 
-    pub byte_small : byte_in text (at + (k + i) * 2) < 256
+    pub byte_small : byte_in frame ((k + i) * 2) < 256
     byte_small =
-        let low : at + ((k + i) * 2 + 1) ≡ at + (k + i) * 2 + 1 = omega arith in
-        let second = rw low at (ahead-digit text at ((k + i) * 2 + 1) h) in
-        omega (arith, ahead-digit text at ((k + i) * 2) (omega arith))
+        let second = ahead-digit frame ((k + i) * 2 + 1) h in
+        omega (arith, ahead-digit frame ((k + i) * 2) (omega arith))
 
 -- ---- What bytes are worth
 

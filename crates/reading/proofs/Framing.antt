@@ -1,9 +1,13 @@
 -- A line as a frame: what stands from a position on decides `frame_check`, and a frame that is not refused stands where it should.
 use Rattle.base.proofs.Prelude.{ℕ, zero, suc, ◌+◌, ◌*◌, ◌/◌, ◌≤◌, ◌≡◌, refl, sym, ap, ◌∙◌, false, not, ◌&&◌, List, [], ◌∷◌, arith, eq-eqb, ne_eqb, eqb-true, not-false, eqb, length, take, drop, length-drop, length-take-le}
-use Rattle.faults.specs.{declared.Fault.TheVariants.{LineMalformed, FrameWrong}, declared.Checked.TheVariants.{Lawful, Refused}, Checks.refuse_if}
+use Rattle.faults.specs.Checks.{Refused, Lawful}
+use Rattle.faults.specs.declared.Fault.TheVariants.{LineMalformed, FrameWrong}
+use Rattle.faults.specs.Checks.{refuse_if}
 use Rattle.faults.proofs.Checks.{then-first, then-second, refuse_if-not}
 use Rattle.base.proofs.{Lists.and_left, Parts.take-drop-take}
-use Rattle.rules.specs.{Layout.{line_length, number_of, kind_in}, Text.{well_formed, hex_bytes, frame_of, frame_check}}
+use Rattle.rules.specs.Layout as rule
+use Rattle.layouts.specs.{declared.Layout.Layout, inner.Versions.layout_for}
+use Rattle.rules.specs.{Layout.{line_length, number_of, kind_in}, Text.{Line, well_formed, hex_bytes, frame_of, frame_check, layout_check}}
 use Rattle.reading.specs.inner.Positions.{digits_ahead, lines_from, line_at, Frame, number_in}
 use Rattle.reading.proofs.Lines.{Formed, lines_next, formed-yes, formed-is}
 
@@ -95,3 +99,8 @@ module _ (text : List ℕ) (at k kind size : ℕ) where
       let both = not-false (whole && same) (refuse_if-not _ _ _ (then-second form wrong h)) in
       formed-frame text at size formed
       (sym (frame-length text at _ (formed-frame text at _ formed refl)) ∙ eqb-true _ size (and_left whole same both))
+
+-- the code's layout is the frame's
+pub as-laid : {F : Type 0} (l : rule.Layout F) (said : Layout) → said ≡ layout_for l → (k : ℕ) (line : Line)
+    → frame_check k said.kind said.size line ≡ layout_check k l line
+as-laid l said e k line = ap (λ (s : Layout). frame_check k s.kind s.size line) e

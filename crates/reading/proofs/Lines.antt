@@ -1,11 +1,11 @@
 -- The first line from a position on: it is well formed exactly where digits, one or more, evenly many, lead up to a 0a.
 --     Formed text at        so it is from `at` on
-use Rattle.base.proofs.Prelude.{ℕ, zero, suc, ◌+◌, ◌%◌, ◌≤◌, ◌<◌, ◌≡◌, refl, sym, ap, ◌∙◌, true, false, ◌&&◌, List, [], ◌∷◌, arith, add-one, not-suc-le-zero, lt-ltb, ltb-true, eq-eqb, eqb-true, ltb, eqb, length, take, drop, get_or, length-drop, drop_of_length-le, drop-drop, get_or-drop, length-take-le}
+use Rattle.base.proofs.Prelude.{ℕ, zero, suc, ◌+◌, ◌-◌, ◌*◌, ◌%◌, ◌≤◌, ◌<◌, ◌≡◌, refl, sym, ap, ◌∙◌, true, false, not, ◌&&◌, List, [], ◌∷◌, arith, add-one, not-suc-le-zero, lt-ltb, ltb-true, eq-eqb, ne_eqb, eqb-true, ltb, eqb, length, take, drop, get_or, length-drop, drop_of_length-le, drop-drop, get_or-drop, length-take-le, take_all}
 use Rattle.base.specs.Count.{every}
 use Rattle.base.proofs.Lists.{by_bool, true-not-false, and_left, and_right}
 use Rattle.rules.specs.Text.{Line, before, lines_of, well_formed}
-use Rattle.reading.specs.inner.Positions.{digits_ahead, head_line, lines_from, line_at}
-use Rattle.reading.proofs.Hex.{is_digit, newline-no-digit, digits_ahead-fits, digits_ahead-every}
+use Rattle.reading.specs.inner.Positions.{is_digit, digits_ahead, head_line, lines_from, line_at, Frame}
+use Rattle.reading.proofs.Hex.{newline-no-digit, digits_ahead-fits, digits_ahead-every}
 
 -- ---- Digits up to a 0a are a line
 
@@ -63,6 +63,10 @@ line-whole (b ∷ bs) ended digits =
     (λ n. whole_here b bs (eqb-true b 0x0a n))
     (λ n. whole_before b bs (lines_of bs) (line-whole bs) (rw n at ended) (rw n at digits))
 
+nonzero : (d : ℕ) → not (eqb d 0) ≡ true → 0 < d
+nonzero zero h = absurd (true-not-false (sym h))
+nonzero (suc d) h = omega arith
+
 -- ---- From a position on
 
 pub record Formed (text : List ℕ) (at : ℕ) : Type 0 where
@@ -109,16 +113,62 @@ module _ (text : List ℕ) (at : ℕ) where
         even = eqb-true (ahead % 2) 0 (ap (λ n. eqb (n % 2) 0) (sym same) ∙ and_right (line.ended && some) even front);
       }
 
-  pub formed-not : (Formed text at → ⊥) → well_formed (line_at text at) ≡ false
-  formed-not out = by_bool (well_formed (line_at text at)) (λ t. absurd (out (formed-is t))) (λ e. e)
+  -- as the code asks it, where d digits stand ahead
+  formed_asked : (d : ℕ) → d ≡ ahead → well_formed (line_at text at)
+      ≡ ltb (at + d) (length text) && eqb (get_or text (at + d) 0) 0x0a && not (eqb d 0) && eqb (d % 2) 0
+  formed_asked d e =
+      let inside = ltb (at + d) (length text) in
+      let newline = eqb (get_or text (at + d) 0) 0x0a in
+      let some = not (eqb d 0) in
+      let even = eqb (d % 2) 0 in
+      by_bool (well_formed (line_at text at))
+      (λ t.
+      let f = formed-is t in
+      let here : ltb (at + d) (length text) ≡ true = lt-ltb _ _ (rw e f.inside) in
+      let ends : eqb (get_or text (at + d) 0) 0x0a ≡ true = eq-eqb _ _ (rw e f.newline) in
+      let more : eqb d 0 ≡ false = ne_eqb d 0 (λ none. omega (arith, f.some)) in
+      let twos : eqb (d % 2) 0 ≡ true = eq-eqb _ _ (rw e f.even) in
+      t ∙ sym (rw (here, ends, more, twos)))
+      (λ n.
+      n
+      ∙ sym (by_bool (inside && newline && some && even)
+      (λ t.
+      let three = and_left (inside && newline && some) even t in
+      let two = and_left (inside && newline) some three in
+      let f : Formed text at =
+      record {
+        inside = rw (← e) (ltb-true _ _ (and_left inside newline two));
+        newline = rw (← e) (eqb-true _ _ (and_right inside newline two));
+        some = omega (arith, e, nonzero d (and_right (inside && newline) some three));
+        even = rw (← e) (eqb-true _ _ (and_right (inside && newline && some) even t));
+      } in
+      absurd (true-not-false (sym (formed-yes f) ∙ n)))
+      (λ f. f)))
 
-  -- what decides last
-  pub formed-even : at + ahead < length text → get_or text (at + ahead) 0 ≡ 0x0a → 0 < ahead
-      → eqb (ahead % 2) 0 ≡ well_formed (line_at text at)
-  formed-even inside newline some =
-      by_bool (eqb (ahead % 2) 0)
-      (λ t. t ∙ sym (formed-yes (record { inside = inside; newline = newline; some = some; even = eqb-true (ahead % 2) 0 t })))
-      (λ e. e ∙ sym (formed-not (λ f. true-not-false (sym (eq-eqb (ahead % 2) 0 f.even) ∙ e))))
+-- the same of the first line
+pub asked-first : (line : List ℕ) (d : ℕ) → d ≡ digits_ahead line → well_formed (line_at line 0)
+    ≡ ltb d (length line) && eqb (get_or line d 0) 0x0a && not (eqb d 0) && eqb (d % 2) 0
+asked-first line d e =
+    let here : 0 + d ≡ d = omega arith in
+    rw here at (formed_asked line 0 d e)
+
+-- ---- What stands from a position on, as a text of its own
+
+pub tail_is : (text : List ℕ) (at : ℕ) → take (length text - at) (drop at text) ≡ drop at text
+tail_is text at = take_all (length text - at) (drop at text) (omega (arith, length-drop at text))
+
+pub tail-line : (text : List ℕ) (at : ℕ) → line_at (take (length text - at) (drop at text)) 0 ≡ line_at text at
+unfolding line_at
+tail-line text at = rw tail_is
+
+pub tail-frame : (text : List ℕ) (at size : ℕ) → Frame text at size → Frame (take (length text - at) (drop at text)) 0 size
+tail-frame text at size f =
+    let here : 0 + size * 2 ≡ size * 2 = omega arith in
+    rw (tail_is text at) (record {
+      digits = f.digits;
+      inside = omega (arith, f.inside, length-drop at text);
+      newline = rw (here, get_or-drop at text (size * 2) 0) f.newline;
+    })
 
 -- ---- A text that has not ended has a line
 

@@ -1,12 +1,19 @@
 -- The release lines: frames first, then the releases that they write. Together these decide as line after line does.
 --     decided k j u end     the answer, where u is the place of the first unlawful release (0: none), the line of the release j has
 --                           number k, and `end` is what ended the frames
-use Rattle.base.proofs.Prelude.{ℕ, zero, suc, ◌+◌, ◌-◌, ◌≤◌, ◌<◌, ◌≡◌, refl, sym, ap, ◌∙◌, cond, List, [], ◌∷◌, map, arith, le_refl, lt-ltb, le-ltb, ltb, length, take}
+use Rattle.base.proofs.Prelude.{ℕ, zero, suc, ◌+◌, ◌-◌, ◌*◌, ◌≤◌, ◌<◌, ◌≡◌, refl, sym, ap, ◌∙◌, cond, List, [], ◌∷◌, map, arith, add-one, suc-mul, le_refl, lt-ltb, le-ltb, ltb-true, ltb-false, ltb, length, take}
+use Rattle.faults.specs.Checks.{Refused, Lawful, Checked}
+use Rattle.faults.specs.Checks.{then}
+use Rattle.faults.specs.declared.Refusal.{Refusal}
+use Rattle.std.specs.Prelude.{Ok, Err}
+use Rattle.rules.specs.Refusal.{many_check}
+use Rattle.reading.specs.declared.Framed.{Framed}
 use mathlib.Core.List.{tail-eq_of_cons-eq}
-use Rattle.faults.specs.{declared.Fault.Fault, declared.Fault.TheVariants.{ReleaseTooMany, ReleaseUnlawful}, declared.Checked.Checked, declared.Checked.TheVariants.{Lawful, Refused}}
-use Rattle.faults.proofs.Checks.{by-checked, refused-not-lawful}
+use Rattle.faults.specs.declared.Fault.{Fault}
+use Rattle.faults.specs.declared.Fault.TheVariants.{ReleaseTooMany, ReleaseUnlawful}
+use Rattle.faults.proofs.Checks.{by-checked, refused-not-lawful, err-not-ok, then-first, then-second}
 use Rattle.base.proofs.Lists.{by_bool}
-use Rattle.rules.specs.{declared.Plan.Plan, declared.Release.Release, Release.{release_lawful, unlawful_from}, Layout.{Layout, Version, frame_size, line_size, release_frame}, Text.{Line, release_of, release_line_check, release_lines_check, layout_check}}
+use Rattle.rules.specs.{declared.Plan.Plan, declared.Release.Release, Release.{release_lawful, unlawful_from}, Layout.{Layout, ReleaseField, Version, frame_size, line_size, release_frame}, Text.{Line, release_of, release_line_check, release_lines_check, layout_check}}
 use Rattle.reading.specs.inner.Positions.{head_line, lines_from, line_at, Stand, one_more, frames_in}
 use Rattle.reading.proofs.{Lines.{line-here, lines_none}, Framing.{frame_check-frame, frame-next}, Standing.{stand-none, stand-more}}
 
@@ -99,6 +106,71 @@ module _ {F : Type 0} (l : Layout F) where
         (stand-more text (frame_size l) at (frames_in l (suc k) room lines).count frame
         (frames-stand lines (at + line_size l) (suc k) room next (omega (arith, frame.inside)))))
         (λ f a bad. rw (frames-refused k line lines (suc room) f a bad) (stand-none text (frame_size l) at inside))
+
+-- ---- What the lines from the j-th on give; each takes step bytes
+
+-- n frames stand ahead
+abbrev pub after : ℕ → Framed → Framed
+after n later = record { count = n + later.count; checked = later.checked }
+
+-- the frames end here
+ended : (j : ℕ) (here : Framed) (end : Checked) → here ≡ record { count = 0; checked = end }
+    → record { count = j; checked = end } ≡ after j here
+ended j here end e =
+    let all : j + 0 ≡ j = omega arith in
+    rw (e, all)
+
+module _ (v : Version) (text : List ℕ) (step start k : ℕ) where
+  abbrev layout : Layout ReleaseField
+  layout = release_frame v
+
+  abbrev pub frames_left : ℕ → Framed
+  frames_left j = frames_in layout (k + j) (1000 - j) (lines_from text (start + j * step))
+
+  module _ (j : ℕ) where
+    pub frames-over : length text ≤ start + j * step → record { count = j; checked = Lawful } ≡ after j (frames_left j)
+    frames-over h = ended j _ _ (frames-none-at layout text (start + j * step) (k + j) (1000 - j) h)
+
+    module _ (h : start + j * step < length text) (few : j ≤ 1000) where
+      -- the line is no frame, or there is no room
+      pub frames-stop : (e : Refusal)
+          → then (layout_check (k + j) layout (line_at text (start + j * step))) (many_check (k + j) (j + 1)) ≡ Err e
+          → record { count = j; checked = Err e } ≡ after j (frames_left j)
+      frames-stop e bad = ended j _ _ (stop (layout_check (k + j) layout (line_at text (start + j * step))) refl)
+        where
+          stop : (c : Checked) → layout_check (k + j) layout (line_at text (start + j * step)) ≡ c
+              → frames_left j ≡ record { count = 0; checked = Err e }
+          stop (Ok _) good =
+              by_bool (ltb 1000 (j + 1))
+              (λ t.
+              let room : 1000 - j ≡ 0 = omega (arith, ltb-true 1000 (j + 1) t) in
+              let line : Refused ReleaseTooMany (k + j) ≡ Err e = rw (good, t) at bad in
+              rw room (frames-full-at layout text (start + j * step) (k + j) good h ∙ ap (λ c. record { count = 0; checked = c }) line))
+              (λ f. absurd (err-not-ok e tt (sym (rw (good, f) at bad))))
+          stop (Err r) refused =
+              let line : ◌≡◌ {A = Checked} (Err r) (Err e) = rw refused at bad in
+              frames-refused-at layout text (start + j * step) (k + j) (1000 - j) h r.fault r.at refused
+              ∙ ap (λ c. record { count = 0; checked = c }) line
+
+      module _ (good : then (layout_check (k + j) layout (line_at text (start + j * step))) (many_check (k + j) (j + 1)) ≡ Lawful) where
+        pub frames-frame : layout_check (k + j) layout (line_at text (start + j * step)) ≡ Lawful
+        frames-frame = then-first _ _ good
+
+        pub frames-room : j < 1000
+        frames-room =
+            let second = then-second (layout_check (k + j) layout (line_at text (start + j * step))) (many_check (k + j) (j + 1)) good in
+            by_bool (ltb 1000 (j + 1))
+            (λ t. absurd (refused-not-lawful ReleaseTooMany (k + j) (rw t at second)))
+            (λ f. omega (arith, ltb-false 1000 (j + 1) f))
+
+        pub frames-onward : step ≡ line_size layout → after (j + 1) (frames_left (j + 1)) ≡ after j (frames_left j)
+        frames-onward long =
+            let room : 1000 - j ≡ suc (1000 - (j + 1)) = omega (arith, frames-room) in
+            let line : suc (k + j) ≡ k + (j + 1) = omega arith in
+            let more : (j + 1) * step ≡ j * step + step = rw (add-one j) (suc-mul j step) in
+            let there : start + j * step + line_size layout ≡ start + (j + 1) * step = omega arith in
+            let count : j + suc (frames_left (j + 1)).count ≡ j + 1 + (frames_left (j + 1)).count = omega arith in
+            rw (room, frames-next-at layout text (start + j * step) (k + j) frames-frame (1000 - (j + 1)), line, there, count)
 
 -- ---- Frames first, releases afterwards
 

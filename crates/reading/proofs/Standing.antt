@@ -66,3 +66,8 @@ module _ (text : List ℕ) (size : ℕ) where
       each' : (i : ℕ) → i < suc n → Frame text (at + i * line_length size) size
       each' zero low = rw (step-none at (line_length size)) f
       each' (suc i) low = rw (step-more at i (line_length size)) (s.each i (omega arith))
+
+-- the i-th of them, where the code looks for it
+pub frame-here : {text : List ℕ} {start step size n : ℕ} → step ≡ line_length size → Stand text start size n
+    → (i : ℕ) → i < n → Frame text (start + i * step) size
+frame-here long stand i low = rw long (stand.each i low)

@@ -1,13 +1,23 @@
 -- The whole text: its parts, read one after the other, decide as the definition does.
 use Rattle.base.proofs.Prelude.{ℕ, ◌+◌, ◌-◌, ◌≤◌, ◌<◌, ◌≡◌, refl, sym, ap, ◌∙◌, List, ◌∷◌, map, arith, lt-ltb, le-ltb, length, length-map, take_at, take_all}
+use Rattle.faults.specs.Checks.{Refused, Lawful, Checked}
+use Rattle.faults.specs.declared.Refusal.{Refusal}
+use Rattle.std.specs.Prelude.{Result, Ok, Err}
 use Rattle.days.specs.Days.{days}
-use Rattle.faults.specs.{declared.Fault.Fault, declared.Fault.TheVariants.{TextTooLong, FrameWrong, ReleaseUnlawful}, declared.Checked.TheVariants.{Lawful, Refused}, Checks.then}
+use Rattle.faults.specs.declared.Fault.{Fault}
+use Rattle.faults.specs.declared.Fault.TheVariants.{TextTooLong, FrameWrong, ReleaseUnlawful}
+use Rattle.faults.specs.Checks.{then}
 use Rattle.faults.proofs.Checks.{then-first, then-second, then-lawful}
 use Rattle.base.specs.Count.{filled}
-use Rattle.rules.specs.{declared.BatteryString.BatteryString, declared.Plan.Plan, Plan.no_string, Refusal.{head_check, cost_check, multiple_check}, Release.{releases_of, first_unlawful}, Layout.{Version, frame_size, line_size, header_frame, string_frame, release_frame}, Text.{Line, lines_of, n_in, a_in, run_in, string_of, release_of, plan_in, list_in, version_check, header_check, layout_check, string_lines_check, body_check, lines_check, text_check, refused_reading, lawful_reading, reading_in}}
+use Rattle.rules.specs.{declared.BatteryString.BatteryString, declared.Plan.Plan, Plan.no_string, Refusal.{head_check, cost_check, multiple_check}, Release.{releases_of, first_unlawful}, Layout.{Version, frame_size, line_size, header_frame, string_frame, release_frame}, Text.{Line, lines_of, n_in, a_in, run_in, string_of, release_of, plan_in, list_in, version_check, header_check, layout_check, string_lines_check, body_check, lines_check, text_check, lawful_reading, reading_in, said_in}}
 use Rattle.laws.proofs.{Lawful.head_check-lawful, Releases.first_unlawful-le}
-use Rattle.reading.specs.{declared.Framed.Framed, inner.Positions.{lines_from, line_at, lines_at, Frame, Stand, frames_in, header_numbers, strings_at, releases_at, HeaderRead, StringsRead, body_reading, list_check, list_reading, rest_reading, release_list}}
+use Rattle.reading.specs.{declared.Framed.Framed, inner.Positions.{lines_from, line_at, lines_at, Frame, Stand, frames_in, header_numbers, strings_at, releases_at, HeaderRead, StringsRead, said_of, body_said, list_check, list_said, rest_said, release_list}}
 use Rattle.reading.proofs.{Lines.{line-here, lines_none}, Framing.{frame_check-frame, frame-next}, Standing.lines_at-length, StringLines.strings-stand, ReleaseLines.{frames-few, frames-all, frames-stand, decided, release_lines-decided}}
+
+-- checks one after the other
+then-then : {A : Type 0} (a b : Checked) (x : Result A Refusal) → then (then a b) x ≡ then a (then b x)
+then-then (Ok _) b x = refl
+then-then (Err e) b x = refl
 
 module _ (v : Version) (text : List ℕ) where
   -- ---- The header
@@ -49,8 +59,8 @@ module _ (v : Version) (text : List ℕ) where
 
     pub body_refused : (f : Fault) (a : ℕ)
         → string_lines_check v (line_at text 0) 2 (n_in v (line_at text 0)) (lines_from text (strings_at v)) ≡ Refused f a
-        → body_reading v text ≡ refused_reading f a
-    unfolding body_reading body_check lawful_reading
+        → body_said v text ≡ Refused f a
+    unfolding body_said body_check
     body_refused f a e = rw (plan-n, e)
 
   -- ---- The strings
@@ -71,17 +81,11 @@ module _ (v : Version) (text : List ℕ) where
     standing : Stand text (strings_at v) (frame_size (string_frame v)) p.n
     standing = strings-stand v (line_at text 0) text (strings_at v) 2 p.n (header-inside s.header) s.strings
 
-    pub body-rest : body_reading v text ≡ rest_reading v text p
-    unfolding body_reading rest_reading list_check body_check
-    body-rest = ap (λ c. lawful_reading v c (lines_of text)) (rw (← s.plan, standing.rest) (then-lawful _ _ s.strings))
-
-    pub rest-refused : (f : Fault) (a : ℕ) → multiple_check (p.n + 1) p ≡ Refused f a → rest_reading v text p ≡ refused_reading f a
-    unfolding rest_reading lawful_reading
-    rest-refused f a e = rw e
-
-    pub rest-list : multiple_check (p.n + 1) p ≡ Lawful → rest_reading v text p ≡ list_reading v text p
-    unfolding rest_reading list_reading
-    rest-list e = ap (λ c. lawful_reading v c (lines_of text)) (then-lawful _ _ e)
+    pub body-rest : body_said v text ≡ rest_said v text p
+    unfolding body_said rest_said list_said list_check body_check
+    body-rest =
+        ap (λ c. said_of v c (lines_of text)) (rw (← s.plan, standing.rest) (then-lawful _ _ s.strings))
+        ∙ then-then (multiple_check (p.n + 1) p) _ _
 
     -- ---- The releases: where they start, the frames among their lines, and what these write
 
@@ -119,22 +123,22 @@ module _ (v : Version) (text : List ℕ) where
         let listed = first_unlawful-le p (releases_of (release_list v text start framed.count)) in
         omega (arith, listed, ap length list_of, many, framed-few)
 
-    list-decided : list_reading v text p ≡ lawful_reading v (decided (p.n + 2) 1 unlawful framed.checked) (lines_of text)
-    unfolding list_reading list_check first_unlawful written
+    list-decided : list_said v text p ≡ said_of v (decided (p.n + 2) 1 unlawful framed.checked) (lines_of text)
+    unfolding list_said list_check first_unlawful written
     list-decided =
-        ap (λ c. lawful_reading v c (lines_of text))
+        ap (λ c. said_of v c (lines_of text))
         (release_lines-decided v p (lines_from text start) (p.n + 2) 1 1000 _ (omega arith) refl ∙ rw (framed-stand.first, list_of))
 
-    pub list-unlawful : (u : ℕ) → u ≡ unlawful → 0 < u → list_reading v text p ≡ refused_reading ReleaseUnlawful (p.n + 1 + u)
-    unfolding decided lawful_reading
+    pub list-unlawful : (u : ℕ) → u ≡ unlawful → 0 < u → list_said v text p ≡ Refused ReleaseUnlawful (p.n + 1 + u)
+    unfolding decided
     list-unlawful u e h =
         let line : p.n + 2 + u - 1 ≡ p.n + 1 + u = omega arith in
         list-decided ∙ rw (← e, lt-ltb 0 u h, line)
 
     module _ (none : 0 ≡ unlawful) where
-      pub list-refused : (f : Fault) (a : ℕ) → framed.checked ≡ Refused f a → list_reading v text p ≡ refused_reading f a
-      unfolding decided lawful_reading
-      list-refused f a e = list-decided ∙ rw (← none, e)
+      pub list-refused : (r : Refusal) → framed.checked ≡ Err r → list_said v text p ≡ Err r
+      unfolding decided
+      list-refused r e = list-decided ∙ rw (← none, e)
 
       releases-said : framed.checked ≡ Lawful → list_in v (lines_of text) ≡ release_list v text start framed.count
       unfolding list_in release_list written
@@ -145,29 +149,38 @@ module _ (v : Version) (text : List ℕ) where
           rw (header-next s.header.frame, ← strings-n, standing.rest, said, many)
 
       pub releases-lawful : framed.checked ≡ Lawful
-          → list_reading v text p ≡ record { checked = Lawful; plan = p; releases = release_list v text start framed.count }
-      unfolding decided lawful_reading
+          → list_said v text p ≡ Ok (record { plan = p; releases = release_list v text start framed.count })
+      unfolding decided
       releases-lawful e = list-decided ∙ rw (← none, e, releases-said e, ← s.plan)
 
 -- ---- The whole
 
 module _ (v : Version) (text : List ℕ) where
-  pub read-long : 65536 < length text → reading_in v text ≡ refused_reading TextTooLong 0
-  unfolding reading_in text_check lawful_reading
-  read-long h = rw (lt-ltb 65536 (length text) h)
+  said-is : (c : Checked) (lines : List Line) → said_in (lawful_reading v c lines) ≡ said_of v c lines
+  unfolding lawful_reading
+  said-is (Ok _) lines = refl
+  said-is (Err e) lines = refl
+
+  whole-said : said_in (reading_in v text) ≡ said_of v (text_check v text) (lines_of text)
+  unfolding reading_in
+  whole-said = said-is (text_check v text) (lines_of text)
+
+  pub read-long : 65536 < length text → said_in (reading_in v text) ≡ Refused TextTooLong 0
+  unfolding text_check
+  read-long h = whole-said ∙ rw (lt-ltb 65536 (length text) h)
 
   module _ (fits : length text ≤ 65536) where
-    pub read-empty : length text ≡ 0 → reading_in v text ≡ refused_reading FrameWrong 1
-    unfolding reading_in text_check lawful_reading lines_check
-    read-empty none = rw (le-ltb 65536 (length text) fits, lines_none text 0 (omega arith))
+    pub read-empty : length text ≡ 0 → said_in (reading_in v text) ≡ Refused FrameWrong 1
+    unfolding text_check lines_check
+    read-empty none = whole-said ∙ rw (le-ltb 65536 (length text) fits, lines_none text 0 (omega arith))
 
-    pub read-refused : 0 < length text → (f : Fault) (a : ℕ) → header_check v (line_at text 0) ≡ Refused f a
-        → reading_in v text ≡ refused_reading f a
-    unfolding reading_in text_check lawful_reading lines_check
-    read-refused some f a e = rw (le-ltb 65536 (length text) fits, (line-here text 0 some).1, e)
+    pub read-refused : 0 < length text → (r : Refusal) → header_check v (line_at text 0) ≡ Err r → said_in (reading_in v text) ≡ Err r
+    unfolding text_check lines_check
+    read-refused some r e = whole-said ∙ rw (le-ltb 65536 (length text) fits, (line-here text 0 some).1, e)
 
-    pub read-body : header_check v (line_at text 0) ≡ Lawful → reading_in v text ≡ body_reading v text
-    unfolding reading_in text_check lines_check body_reading
+    pub read-body : header_check v (line_at text 0) ≡ Lawful → said_in (reading_in v text) ≡ body_said v text
+    unfolding text_check lines_check body_said
     read-body e =
-        ap (λ c. lawful_reading v c (lines_of text))
+        whole-said
+        ∙ ap (λ c. said_of v c (lines_of text))
         (rw (le-ltb 65536 (length text) fits, header-next v text (header_read v text e).frame) (then-lawful _ _ e))

@@ -1,54 +1,36 @@
 // One line of the text: is it well formed, and is it the frame that is wanted?
-ghost use Rattle.std.specs.Prelude.{◌≡◌, ◌≤◌, length, drop};
+ghost use Rattle.std.specs.Prelude.{◌≡◌};
 ghost use Rattle.rules.specs.Text.{well_formed, frame_check};
 ghost use Rattle.reading.specs.inner.Positions.{digits_ahead, line_at};
 
-use super::digits::{digits_ahead, field_at};
-use faults::{Checked, Fault};
+use super::digits::{digits_ahead, field_of};
+use faults::{Checked, Fault, Refusal};
 use layouts::{KIND, Layout};
 
-// Whether the line that starts at `at` with so many digits is nothing but them and its 0a, not empty, of even length.
-fn well_formed(text: &[u8], at: usize, digits: usize) -> bool
-    requires { (at ≤ length text.now) × (digits ≡ digits_ahead (drop at text.now)) }
-    ensures exact { result ≡ well_formed (line_at text.now at) }
+// Whether the first line, with so many digits ahead, is nothing but them and its 0a, not empty, of even length.
+fn well_formed(line: &[u8], digits: usize) -> bool
+    requires { digits ≡ digits_ahead line.now }
+    ensures exact { result ≡ well_formed (line_at line.now 0) }
 {
-    let end = at + digits;
-    if text.len() <= end {
-        return false;
-    }
-    let b = text[end];
-    if b != 10 {
-        return false;
-    }
-    if digits == 0 {
-        return false;
-    }
-    digits % 2 == 0
+    digits < line.len() && line[digits] == b'\n' && digits != 0 && digits % 2 == 0
 }
 
-// Line k, which starts at `at`: 2 where it is malformed, then 3 where its size or kind is another.
-pub(crate) fn frame_check(text: &[u8], at: usize, k: usize, layout: Layout) -> Checked
-    requires { at ≤ length text.now }
-    ensures exact { result ≡ frame_check k layout.kind layout.size (line_at text.now at) }
+// The first line, which has number k: 2 where it is malformed, then 3 where its size or kind is another.
+pub(crate) fn frame_check(line: &[u8], k: usize, layout: Layout) -> Checked
+    ensures exact { result ≡ frame_check k layout.kind layout.size (line_at line.now 0) }
 {
-    let digits = digits_ahead(text, at);
-    if !well_formed(text, at, digits) {
-        return Checked::Refused {
+    let digits = digits_ahead(line);
+    if !well_formed(line, digits) {
+        return Err(Refusal {
             fault: Fault::LineMalformed,
             at: k,
-        };
+        });
     }
-    if digits / 2 != layout.size {
-        return Checked::Refused {
+    if digits / 2 != layout.size || field_of(line, KIND) != layout.kind {
+        return Err(Refusal {
             fault: Fault::FrameWrong,
             at: k,
-        };
+        });
     }
-    if field_at(text, at, KIND) != layout.kind {
-        return Checked::Refused {
-            fault: Fault::FrameWrong,
-            at: k,
-        };
-    }
-    Checked::Lawful
+    Ok(())
 }

@@ -1,11 +1,14 @@
 -- Written and read back, the strings are the same; read and written back, the bytes are.
 --     table_read run p       what reading the table of p with an N given beside it gives
 use Rattle.base.proofs.Prelude.{ℕ, suc, ◌+◌, ◌*◌, ◌≤◌, ◌≡◌, refl, sym, ap, ◌∙◌, true, List, [], ◌∷◌, map, arith, le-ltb, ltb-false, ne_eqb, eqb-false, not, not-false, ltb, eqb, length, length-append, length-map, length-take-le, take_at}
+use Rattle.faults.specs.Checks.{Lawful, Checked}
+use Rattle.std.specs.Prelude.{Ok, Err}
 use mathlib.Core.List.{flat_map}
 use Rattle.days.specs.Days.{days}
 use Rattle.base.specs.Count.{All, filled, least_from}
 use Rattle.base.proofs.Lists.{all_map}
-use Rattle.faults.specs.{declared.Checked.Checked, declared.Checked.TheVariants.{Lawful, Refused}, declared.Fault.TheVariants.{TextTooLong, StringCount, MultipleOver, RowMalformed}, Checks.{then, refuse_if}}
+use Rattle.faults.specs.declared.Fault.TheVariants.{TextTooLong, StringCount, MultipleOver, RowMalformed}
+use Rattle.faults.specs.Checks.{then, refuse_if}
 use Rattle.faults.proofs.Checks.{then-first, then-second, then-lawful, refuse_if-not, in_bounds-yes}
 use Rattle.rules.specs.{declared.BatteryString.BatteryString, declared.Plan.Plan, Plan.{strings_of, no_string, common_multiple, multiple_of}, Refusal.{count_check, run_length_check, string_check, strings_check, multiple_check, plan_check, releases_check, run_check}, Release.{first_unlawful, unlawful_from}, Lines.row_line, Text.{Line, lines_of, no_releases}}
 use Rattle.laws.specs.Lawful.{LawfulString, LawfulPlan}
@@ -128,8 +131,8 @@ unfolding table_reading
 table-checked run text h = each (table_check run text) refl
   where
     each : (c : Checked) → table_check run text ≡ c → table_check run text ≡ Lawful
-    each Lawful e = e
-    each (Refused f at) e = e ∙ sym (rw e) ∙ h
+    each (Ok _) e = e
+    each (Err e') e = e ∙ sym (rw e) ∙ h
 
 -- a row that is not refused
 module _ (k : ℕ) (line : Line) (h : row_check k line ≡ Lawful) where

@@ -1,18 +1,28 @@
 -- What is read of the line that starts at a place of a text.
-use Rattle.base.proofs.Prelude.{ℕ, ◌+◌, ◌-◌, ◌≤◌, ◌<◌, ◌≡◌, refl, sym, ap, ◌∙◌, true, false, List, [], ◌∷◌, map, arith, eq-eqb, ne_eqb, length, take, drop, get_or, length-drop, length-take-le, drop_of_length-le, get_or-drop, get_or-take}
-use lib.Seq.{take-take}
-use Rattle.base.specs.{Count.filled, Digits.decimal_in}
-use Rattle.base.proofs.Lists.{by_bool}
+use Rattle.base.proofs.Prelude.{ℕ, suc, ◌+◌, ◌-◌, ◌≤◌, ◌<◌, ◌≡◌, ◌≢◌, refl, sym, ap, ◌∙◌, true, false, List, [], ◌∷◌, ◌++◌, map, arith, dec_le, eqb, eqb-true, length, take, drop, get_or, length-append, length-drop, length-take-le, drop_of_length-le, take-append_seam, take-suc, take_all}
+use lib.Seq.{get_or-append_seam}
+use Rattle.std.specs.Prelude.{Some, None, position}
+use Rattle.base.specs.Digits.{decimal_in}
+use Rattle.base.proofs.Lists.{by_bool, true-not-false}
 use Rattle.rules.specs.Text.{Line, lines_of}
-use Rattle.register.specs.{declared.LineRead.LineRead, declared.fields.Numbers.Numbers, Table.{fields_of, numbers_formed, row_fields, line_formed}, Reader.{line_long, unformed_line, line_given, line_read_at}, inner.Fields.{bytes_ahead, numbers_read}}
-use Rattle.register.proofs.Splitting.{lines-open, lines-closed}
+use Rattle.register.specs.{Table.{fields_of, numbers_formed, row_fields, line_formed}, Reader.{line_long, unformed_line, line_given, line_read_at}, inner.Fields.{bytes_ahead, numbers_in}}
+use Rattle.register.proofs.Splitting.{register_found, not-found, lines-open, lines-closed}
+
+-- a line whose last byte is a CR is what stands ahead of it, and the CR
+last-split : (bytes : List ℕ) → eqb (get_or bytes (length bytes - 1) 0) 0x0d ≡ true → bytes ≡ take (length bytes - 1) bytes ++ (0x0d ∷ [])
+last-split [] t = absurd (true-not-false (sym t))
+last-split (b ∷ bs) t =
+    let all : suc (length (b ∷ bs) - 1) ≡ length (b ∷ bs) = omega arith in
+    sym (take_all (suc (length (b ∷ bs) - 1)) (b ∷ bs) (omega arith))
+    ∙ take-suc (b ∷ bs) (length (b ∷ bs) - 1) 0 (omega arith)
+    ∙ ap (λ c. take (length (b ∷ bs) - 1) (b ∷ bs) ++ (c ∷ [])) (eqb-true (get_or (b ∷ bs) (length (b ∷ bs) - 1) 0) 0x0d t)
 
 module _ (count most : ℕ) where
   -- ---- A line
 
   given-formed : (line : Line) (lines : List Line) (at : ℕ) → line_formed count most line ≡ true
       → line_given count most (line ∷ lines) at
-      ≡ record { formed = true; values = filled 6 0 (map decimal_in (row_fields line)); next = at + line_long line }
+      ≡ record { numbers = Some (map decimal_in (row_fields line)); next = at + line_long line }
   unfolding line_given
   given-formed line lines at t = rw t
 
@@ -29,77 +39,70 @@ module _ (count most : ℕ) where
     abbrev xs : List ℕ
     xs = drop at text
 
-    abbrev ahead : ℕ
-    ahead = bytes_ahead 0x0a xs
-
     -- no 0a
-    pub given-open : at < length text → at + ahead ≡ length text → unformed_line (length text) ≡ line_read_at count most text at
+    pub given-open : at ≤ length text → position (λ b. eqb b 0x0a) xs ≡ None → unformed_line (length text) ≡ line_read_at count most text at
     unfolding line_read_at line_long line_formed
-    given-open inside end =
+    given-open inside none =
         let size = length-drop at text in
-        let long : at + (length xs + 0) ≡ length text = omega arith in
-        sym (ap (λ lines. line_given count most lines at) (lines-open xs (omega arith) (omega arith))
-        ∙ given-not (record { bytes = xs; ended = false }) [] at refl ∙ ap unformed_line long)
+        elim (dec_le (length text) at) [
+          | yes over ↦
+              let end : at ≡ length text = omega arith in
+              rw (← end) (given-end over)
+          | no more ↦
+              let long : at + (length xs + 0) ≡ length text = omega arith in
+              sym (ap (λ lines. line_given count most lines at) (lines-open xs (omega arith) (not-found 0x0a xs none))
+              ∙ given-not (record { bytes = xs; ended = false }) [] at refl ∙ ap unformed_line long)
+        ]
 
-    module _ (inside : at + ahead < length text) where
-      short : ahead < length xs
-      short = omega (arith, length-drop at text)
-
+    module _ (end : ℕ) (found-here : position (λ b. eqb b 0x0a) xs ≡ Some end) where
       abbrev bytes : List ℕ
-      bytes = take ahead xs
+      bytes = take end xs
 
       abbrev line : Line
       line = record { bytes = bytes; ended = true }
 
-      long : length bytes ≡ ahead
-      long = length-take-le ahead xs (omega (arith, short))
+      here : (bytes_ahead 0x0a xs ≡ end) × (end < length xs)
+      here = register_found 0x0a xs end found-here
 
-      starts : line_read_at count most text at ≡ line_given count most (line ∷ lines_of (drop (ahead + 1) xs)) at
+      long : length bytes ≡ end
+      long = length-take-le end xs (omega (arith, here))
+
+      starts : line_read_at count most text at ≡ line_given count most (line ∷ lines_of (drop (end + 1) xs)) at
       unfolding line_read_at
-      starts = ap (λ lines. line_given count most lines at) (lines-closed xs short)
+      starts = ap (λ lines. line_given count most lines at) (rw here.0 at (lines-closed xs (omega (arith, here))))
 
-      behind : at + line_long line ≡ at + ahead + 1
+      behind : at + line_long line ≡ at + end + 1
       unfolding line_long
       behind = omega (arith, long)
 
-      given-no : line_formed count most line ≡ false → unformed_line (at + ahead + 1) ≡ line_read_at count most text at
-      given-no e = sym (starts ∙ given-not line (lines_of (drop (ahead + 1) xs)) at e ∙ ap unformed_line behind)
-
-      last_byte : 1 ≤ ahead → get_or bytes (length bytes - 1) 0 ≡ get_or text (at + ahead - 1) 0
-      last_byte some =
-          let place : at + (ahead - 1) ≡ at + ahead - 1 = omega arith in
-          rw long (get_or-take ahead xs (ahead - 1) 0 (omega arith) ∙ get_or-drop at text (ahead - 1) 0 ∙ ap (λ k. get_or text k 0) place)
-
-      pub given-empty : ahead ≡ 0 → unformed_line (at + ahead + 1) ≡ line_read_at count most text at
-      given-empty none = given-no (unfold line_formed in rw none)
-
-      pub given-other : 1 ≤ ahead → (get_or text (at + ahead - 1) 0 ≡ 0x0d → ⊥)
-          → unformed_line (at + ahead + 1) ≡ line_read_at count most text at
-      given-other some other = given-no no_return
+      -- no CR ahead of it
+      pub given-other : ((row : List ℕ) → bytes ≢ row ++ (0x0d ∷ [])) → unformed_line (at + end + 1) ≡ line_read_at count most text at
+      unfolding line_formed
+      given-other other =
+          sym (starts ∙ given-not line (lines_of (drop (end + 1) xs)) at no_return ∙ ap unformed_line behind)
         where
           no_return : line_formed count most line ≡ false
-          no_return = unfold line_formed in rw (last_byte some, ne_eqb (get_or text (at + ahead - 1) 0) 0x0d other)
+          no_return =
+              by_bool (eqb (get_or bytes (length bytes - 1) 0) 0x0d)
+              (λ t. absurd (other (take (length bytes - 1) bytes) (last-split bytes t)))
+              (λ e. rw e)
 
-      module _ (some : 1 ≤ ahead) (returned : get_or text (at + ahead - 1) 0 ≡ 0x0d) where
-        abbrev fields : List (List ℕ)
-        fields = fields_of (take (ahead - 1) xs)
+      -- the numbers that were looked for
+      pub given-numbers : (row : List ℕ) → bytes ≡ row ++ (0x0d ∷ [])
+          → record { numbers = numbers_in count most (fields_of row); next = at + end + 1 } ≡ line_read_at count most text at
+      unfolding numbers_in row_fields line_formed
+      given-numbers row is =
+          by_bool (numbers_formed count most (fields_of row))
+          (λ t. rw t (sym (starts ∙ given-formed line (lines_of (drop (end + 1) xs)) at (formed_is ∙ t) ∙ rw (behind, fields_are))))
+          (λ e. rw e (sym (starts ∙ given-not line (lines_of (drop (end + 1) xs)) at (formed_is ∙ e) ∙ ap unformed_line behind)))
+        where
+          ahead : length bytes - 1 ≡ length row
+          ahead = omega (arith, ap length is, length-append row (0x0d ∷ []))
 
-        fields-are : row_fields line ≡ fields
-        unfolding row_fields
-        fields-are = rw long (ap fields_of (take-take (ahead - 1) ahead xs (omega arith)))
+          fields_are : row_fields line ≡ fields_of row
+          fields_are = rw (ahead, is) (ap fields_of (take-append_seam row (0x0d ∷ [])))
 
-        formed-is : line_formed count most line ≡ numbers_formed count most fields
-        formed-is =
-            unfold line_formed in rw (last_byte some, eq-eqb (get_or text (at + ahead - 1) 0) 0x0d returned)
-            (ap (numbers_formed count most) fields-are)
-
-        -- the numbers that were looked for
-        abbrev read : Numbers → LineRead
-        read said = record { formed = said.formed; values = said.values; next = at + ahead + 1 }
-
-        pub given-numbers : read (numbers_read count most fields) ≡ line_read_at count most text at
-        unfolding numbers_read
-        given-numbers =
-            by_bool (numbers_formed count most fields)
-            (λ t. rw t (sym (starts ∙ given-formed line (lines_of (drop (ahead + 1) xs)) at (formed-is ∙ t) ∙ rw (behind, fields-are))))
-            (λ e. rw e (given-no (formed-is ∙ e)))
+          formed_is : line_formed count most line ≡ numbers_formed count most (fields_of row)
+          formed_is =
+              let last : get_or bytes (length bytes - 1) 0 ≡ 0x0d = rw (ahead, is) (get_or-append_seam row 0x0d [] 0) in
+              rw last (ap (numbers_formed count most) fields_are)

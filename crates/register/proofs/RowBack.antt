@@ -3,9 +3,9 @@
 --     string_numbers s       T, C, D, X, the moving cost and J of a string
 --     register_row s         the row of a string, as a line
 --     Short s               its numbers have at most four digits
-use Rattle.base.proofs.Prelude.{ℕ, zero, suc, ◌+◌, ◌-◌, ◌*◌, ◌^◌, ◌≤◌, ◌<◌, ◌≡◌, refl, sym, ap, ◌∙◌, true, false, Bool, ◌&&◌, ◌||◌, List, [], ◌∷◌, ◌++◌, map, append-nil, arith, dec_le, le-leb, eq-eqb, eqb-true, ne_eqb, eqb, length, take, drop, get_or, length-append, length-map, take-append_seam, take_all, take-suc}
+use Rattle.base.proofs.Prelude.{ℕ, zero, suc, ◌+◌, ◌-◌, ◌*◌, ◌^◌, ◌≤◌, ◌<◌, ◌≡◌, refl, sym, ap, ◌∙◌, true, false, Bool, ◌&&◌, ◌||◌, List, [], ◌∷◌, ◌++◌, map, arith, dec_le, le-leb, eq-eqb, eqb-true, ne_eqb, eqb, length, take, drop, get_or, length-append, length-map, take-append_seam, take_all, take-suc}
 use lib.Seq.{get_or-append_seam}
-use Rattle.base.specs.{Count.{All, every, filled}, Digits.{digits_of, number_on, value_of, figure, worth, decimal_in}}
+use Rattle.base.specs.{Count.{All, every}, Digits.{digits_of, number_on, value_of, figure, worth, decimal_in}}
 use Rattle.base.proofs.{Digits.{digits-one, digits-short, digits-back, digits-below, digits-some, digits-lead, digits-written, figures-worth, worth-figures}, Lists.{true-not-false, all_map, and_left, and_right, every-of-all, all-of-every}, Order.{all_of, all-mapped}}
 use Rattle.faults.proofs.Checks.{in_bounds-low, in_bounds-high, in_bounds-yes}
 use Rattle.rules.specs.{declared.BatteryString.BatteryString, Lines.{bytes_of, decimal, worded_in, row_line}, Text.Line}
@@ -250,14 +250,6 @@ module _ (line : Line) (formed : row_formed line ≡ true) where
   count : length (row_fields line) ≡ 6
   unfolding numbers_formed
   count = eqb-true (length (row_fields line)) 6 (and_left (eqb (length (row_fields line)) 6) (every (plain_number 4) (row_fields line)) six)
-
-  -- six numbers fill their places
-  pub row-values : string_said (filled 6 0 (map decimal_in (row_fields line))) ≡ row_string line
-  unfolding row_string
-  row-values =
-      let numbers = map decimal_in (row_fields line) in
-      let size : length numbers ≡ 6 = length-map (row_fields line) decimal_in ∙ count in
-      ap string_said (rw size (append-nil numbers))
 
   plains : All (λ f. plain_number 4 f ≡ true) (row_fields line)
   unfolding numbers_formed

@@ -1,7 +1,9 @@
 -- A text up to the first byte of a kind: lines end at a 0a, fields at a comma.
-use Rattle.base.proofs.Prelude.{ℕ, suc, ◌+◌, ◌≤◌, ◌<◌, ◌≡◌, refl, true, false, List, [], ◌∷◌, arith, add-one, not-suc-le-zero, eqb, length, take, drop, get_or, drop-cons, drop_of_length-le}
+use Rattle.base.proofs.Prelude.{ℕ, sym, ap, ◌∙◌, cond, ltb, ltb-true, ltb-false, suc, ◌+◌, ◌≤◌, ◌<◌, ◌≡◌, refl, true, false, List, [], ◌∷◌, arith, add-one, not-suc-le-zero, eqb, length, take, drop, get_or, drop-cons, drop_of_length-le}
+use Rattle.std.specs.Prelude.{Option, Some, None, position}
+use Rattle.std.proofs.lemmas.List.Recursion.{is_position_or_len}
 use Rattle.base.proofs.Lists.{by_bool}
-use Rattle.rules.specs.Text.{before, lines_of}
+use Rattle.rules.specs.Text.{Line, before, lines_of}
 use Rattle.register.specs.{Table.{comma, in_front, fields_of}, inner.Fields.bytes_ahead}
 
 module _ (stop : ℕ) where
@@ -24,6 +26,31 @@ module _ (stop : ℕ) where
     pub ahead-further : eqb (get_or xs i 0) stop ≡ false → bytes_ahead stop (drop i xs) ≡ suc (bytes_ahead stop (drop (i + 1) xs))
     unfolding bytes_ahead
     ahead-further e = rw (add-one i, drop-cons xs i 0 h, e)
+
+  -- where the code finds the byte, and where it finds none
+  where-is : (xs : List ℕ) → position (λ b. eqb b stop) xs ≡ cond (ltb (bytes_ahead stop xs) (length xs)) (Some (bytes_ahead stop xs)) None
+  unfolding bytes_ahead
+  where-is xs =
+      let next : (x : ℕ) (ys : List ℕ) → bytes_ahead stop (x ∷ ys) ≡ cond (eqb x stop) 0 (1 + bytes_ahead stop ys) =
+      λ x ys. ap (λ k. cond (eqb x stop) 0 k) (omega arith) in
+      rw (is_position_or_len (bytes_ahead stop) (λ b. eqb b stop) refl next xs)
+
+  pub register_found : (xs : List ℕ) (i : ℕ) → position (λ b. eqb b stop) xs ≡ Some i → (bytes_ahead stop xs ≡ i) × (i < length xs)
+  register_found xs i h =
+      let is = sym (where-is xs) ∙ h in
+      by_bool (ltb (bytes_ahead stop xs) (length xs))
+      (λ t.
+      let here : ◌≡◌ {A = Option ℕ} (Some (bytes_ahead stop xs)) (Some i) = rw t at is in
+      let place : bytes_ahead stop xs ≡ i = cc in
+      (place, omega (arith, ltb-true _ _ t)))
+      (λ e. absurd (let none : ◌≡◌ {A = Option ℕ} None (Some i) = rw e at is in cc))
+
+  pub not-found : (xs : List ℕ) → position (λ b. eqb b stop) xs ≡ None → bytes_ahead stop xs ≡ length xs
+  not-found xs h =
+      let is = sym (where-is xs) ∙ h in
+      by_bool (ltb (bytes_ahead stop xs) (length xs))
+      (λ t. absurd (let here : ◌≡◌ {A = Option ℕ} (Some (bytes_ahead stop xs)) None = rw t at is in cc))
+      (λ e. omega (arith, ltb-false _ _ e, ahead_within xs))
 
 -- ---- Fields
 
@@ -56,6 +83,15 @@ fields-next (x ∷ xs) h =
   where
     less : suc (bytes_ahead comma xs) < suc (length xs) → bytes_ahead comma xs < length xs
     less k = omega arith
+
+-- the first field and those behind it, as the code takes them
+pub fields-found : (xs : List ℕ) (i : ℕ) → position (λ b. eqb b comma) xs ≡ Some i → fields_of xs ≡ take i xs ∷ fields_of (drop (i + 1) xs)
+fields-found xs i h =
+    let here = register_found comma xs i h in
+    rw here.0 at (fields-next xs (omega (arith, here)))
+
+pub fields-not-found : (xs : List ℕ) → position (λ b. eqb b comma) xs ≡ None → fields_of xs ≡ xs ∷ []
+fields-not-found xs h = fields-last xs (not-found comma xs h)
 
 -- ---- Lines
 
@@ -96,3 +132,13 @@ lines-closed (x ∷ xs) h =
   where
     less : suc (bytes_ahead 0x0a xs) < suc (length xs) → bytes_ahead 0x0a xs < length xs
     less k = omega arith
+
+-- a text that is not empty has a line
+pub lines-some : (xs : List ℕ) → 1 ≤ length xs → 1 ≤ length (lines_of xs)
+unfolding lines_of before
+lines-some [] h = absurd (omega arith)
+lines-some (x ∷ xs) h = by_bool (eqb x 0x0a) (λ t. rw t (omega arith)) (λ e. rw e (front (lines_of xs)))
+  where
+    front : (lines : List Line) → 1 ≤ length (before x lines)
+    front [] = omega arith
+    front (line ∷ lines) = omega arith

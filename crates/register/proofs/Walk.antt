@@ -1,13 +1,11 @@
 -- Line after line: where the next line starts, and what is read and given of each.
 --     first_line xs          the first line of a text that has one
 use Rattle.base.proofs.Prelude.{ℕ, zero, suc, ◌+◌, ◌≤◌, ◌<◌, ◌≡◌, refl, sym, ap, ◌∙◌, true, false, cond, List, [], ◌∷◌, ◌++◌, map, arith, dec_le, lt-ltb, le-ltb, ltb, length, take, drop, length-drop, length-take-le, drop_of_length-le, drop-drop, take_all, le_refl}
-use denote.Enum.Declared.{tag_of}
-use types.Run.{OneOf, miss}
-use Rattle.base.specs.{Count.filled, Digits.decimal_in}
-use Rattle.base.proofs.Lists.{by_bool, true-not-false}
+use Rattle.std.specs.Prelude.{Option, Some, None}
+use Rattle.base.specs.Digits.{decimal_in}
+use Rattle.base.proofs.Lists.{by_bool}
 use Rattle.rules.specs.{declared.BatteryString.BatteryString, Text.{Line, lines_of}}
-use Rattle.register.specs.{declared.LineRead.LineRead, declared.Row.Row, declared.Row.TheVariants.{End, Malformed, Says}, Table.{row_fields, line_formed, row_formed, row_string}, Reader.{line_long, unformed_line, line_given, line_read_at, row_given, row_at, next_of, asked, rows_given}, inner.Fields.bytes_ahead}
-use Rattle.register.specs.contracts.Row.{the_type}
+use Rattle.register.specs.{declared.LineRead.LineRead, declared.Row.Row, declared.Row.TheVariants.{End, Malformed, Says}, Table.{row_fields, line_formed, row_formed, string_said, row_string}, Reader.{line_long, unformed_line, line_given, line_read_at, row_given, row_at, next_of, asked, rows_given}, inner.Fields.bytes_ahead}
 use Rattle.register.proofs.Splitting.{ahead_within, lines-open, lines-closed}
 
 abbrev ahead : List ℕ → ℕ
@@ -81,37 +79,52 @@ module _ (text : List ℕ) (at : ℕ) (inside : at < length text) where
 
   pub read_is : (count most : ℕ) → line_read_at count most text at
       ≡ cond (line_formed count most (first_line xs))
-      (record { formed = true; values = filled 6 0 (map decimal_in (row_fields (first_line xs))); next = at + line_long (first_line xs) })
+      (record { numbers = Some (map decimal_in (row_fields (first_line xs))); next = at + line_long (first_line xs) })
       (unformed_line (at + line_long (first_line xs)))
   unfolding line_read_at line_given
   read_is count most = rw (lines-first xs some)
 
   -- what was read: a line of so many numbers, or another
-  module _ (count most : ℕ) (r : LineRead) (is : r ≡ line_read_at count most text at) where
-    pub read-formed : r.formed ≡ true → (line_formed count most (first_line xs) ≡ true)
-        × (r
-        ≡ record {
-          formed = true;
-          values = filled 6 0 (map decimal_in (row_fields (first_line xs)));
-          next =
-              at + line_long (first_line xs);
-        })
-    read-formed said =
+  module _ (count most : ℕ) (r : LineRead (List ℕ)) (is : r ≡ line_read_at count most text at) where
+    pub read-formed : (ns : List ℕ) → r.numbers ≡ Some ns → (line_formed count most (first_line xs) ≡ true)
+        × (ns ≡ map decimal_in (row_fields (first_line xs))) × (r.next ≡ at + line_long (first_line xs))
+    read-formed ns said =
         by_bool (line_formed count most (first_line xs))
-        (λ t. (t, is ∙ read_is count most ∙ rw t))
+        (λ t.
+        let one : r ≡ record { numbers = Some (map decimal_in (row_fields (first_line xs))); next = behind } =
+        is ∙ read_is count most ∙ rw t in
+        let same : Some ns ≡ Some (map decimal_in (row_fields (first_line xs))) = sym said ∙ ap (λ q. q.numbers) one in
+        (t, cc, ap (λ q. q.next) one))
         (λ e.
         let none : r ≡ unformed_line behind = is ∙ read_is count most ∙ rw e in
-        absurd (true-not-false (sym said ∙ ap (λ q. q.formed) none)))
+        absurd (let other : ◌≡◌ {A = Option (List ℕ)} (Some ns) None = sym said ∙ ap (λ q. q.numbers) none in cc))
 
-    pub read-unformed : r.formed ≡ false → (line_formed count most (first_line xs) ≡ false)
-        × (r ≡ unformed_line (at + line_long (first_line xs)))
+    pub read-unformed : r.numbers ≡ None → (line_formed count most (first_line xs) ≡ false) × (r.next ≡ at + line_long (first_line xs))
     read-unformed said =
         by_bool (line_formed count most (first_line xs))
         (λ t.
-        let one : r ≡ record { formed = true; values = filled 6 0 (map decimal_in (row_fields (first_line xs))); next = behind } =
+        let one : r ≡ record { numbers = Some (map decimal_in (row_fields (first_line xs))); next = behind } =
         is ∙ read_is count most ∙ rw t in
-        absurd (true-not-false (sym (ap (λ q. q.formed) one) ∙ said)))
-        (λ e. (e, is ∙ read_is count most ∙ rw e))
+        absurd (let other : ◌≡◌ {A = Option (List ℕ)} None (Some (map decimal_in (row_fields (first_line xs)))) =
+        sym said ∙ ap (λ q. q.numbers) one in cc))
+        (λ e.
+        let none : r ≡ unformed_line behind = is ∙ read_is count most ∙ rw e in
+        (e, ap (λ q. q.next) none))
+
+  -- the row that the numbers say, and a line that is none
+  module _ (r : LineRead (List ℕ)) (is : r ≡ line_read_at 6 4 text at) where
+    pub row-said : (ns : List ℕ) → r.numbers ≡ Some ns → Says (string_said ns) r.next ≡ row_at text at
+    unfolding row_string
+    row-said ns said =
+        let read = read-formed 6 4 r is ns said in
+        let given : row_at text at ≡ Says (row_string (first_line xs)) behind = given_is ∙ rw read.0 in
+        ap (λ s. Says (string_said s) r.next) read.1 ∙ ap (Says (row_string (first_line xs))) read.2 ∙ sym given
+
+    pub row-unsaid : r.numbers ≡ None → Malformed r.next ≡ row_at text at
+    row-unsaid said =
+        let read = read-unformed 6 4 r is said in
+        let given : row_at text at ≡ Malformed behind = given_is ∙ rw read.0 in
+        ap Malformed read.1 ∙ sym given
 
   pub next-within : at + line_long (first_line xs) ≤ length text
   next-within = omega (arith, first-within xs, length-drop at text)
@@ -143,16 +156,10 @@ module _ (text : List ℕ) (at : ℕ) (inside : at < length text) where
           let z : ◌≡◌ {A = ℕ} 0 1 = cc in
           omega arith
 
-  pub not-formed : (r : Row) → r ≡ row_at text at → OneOf (0 ∷ (1 ∷ [])) (tag_of the_type r) → row_formed (first_line xs) ≡ false
+  pub not-formed : (r : Row) → r ≡ row_at text at → ((s : BatteryString) (next : ℕ) → r ≡ Says s next → ⊥)
+      → row_formed (first_line xs) ≡ false
   not-formed r is other =
-      by_bool (row_formed (first_line xs))
-      (λ t.
-      let same : r ≡ Says (row_string (first_line xs)) behind = is ∙ given_is ∙ rw t in
-      absurd (no_says r (row_string (first_line xs)) behind same other))
-      (λ e. e)
-    where
-      no_says : (r : Row) (s : BatteryString) (next : ℕ) → r ≡ Says s next → OneOf (0 ∷ (1 ∷ [])) (tag_of the_type r) → ⊥
-      no_says r s next e h = miss (0 ∷ (1 ∷ [])) 2 tt (rw e at h)
+      by_bool (row_formed (first_line xs)) (λ t. absurd (other (row_string (first_line xs)) behind (is ∙ given_is ∙ rw t))) (λ e. e)
 
 -- ---- Line after line
 

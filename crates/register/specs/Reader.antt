@@ -1,8 +1,7 @@
 -- A table taken row by row (document 02, W-210), by a reader that holds on to the caller's text and its place in it.
 --     line_long line         how many bytes a line has, its 0a among them
 --     line_given count most lines at     what is read of the first of lines that start at the place `at`, where it has to say so many
---                           numbers of so many digits: whether it does; its numbers, at most six, and zeros behind them, all zeros where
---                           it does not; and the place at which the next line starts
+--                           numbers of so many digits: its numbers, where it does; and the place at which the next line starts
 --     line_read_at count most text at     the same at the place `at` of a text
 --     row_given lines at     what is given of the first of lines that start at the place `at`: the string that it says, or that it is no
 --                           row, each with the place at which the next line starts; or that the lines have ended
@@ -10,8 +9,7 @@
 --     asked k text at       what a reader gives that is asked k times from the place `at` on, and moves on each time
 --     rows_given lines at    what is given of each of lines that start at the place `at`
 --     row_says row           what is given, in numbers: T, C, D, X, the moving cost, J; 13 for a line that is no row; with the next place
-use Rattle.std.specs.Prelude.{ℕ, zero, suc, ◌+◌, true, false, cond, List, [], ◌∷◌, map, length, drop, replicate}
-use Rattle.base.specs.Count.{filled}
+use Rattle.std.specs.Prelude.{ℕ, zero, suc, ◌+◌, cond, List, [], ◌∷◌, map, length, drop, Some, None}
 use Rattle.base.specs.Digits.{decimal_in}
 use Rattle.faults.specs.declared.Fault.TheVariants.{RowMalformed}
 use Rattle.faults.specs.Checks.{fault_number}
@@ -24,18 +22,18 @@ use Rattle.register.specs.Table.{row_fields, line_formed, row_formed, row_string
 unfoldable pub line_long : Line → ℕ
 line_long line = length line.bytes + cond line.ended 1 0
 
-abbrev pub unformed_line : ℕ → LineRead
-unformed_line next = record { formed = false; values = replicate 6 0; next = next }
+abbrev pub unformed_line : ℕ → LineRead (List ℕ)
+unformed_line next = record { numbers = None; next = next }
 
-unfoldable pub line_given : ℕ → ℕ → List Line → ℕ → LineRead
+unfoldable pub line_given : ℕ → ℕ → List Line → ℕ → LineRead (List ℕ)
 line_given count most [] at = unformed_line at
 line_given count most (line ∷ lines) at =
     let next = at + line_long line in
     cond (line_formed count most line)
-    (record { formed = true; values = filled 6 0 (map decimal_in (row_fields line)); next = next })
+    (record { numbers = Some (map decimal_in (row_fields line)); next = next })
     (unformed_line next)
 
-unfoldable pub line_read_at : ℕ → ℕ → List ℕ → ℕ → LineRead
+unfoldable pub line_read_at : ℕ → ℕ → List ℕ → ℕ → LineRead (List ℕ)
 line_read_at count most text at = line_given count most (lines_of (drop at text)) at
 
 unfoldable pub row_given : List Line → ℕ → Row

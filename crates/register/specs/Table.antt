@@ -11,16 +11,15 @@
 --     table_check run text   1; 5 with 0 for N; 4 with 0 for an empty text; then the lines in order; then 6 with the last line's number
 --     table_reading run text what reading a table gives: no releases; on a refusal an empty plan
 use Rattle.std.specs.Prelude.{ℕ, suc, ◌-◌, Bool, not, cond, ◌&&◌, ◌||◌, List, [], ◌∷◌, map, ltb, eqb, length, get_or, take}
+use Rattle.faults.specs.Checks.{Lawful, Checked}
 use Rattle.days.specs.Days.{days}
 use Rattle.base.specs.Count.{every, filled}
 use Rattle.base.specs.Digits.{decimal_in}
 use Rattle.faults.specs.declared.Fault.TheVariants.{TextTooLong, StringCount, RowMalformed}
-use Rattle.faults.specs.declared.Checked.{Checked}
-use Rattle.faults.specs.declared.Checked.TheVariants.{Lawful}
 use Rattle.faults.specs.Checks.{in_bounds, then, refuse_if, or_refused}
 use Rattle.rules.specs.declared.BatteryString.{BatteryString}
 use Rattle.rules.specs.declared.Plan.{Plan}
-use Rattle.rules.specs.declared.Reading.{Reading}
+use Rattle.rules.specs.Text.{Reading}
 use Rattle.rules.specs.Plan.{no_string}
 use Rattle.rules.specs.Refusal.{run_length_check, string_check, multiple_check}
 use Rattle.rules.specs.Text.{Line, lines_of, no_releases, refused_reading}

@@ -3,11 +3,11 @@
 -- so do their binary digits.
 --     carried easier m      the set under which each string that is left has the permission that the set m gave it
 use Rattle.base.proofs.Prelude.{ℕ, zero, suc, ◌+◌, ◌-◌, ◌*◌, ◌/◌, ◌%◌, ◌^◌, ◌≤◌, ◌<◌, ◌≡◌, refl, sym, ap, ◌∙◌, Bool, true, List, [], ◌∷◌, ◌++◌, arith, dec_le, length, take, drop, length-take, eqb}
+use Rattle.faults.specs.Checks.{Lawful}
 use lib.Pow.{pow_mono}
 use Rattle.base.specs.Count.{All}
 use Rattle.base.proofs.Lists.{true-not-false, all-of-every, every-of-all}
 use Rattle.rules.specs.{declared.BatteryString.BatteryString, declared.Plan.Plan, Plan.{strings_of, common_multiple, multiple_of}, Search.{permit, with_set}, Refusal.plan_check}
-use Rattle.faults.specs.declared.Checked.TheVariants.{Lawful}
 use Rattle.laws.proofs.{Lawful.{LawfulString, LawfulPlan, plan_check-lawful, multiple_of-pos, multiple_of-common, multiple_of-least, common_multiple-whole}, LawfulChecked.lawful-checked}
 use Rattle.demand.proofs.Sets.{permitted, with_set-strings}
 use Rattle.results.specs.{Easing.{Eased, EasedStrings, end, eased, dropped, EasedPlan}, Change.Dropped}

@@ -1,8 +1,8 @@
 -- D may grow only where J is 0 (document 02, W-212 as W-213 has it): a string with a late day whose D grows by a day turns pass into fail.
 -- Before, it counts a job in four days; after, it counts one and blocks at once.
 use Rattle.base.proofs.Prelude.{ℕ, ◌≡◌, refl, sym, ap, ◌∙◌, Bool, true, false, [], ◌∷◌}
+use Rattle.faults.specs.Checks.{Lawful, Checked}
 use mathlib.Core.List.{flat_map}
-use Rattle.faults.specs.{declared.Checked.Checked, declared.Checked.TheVariants.Lawful}
 use Rattle.rules.specs.{declared.Plan.Plan, Said.{Said, fail, pass, asked_verdict_says}, Plan.{string_lawful, common_multiple, multiple_of, leeway_min, d_max}, Demand.{moving_cost, hold_of, jobs, blocker_hold, block_limit, need, demand, Passes, load, overloaded}, Verdict.{pairs_at, all_pairs, broken, compared, judged, verdict_over, verdict_of, is_pass}, Refusal.{count_check, run_length_check, strings_check, multiple_check, plan_check, verdict_answer}}
 use Rattle.base.specs.Count.{sum_of, largest, smallest, smallest_with, every, up_from, least_from, first_of}
 use Rattle.rules.proofs.Worked.{string, paying, opening, plan_of, plan}

@@ -2,8 +2,8 @@
 -- plans/eased-*.plan. Before, for all of them: (10, 2, 6) (10, 3, 8) (10, 1, 2), moving cost 1, and the third string may take the bank.
 -- That each is on the list is by Changes; what the verdict says of both plans is computed.
 use Rattle.base.proofs.Prelude.{ℕ, ◌≡◌, refl, true, List, [], ◌∷◌, leb, leb-true, get_or, set}
+use Rattle.faults.specs.Checks.{Lawful}
 use mathlib.Core.List.{flat_map}
-use Rattle.faults.specs.declared.Checked.TheVariants.{Lawful}
 use Rattle.base.specs.Count.{All, sum_of, largest, smallest, smallest_with, every, up_from, least_from, first_of}
 use Rattle.rules.specs.{declared.BatteryString.BatteryString, declared.Plan.Plan, Said.{Said, pass, asked_verdict_says}, Plan.{strings_of, no_string, string_lawful, common_multiple, multiple_of, leeway_min, d_max}, Demand.{moving_cost, hold_of, jobs, blocker_hold, block_limit, need, demand, load, overloaded}, Verdict.{pairs_at, all_pairs, broken, compared, judged, verdict_over}, Search.{permit, with_set}, Refusal.{count_check, run_length_check, cost_check, strings_check, multiple_check, plan_check, verdict_answer}}
 use Rattle.rules.proofs.Worked.{string, paying, plan_of, plan}

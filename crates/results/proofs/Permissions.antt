@@ -1,8 +1,8 @@
 -- Permissions are not on the list (document 02, W-212). Giving one can turn pass into overload, as P9 shows; taking one away can turn pass
 -- into fail, as P1 and P3 show. Both are computed from the definitions.
 use Rattle.base.proofs.Prelude.{◌≡◌, refl, sym, ap, ◌∙◌, Bool, true, false}
+use Rattle.faults.specs.Checks.{Lawful, Checked}
 use mathlib.Core.List.{flat_map}
-use Rattle.faults.specs.{declared.Checked.Checked, declared.Checked.TheVariants.Lawful}
 use Rattle.rules.specs.{Said.{Said, overload, fail, pass, asked_verdict_says}, Plan.{string_lawful, common_multiple, multiple_of, leeway_min, d_max}, Demand.{moving_cost, hold_of, jobs, blocker_hold, block_limit, need, demand, load, overloaded}, Verdict.{pairs_at, all_pairs, broken, compared, judged, verdict_over, verdict_of, is_pass}, Search.{permit, with_set}, Refusal.{count_check, run_length_check, cost_check, strings_check, multiple_check, plan_check, verdict_answer}}
 use Rattle.base.specs.Count.{sum_of, largest, smallest, smallest_with, every, up_from, least_from, first_of}
 use Rattle.rules.proofs.Worked.{string, paying, plan_of, plan, two, nine}

@@ -1,8 +1,11 @@
 -- The refusal of a plan in another order: both plans are within their bounds, or both are refused by one number. The place named may
 -- differ: the string outside its bounds stands elsewhere.
 use Rattle.base.proofs.Prelude.{ℕ, suc, ◌≡◌, refl, sym, ap, ◌∙◌, true, false, List, [], ◌∷◌, ltb}
+use Rattle.faults.specs.Checks.{Refused, Lawful, Checked}
+use Rattle.std.specs.Prelude.{Ok, Err}
 use mathlib.Core.Path.{ap₂}
-use Rattle.faults.specs.{declared.Fault.TheVariants.{OutOfBounds, MultipleOver}, declared.Checked.Checked, declared.Checked.TheVariants.{Lawful, Refused}, Checks.{then, refuse_if}}
+use Rattle.faults.specs.declared.Fault.TheVariants.{OutOfBounds, MultipleOver}
+use Rattle.faults.specs.Checks.{then, refuse_if}
 use Rattle.days.specs.declared.Length.{Length}
 use Rattle.base.specs.Count.{every}
 use Rattle.base.proofs.Lists.{by_bool, true-not-false}
@@ -43,8 +46,8 @@ strings-same p q r =
 
 -- checks that find the same fault, one after the other
 self : (c : Checked) → SameFault c c
-self Lawful = both_lawful
-self (Refused f at) = both_refused f at at
+self (Ok _) = both_lawful
+self (Err e) = both_refused e.fault e.at e.at
 
 then_same : {a b c d : Checked} → SameFault a b → SameFault c d → SameFault (then a c) (then b d)
 then_same both_lawful next = next

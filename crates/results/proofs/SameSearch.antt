@@ -1,9 +1,13 @@
 -- The search in another order: it says "none" for both, or finds as many takers. A set that passes for one is carried along to one with as
 -- many ones that passes for the other, so neither search can find fewer. The sets themselves may differ.
 use Rattle.base.proofs.Prelude.{ℕ, ◌^◌, ◌≤◌, ◌<◌, ◌≡◌, refl, sym, ap, ◌∙◌, ◌↔◌, Option, none, some, arith, le_antisymm, ones}
-use Rattle.faults.specs.declared.Checked.TheVariants.{Lawful}
+use Rattle.faults.specs.Checks.{Lawful}
+use Rattle.std.specs.Prelude.{Ok, Some, None}
 use Rattle.base.specs.Count.{first_of}
-use Rattle.rules.specs.{declared.Plan.Plan, declared.Assign.TheVariants.{Takers, Nobody}, declared.AskedAssign.TheVariants.Given, Verdict.is_pass, Search.{assigned, with_set, set_passes, ordered, search_of}, Refusal.{plan_check, search_answer}}
+use Rattle.rules.specs.declared.Plan.{Plan}
+use Rattle.rules.specs.Verdict.{is_pass}
+use Rattle.rules.specs.Search.{assigned, with_set, set_passes, ordered, search_of}
+use Rattle.rules.specs.Refusal.{plan_check, search_answer}
 use Rattle.laws.proofs.Answers.{search-lawful}
 use Rattle.demand.proofs.Search.{search-passes, search-fewest, none-of-nobody, nobody-of-none}
 use Rattle.results.specs.Order.{Reordered, AsManyTakers, nobody_both, takers_both}
@@ -11,16 +15,16 @@ use Rattle.results.proofs.{SameVerdict.{reordered-back, same-verdict}, Moving.ca
 
 -- ---- What a search says
 
-nobody-no-takers : (k : ℕ) → Nobody ≡ Takers k → ⊥
+nobody-no-takers : (k : ℕ) → None ≡ Some k → ⊥
 nobody-no-takers k h =
     let z : ◌≡◌ {A = ℕ} 0 1 = cc in
     omega arith
 
-nobody-said : (p : Plan) → first_of (set_passes p) (ordered p.n) ≡ none → search_of p ≡ Nobody
+nobody-said : (p : Plan) → first_of (set_passes p) (ordered p.n) ≡ none → search_of p ≡ None
 unfolding search_of
 nobody-said p e = ap assigned e
 
-takers-said : (p : Plan) (m : ℕ) → first_of (set_passes p) (ordered p.n) ≡ some m → search_of p ≡ Takers m
+takers-said : (p : Plan) (m : ℕ) → first_of (set_passes p) (ordered p.n) ≡ some m → search_of p ≡ Some m
 unfolding search_of
 takers-said p m e = ap assigned e
 
@@ -34,13 +38,13 @@ module _ (p q : Plan) (r : Reordered p q) where
       let there = carry-set p q r m h in
       ap is_pass (same-verdict (with_set p m) (with_set q there.set) there.order)
 
-  none-from-reordered : search_of q ≡ Nobody → search_of p ≡ Nobody
+  none-from-reordered : search_of q ≡ None → search_of p ≡ None
   none-from-reordered None-passes =
       nobody-of-none p (λ m h.
       let there = carry-set p q r m h in
       sym (carried-passes m h) ∙ none-of-nobody q None-passes there.set there.below)
 
-  no-more-takers : (m k : ℕ) → search_of p ≡ Takers m → search_of q ≡ Takers k → ones k ≤ ones m
+  no-more-takers : (m k : ℕ) → search_of p ≡ Some m → search_of q ≡ Some k → ones k ≤ ones m
   no-more-takers m k found other =
       let passes = search-passes p m found in
       let there = carry-set p q r m passes.1 in
@@ -50,19 +54,19 @@ module _ (p q : Plan) (r : Reordered p q) where
 -- ---- The same search
 
 module _ (p q : Plan) (r : Reordered p q) where
-  same_none : (search_of p ≡ Nobody) ↔ (search_of q ≡ Nobody)
+  same_none : (search_of p ≡ None) ↔ (search_of q ≡ None)
   same_none = (none-from-reordered q p (reordered-back p q r), none-from-reordered p q r)
 
-  as-many-takers : (m k : ℕ) → search_of p ≡ Takers m → search_of q ≡ Takers k → ones k ≡ ones m
+  as-many-takers : (m k : ℕ) → search_of p ≡ Some m → search_of q ≡ Some k → ones k ≡ ones m
   as-many-takers m k found other =
       le_antisymm (no-more-takers p q r m k found other) (no-more-takers q p (reordered-back p q r) k m other found)
 
   -- both in one: "none" for both, or as many takers
-  pub same-search : AsManyTakers (Given (search_of p)) (Given (search_of q))
+  pub same-search : AsManyTakers (Ok (search_of p)) (Ok (search_of q))
   same-search = which (first_of (set_passes p) (ordered p.n)) (first_of (set_passes q) (ordered q.n)) refl refl
     where
       which : (o u : Option ℕ) → first_of (set_passes p) (ordered p.n) ≡ o → first_of (set_passes q) (ordered q.n) ≡ u
-          → AsManyTakers (Given (search_of p)) (Given (search_of q))
+          → AsManyTakers (Ok (search_of p)) (Ok (search_of q))
       which none none e f = rw (nobody-said p e, nobody-said q f) nobody_both
       which none (some k) e f = absurd (nobody-no-takers k (sym (same_none.0 (nobody-said p e)) ∙ takers-said q k f))
       which (some m) none e f = absurd (nobody-no-takers m (sym (same_none.1 (nobody-said q f)) ∙ takers-said p m e))

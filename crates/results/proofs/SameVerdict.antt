@@ -1,9 +1,10 @@
 -- Another order of the strings leaves H, the limits, the demand, the load and the pairs as they were, and so the verdict, with its
 -- interval, blocking, demand and pair count, and the quick one. No bound on the plan is needed for it; a lawful plan stays lawful.
 use Rattle.base.proofs.Prelude.{ℕ, suc, ◌+◌, ◌-◌, ◌*◌, ◌/◌, ◌%◌, ◌≤◌, ◌≡◌, refl, sym, ap, ◌∙◌, fun_ext, ◌↔◌, cond, List, [], ◌∷◌, map, flat_map, Option, none, some, ltb, eqb, length}
+use Rattle.faults.specs.Checks.{Lawful}
+use Rattle.std.specs.Prelude.{Ok}
 use mathlib.Core.Path.{ap₂}
 use Rattle.days.specs.Days.{days}
-use Rattle.faults.specs.declared.Checked.TheVariants.{Lawful}
 use Rattle.base.specs.Count.{sum_of, largest, keep, up_from, least_from, first_of}
 use Rattle.rules.specs.{declared.BatteryString.BatteryString, declared.Plan.Plan, declared.Verdict.TheVariants.{Overload, Fail}, Plan.{strings_of, leeway, common_multiple, multiple_of, leeway_min, d_max}, Demand.{moving_cost, hold_of, blocker_hold, block_limit, need, demand, Passes, load, overloaded}, Verdict.{Pair, pairs_at, all_pairs, broken, first_broken, broken_at, compared, judged, verdict_over, verdict_of}, Refusal.{plan_check, verdict_answer, break_answer}}
 use Rattle.laws.specs.Lawful.{LawfulString, LawfulPlan}
@@ -13,8 +14,6 @@ use Rattle.demand.specs.Quick.{count_at, grows, quick_pairs, quick_of, quick_ans
 use Rattle.demand.proofs.Answers.{quick-lawful}
 use Rattle.results.specs.Order.{Reordered}
 use Rattle.results.proofs.Permuted.{permuted-back, all-permuted, sum_of-permuted, largest-permuted, smallest-permuted, every-permuted, any-permuted}
-use Rattle.rules.specs.declared.AskedVerdict.TheVariants as asked-verdict
-use Rattle.rules.specs.declared.AskedBroken.TheVariants as asked-broken
 
 pub reordered-back : (p q : Plan) → Reordered p q → Reordered q p
 reordered-back p q r = record { same_n = sym r.same_n; strings = permuted-back r.strings }
@@ -149,16 +148,16 @@ module _ (p q : Plan) (r : Reordered p q) where
 
   module _ (ok : plan_check p ≡ Lawful) (also : plan_check q ≡ Lawful) where
     pub same_answer : verdict_answer q ≡ verdict_answer p
-    same_answer = verdict-lawful q also ∙ ap asked-verdict.Given same-verdict ∙ sym (verdict-lawful p ok)
+    same_answer = verdict-lawful q also ∙ ap Ok same-verdict ∙ sym (verdict-lawful p ok)
 
     pub same-break-answer : break_answer q ≡ break_answer p
     same-break-answer =
         let found : first_broken q (all_pairs q) ≡ first_broken p (all_pairs p) = ap (first_broken q) same-pairs
         ∙ same_first (all_pairs p) in
-        break-lawful q also ∙ ap (λ b. asked-broken.Given (broken_at b)) found ∙ sym (break-lawful p ok)
+        break-lawful q also ∙ ap (λ b. Ok (broken_at b)) found ∙ sym (break-lawful p ok)
 
     pub same-quick-answer : quick_answer q ≡ quick_answer p
-    same-quick-answer = quick-lawful q also ∙ ap asked-verdict.Given same-quick ∙ sym (quick-lawful p ok)
+    same-quick-answer = quick-lawful q also ∙ ap Ok same-quick ∙ sym (quick-lawful p ok)
 
 -- both ways
 pub passes-in-any-order : (p q : Plan) → Reordered p q → Passes p ↔ Passes q

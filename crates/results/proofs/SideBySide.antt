@@ -5,7 +5,7 @@
 --     P5, with the releases of P6        by C it passes, and a job is late: equation 7 is too weak
 --     (3,1,1) (3,2,3), A 0, set 0        by E − 2 it passes, and a job is late: a second day is too many
 use Rattle.base.proofs.Prelude.{◌≡◌, refl, ap, Bool, false, List, [], ◌∷◌, map}
-use Rattle.faults.specs.{declared.Checked.Checked, declared.Checked.TheVariants.Lawful}
+use Rattle.faults.specs.Checks.{Lawful, Checked}
 use Rattle.rules.specs.{declared.Plan.Plan, declared.Release.Release, Said.{Said, miss, clean, asked_outcome_says}, Plan.{string_lawful, common_multiple, multiple_of, leeway_min, d_max}, Demand.{moving_cost, hold_of, jobs, need, demand, load, overloaded}, Search.{permit, with_set}, Release.{too_close, out_of_order, release_lawful, unlawful_from, first_unlawful}, Run.{chosen, late_at, new_slot, join_from, joined, holder, payer, taken, next_up, given, use_of, spent, morning, state_at, use_on, late_on, history, days_of, miss_day, run_of}, Refusal.{count_check, run_length_check, strings_check, multiple_check, plan_check, releases_check, run_check, run_answer}}
 use Rattle.base.specs.Count.{All, sum_of, largest, smallest, smallest_with, every, count_of, up_from, least_from}
 use Rattle.rules.proofs.Worked.{string, paying, plan_of, plan, release, releases, two, three, five}

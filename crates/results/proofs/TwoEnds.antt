@@ -2,9 +2,14 @@
 -- count, so that windows alone decide; with nobody permitted every job counts in the whole interval, so that the longest blocking decides.
 -- Either is a set that the search looks at: so it is never worse.
 use Rattle.base.proofs.Prelude.{ℕ, zero, suc, ◌+◌, ◌-◌, ◌*◌, ◌/◌, ◌%◌, ◌^◌, ◌≤◌, ◌<◌, min, zero-le, ◌≡◌, refl, ap, ◌∙◌, ◌⊎◌, inl, inr, ◌↔◌, List, [], ◌∷◌, arith, dec_le, length, length-take, mul-le-mul, pow-suc, not-suc-le-zero, zero-mul, le-ltb}
+use Rattle.std.specs.Prelude.{Some}
 use lib.Count.{ones}
 use lib.Pow.{pow_pos}
-use Rattle.rules.specs.{declared.BatteryString.BatteryString, declared.Plan.Plan, declared.Assign.TheVariants.Takers, Plan.{strings_of, leeway, leeway_min, d_max}, Demand.{moving_cost, jobs, blocker_hold, block_limit, need, demand, Passes}, Search.{permit, with_set, search_of}}
+use Rattle.rules.specs.declared.BatteryString.{BatteryString}
+use Rattle.rules.specs.declared.Plan.{Plan}
+use Rattle.rules.specs.Plan.{strings_of, leeway, leeway_min, d_max}
+use Rattle.rules.specs.Demand.{moving_cost, jobs, blocker_hold, block_limit, need, demand, Passes}
+use Rattle.rules.specs.Search.{permit, with_set, search_of}
 use Rattle.base.specs.Count.{All, sum_of, largest, smallest, smallest_with}
 use Rattle.base.proofs.{Lists.{all_map, sum_of-eq, largest-ge, largest-le, smallest-above}, Order.{all_of, sum_of-zero}}
 use Rattle.laws.proofs.{Jobs.{jobs-first, jobs-zero}, Lawful.{LawfulString, LawfulPlan}, Demand.{hold_of-taker, hold_of-other, need-taker, need-keeper, block_limit-late, block_limit-interval, block_limit-between}}
@@ -271,7 +276,7 @@ module _ (p : Plan) (ok : LawfulPlan p) where
   -- ---- The search is never worse than either
 
   -- set 0 is the answer exactly where nobody needs a permission
-  pub nobody-found : NobodyRule p ↔ (search_of p ≡ Takers 0)
+  pub nobody-found : NobodyRule p ↔ (search_of p ≡ Some 0)
   unfolding ones
   nobody-found = (
     λ rule. search-of-best p 0 (record {
@@ -283,7 +288,7 @@ module _ (p : Plan) (ok : LawfulPlan p) where
     λ found. nobody-exactly.0 ((set_passes-exactly p ok 0).0 (search-passes p 0 found).0),
   )
 
-  pub never-worse : EverybodyRule p ⊎ NobodyRule p → (m : ℕ) × (search_of p ≡ Takers m)
+  pub never-worse : EverybodyRule p ⊎ NobodyRule p → (m : ℕ) × (search_of p ≡ Some m)
   never-worse (inl rule) =
       let below : everybody p < 2 ^ p.n = omega (arith, pow_pos p.n) in
       let found = passing-found p ok (everybody p) below (everybody-exactly.1 rule) in

@@ -1,8 +1,13 @@
 -- A rule with shorter blockers is the weaker one. The desk's is E less one day (W-205), document 01's was E: so every plan that passed
 -- before W-205 passes after it, and the search finds a set with as many takers or fewer.
 use Rattle.base.proofs.Prelude.{ℕ, ◌^◌, ◌≤◌, ◌<◌, ◌≡◌, refl, ◌↔◌, ◌&&◌, arith, ones, leb, ltb}
+use Rattle.std.specs.Prelude.{Some}
 use native.Mathlib.Nat.{le_trans}
-use Rattle.rules.specs.{declared.BatteryString.BatteryString, declared.Plan.Plan, declared.Assign.TheVariants.Takers, Plan.{strings_of, leeway_min, d_max}, Demand.{blocker_hold, block_limit, Passes}, Search.{with_set, search_of}}
+use Rattle.rules.specs.declared.BatteryString.{BatteryString}
+use Rattle.rules.specs.declared.Plan.{Plan}
+use Rattle.rules.specs.Plan.{strings_of, leeway_min, d_max}
+use Rattle.rules.specs.Demand.{blocker_hold, block_limit, Passes}
+use Rattle.rules.specs.Search.{with_set, search_of}
 use Rattle.base.proofs.{Lists.{by_bool, largest-mono}, Order.all_of}
 use Rattle.laws.proofs.Lawful.{LawfulPlan}
 use Rattle.results.specs.Blockers.{Blocker, hold_less, days_by, limit_by, PassesBy}
@@ -49,5 +54,5 @@ passed-passes p rule = (desk-rule p).1 (weaker 0 1 (omega arith) p rule)
 
 -- and where a set passed before, the search finds one now, with as many takers or fewer
 pub found-with-fewer : (p : Plan) → LawfulPlan p → (k : ℕ) → k < 2 ^ p.n → PassesBy (hold_less 0) (with_set p k)
-    → (m : ℕ) × (search_of p ≡ Takers m) × (ones m ≤ ones k)
+    → (m : ℕ) × (search_of p ≡ Some m) × (ones m ≤ ones k)
 found-with-fewer p ok k below rule = passing-found p ok k below (passed-passes (with_set p k) rule)

@@ -1,8 +1,13 @@
 -- Who should have a permission. Where moving is free it hurts nobody: if any set passes, everybody's does. A string whose work and moving
 -- do not fit into its D − J cannot have one: no set with it passes. Where no string's do, the search answers 0 or none.
 use Rattle.base.proofs.Prelude.{ℕ, ◌+◌, ◌*◌, ◌/◌, ◌≤◌, ◌<◌, zero-le, ◌≡◌, ap, List, [], ◌∷◌, arith, ℕ_discrete, mul-le-mul, le_refl, one-mul}
+use Rattle.std.specs.Prelude.{Some}
 use native.Mathlib.Nat.{mul-le-mul_left}
-use Rattle.rules.specs.{declared.BatteryString.BatteryString, declared.Plan.Plan, declared.Assign.TheVariants.Takers, Plan.{strings_of, leeway}, Demand.{moving_cost, hold_of, jobs, need, demand, Passes}, Search.{permit, with_set, search_of}}
+use Rattle.rules.specs.declared.BatteryString.{BatteryString}
+use Rattle.rules.specs.declared.Plan.{Plan}
+use Rattle.rules.specs.Plan.{strings_of, leeway}
+use Rattle.rules.specs.Demand.{moving_cost, hold_of, jobs, need, demand, Passes}
+use Rattle.rules.specs.Search.{permit, with_set, search_of}
 use Rattle.base.specs.Count.{All, sum_of}
 use Rattle.base.proofs.{Lists.{all_map, sum_of-le, sum_of-eq}, Order.all_both}
 use Rattle.laws.proofs.{Jobs.jobs-first, Lawful.{LawfulString, LawfulPlan}, Demand.{hold_of-work, hold_of-taker, need-unblocked}}
@@ -100,5 +105,5 @@ module _ (p : Plan) (ok : LawfulPlan p) (dear : All (λ s. leeway s < s.c.0 + mo
           ]
 
   -- so the search answers 0, or none
-  pub dear-search : (m : ℕ) → search_of p ≡ Takers m → search_of p ≡ Takers 0
+  pub dear-search : (m : ℕ) → search_of p ≡ Some m → search_of p ≡ Some 0
   dear-search m found = (nobody-found p ok).0 (dear-nobody m ((set_passes-exactly p ok m).0 (search-passes p m found).0))

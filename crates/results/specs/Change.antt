@@ -5,7 +5,7 @@
 --     Hurts c               before the change c the plan passes at every interval, after it the rule breaks
 --     Dropped p q i         q is the plan p, of two strings or more, without the string at place i, from 1
 use Rattle.std.specs.Prelude.{ℕ, ◌+◌, ◌-◌, ◌≤◌, ◌≡◌, ◌++◌, take, drop}
-use Rattle.faults.specs.declared.Checked.TheVariants.{Lawful}
+use Rattle.faults.specs.Checks.{Lawful}
 use Rattle.rules.specs.declared.Plan.{Plan}
 use Rattle.rules.specs.Plan.{strings_of}
 use Rattle.rules.specs.Demand.{Passes}

@@ -6,14 +6,13 @@
 --     SameFault a b         the checks a and b both find nothing, or both find the same fault, perhaps at another place
 --     AsManyTakers a b      neither search a nor b is refused: both say "none", or both find a set, with as many takers
 use Rattle.std.specs.Prelude.{ℕ, ◌^◌, ◌<◌, ◌≡◌, List, ◌∷◌}
+use Rattle.faults.specs.Checks.{Refused, Lawful, Checked}
+use Rattle.faults.specs.declared.Refusal.{Refusal}
+use Rattle.std.specs.Prelude.{Ok, Result, Some, None}
+use Rattle.rules.specs.Found.{Assign}
 use Rattle.std.specs.Int.Count.{ones}
 use Rattle.faults.specs.declared.Fault.{Fault}
-use Rattle.faults.specs.declared.Checked.{Checked}
-use Rattle.faults.specs.declared.Checked.TheVariants.{Lawful, Refused}
 use Rattle.rules.specs.declared.Plan.{Plan}
-use Rattle.rules.specs.declared.Assign.TheVariants.{Takers, Nobody}
-use Rattle.rules.specs.declared.AskedAssign.{AskedAssign}
-use Rattle.rules.specs.declared.AskedAssign.TheVariants.{Given}
 use Rattle.rules.specs.Plan.{strings_of}
 use Rattle.rules.specs.Search.{with_set}
 
@@ -38,9 +37,9 @@ pub record CarriedSet (p q : Plan) (m : ℕ) : Type 0 where
   pub as_many : ones set ≡ ones m
   pub order : Reordered (with_set p m) (with_set q set)
 
-pub data AsManyTakers : AskedAssign → AskedAssign → Type 0 where
-  nobody_both : AsManyTakers (Given Nobody) (Given Nobody)
-  takers_both : (m k : ℕ) → ones k ≡ ones m → AsManyTakers (Given (Takers m)) (Given (Takers k))
+pub data AsManyTakers : Result Assign Refusal → Result Assign Refusal → Type 0 where
+  nobody_both : AsManyTakers (Ok None) (Ok None)
+  takers_both : (m k : ℕ) → ones k ≡ ones m → AsManyTakers (Ok (Some m)) (Ok (Some k))
 
 pub data SameFault : Checked → Checked → Type 0 where
   both_lawful : SameFault Lawful Lawful

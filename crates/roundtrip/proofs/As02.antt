@@ -1,10 +1,16 @@
 -- Versions 01 and 02 as 03 (document 02, W-207 and W-213): a text of any version reads to a plan whose version 03 text reads to the same
 -- plan and releases. A version 01 text reads as the version 02 plan in which every string has the moving cost that its header says.
 use Rattle.base.proofs.Prelude.{ℕ, ◌-◌, ◌≤◌, ◌≡◌, refl, sym, ap, ◌∙◌, List, [], ◌∷◌, map, arith, length, drop, length-append, length-replicate, length-take, take_at}
+use Rattle.faults.specs.Checks.{Lawful}
 use Rattle.base.specs.Count.{filled}
-use Rattle.faults.specs.{declared.Fault.TheVariants.FrameWrong, declared.Checked.TheVariants.Lawful}
+use Rattle.faults.specs.declared.Fault.TheVariants.{FrameWrong}
 use Rattle.faults.proofs.Checks.{refused-not-lawful}
-use Rattle.rules.specs.{declared.Plan.Plan, declared.Releases.Releases, declared.Reading.Reading, Plan.{strings_of, no_string}, Release.{releases_of, no_release}, Layout.{Version, version01, version02, version03}, Text.{Line, lines_of, n_in, release_of, plan_in, list_in, lines_check, text_check, lawful_reading, reading_in, reading_of}}
+use Rattle.rules.specs.declared.Plan.{Plan}
+use Rattle.rules.specs.declared.Releases.{Releases}
+use Rattle.rules.specs.Text.{Reading, Line, lines_of, n_in, release_of, plan_in, list_in, lines_check, text_check, lawful_reading, reading_in, reading_of}
+use Rattle.rules.specs.Plan.{strings_of, no_string}
+use Rattle.rules.specs.Release.{releases_of, no_release}
+use Rattle.rules.specs.Layout.{Version, version01, version02, version03}
 use Rattle.laws.proofs.{Versions.{strings-are, reading-checked, lines-checked, reading-on-time}, Releases.run_check-lawful, ReadLawful.text-read}
 use Rattle.laws.specs.Lawful.{LawfulRun}
 use Rattle.writing.specs.Saved.{saved_text}

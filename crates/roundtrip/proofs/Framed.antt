@@ -3,9 +3,11 @@
 --     written l says        the line of the layout l whose fields say what says gives them
 --     Framed l line         the line writes a frame of the layout l
 use Rattle.base.proofs.Prelude.{ℕ, ◌%◌, ◌<◌, ◌≡◌, refl, ap, ◌∙◌, true, not, ◌&&◌, List, [], ◌∷◌, ◌++◌, flat_map, arith, lt-ltb, ltb-true, eq-eqb, eqb-true, not-false, ltb, eqb, length, drop}
+use Rattle.faults.specs.Checks.{Lawful}
 use Rattle.base.specs.{Count.{All, every}, Digits.number_on}
 use Rattle.base.proofs.Lists.{all_map, all-of-every, every-of-all, and_left, and_right}
-use Rattle.faults.specs.{Checks.refuse_if, declared.Fault.TheVariants.{LineMalformed, FrameWrong}, declared.Checked.TheVariants.Lawful}
+use Rattle.faults.specs.Checks.{refuse_if}
+use Rattle.faults.specs.declared.Fault.TheVariants.{LineMalformed, FrameWrong}
 use Rattle.faults.proofs.Checks.{then-first, then-second, refuse_if-not}
 use Rattle.rules.specs.{Layout.{Layout, frame_size, kind_in}, Text.{Line, digit_of, well_formed, frame_of, frame_check, layout_check}}
 use Rattle.laws.proofs.LineTexts.{line_bytes}

@@ -1,8 +1,8 @@
 -- The lines of a lawful plan and its releases pass every check of the reader, in every version.
 use Rattle.base.proofs.Prelude.{ℕ, suc, ◌+◌, ◌≤◌, ◌≡◌, refl, ap, true, List, [], ◌∷◌, ◌++◌, map, arith, le-ltb, eq-eqb, length, take_at}
+use Rattle.faults.specs.Checks.{Lawful}
 use Rattle.base.specs.Count.{All, least_from}
 use Rattle.base.proofs.Lists.{by_bool}
-use Rattle.faults.specs.declared.Checked.TheVariants.{Lawful}
 use Rattle.rules.specs.{declared.BatteryString.BatteryString, declared.Plan.Plan, declared.Release.Release, Plan.{strings_of, common_multiple, multiple_of}, Release.{release_lawful, unlawful_from}, Layout.{held_to, header_frame, string_frame, release_frame}, Text.{Line, header_check, version_check, string_line_check, string_lines_check, release_line_check, release_lines_check}}
 use Rattle.laws.specs.Lawful.{LawfulPlan}
 use Rattle.laws.proofs.Lawful.{head_check-good, cost_check-good, string_lawful-yes}

@@ -1,10 +1,10 @@
 -- Reading what was written, in every version: the text of a lawful plan reads back to the plan and its releases, where the version can say
 -- them: 01 has one moving cost for all strings, 01 and 02 have no late days and no due days.
 use Rattle.base.proofs.Prelude.{ℕ, ◌+◌, ◌-◌, ◌≤◌, ◌<◌, ◌≡◌, refl, sym, ap, ◌∙◌, List, [], ◌∷◌, ◌++◌, map, append_assoc, arith, dec_le, le-ltb, length, take, drop, get_or, length-map, take_at, drop_at, length-take-le, false, eqb}
+use Rattle.faults.specs.Checks.{Lawful}
 use mathlib.Core.List.{flat_map}
 use Rattle.base.specs.Count.{All}
 use Rattle.base.proofs.{Lists.{all-by, all_map, all_get_d, true-not-false}, Order.{all_append, all_both, all_of}}
-use Rattle.faults.specs.declared.Checked.TheVariants.{Lawful}
 use Rattle.rules.specs.{declared.BatteryString.BatteryString, declared.Plan.Plan, declared.Release.Release, declared.Releases.Releases, Plan.{strings_of, string_at, no_string}, Release.{releases_of, no_release, unlawful_from, first_unlawful}, Refusal.run_check, Layout.{HeaderField, StringField, ReleaseField, Layout, Version, line_size, has_field, version02, version03, held_to, Due, header_frame, string_frame, release_frame}, Text.{Line, lines_of, string_of, release_of, plan_in, list_in, lawful_reading, reading_in, version_of, reading_of, string_lines_check, release_lines_check, body_check, lines_check, text_check}}
 use Rattle.laws.specs.Lawful.{LawfulString, LawfulRun, OnTime}
 use Rattle.laws.proofs.{Lawful.multiple_check-good, Releases.run_check-lawful, ReleaseList.release-lawful}

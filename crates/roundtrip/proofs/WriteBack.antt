@@ -1,10 +1,12 @@
 -- Writing what was read: a text that is read is written again byte for byte in its version. So a plan has one text there.
 use Rattle.base.proofs.Prelude.{ℕ, zero, suc, ◌+◌, ◌≤◌, ◌<◌, ◌≡◌, refl, sym, ap, ◌∙◌, subst, not, List, [], ◌∷◌, ◌++◌, map, append_assoc, arith, eqb-true, not-false, eqb, length, take, drop, length-map, take-append-drop, take_at}
+use Rattle.faults.specs.Checks.{Lawful, Checked}
 use mathlib.Core.List.{flat_map}
 use Rattle.days.specs.{declared.Length.Length, Days.days}
 use Rattle.base.specs.Count.{All}
 use Rattle.base.proofs.{Lists.{all-at, all_map}, Order.all_append}
-use Rattle.faults.specs.{declared.Fault.TheVariants.FrameWrong, declared.Checked.Checked, declared.Checked.TheVariants.Lawful, Checks.then}
+use Rattle.faults.specs.declared.Fault.TheVariants.{FrameWrong}
+use Rattle.faults.specs.Checks.{then}
 use Rattle.faults.proofs.Checks.{refused-not-lawful, then-first, then-second, refuse_if-not}
 use Rattle.rules.specs.{declared.Plan.Plan, declared.Release.Release, Plan.{strings_of, string_at, no_string}, Release.releases_of, Refusal.{head_check, cost_check, string_check, multiple_check}, Layout.{Layout, Version, field_in, field_among, held_to, header_frame, string_frame, release_frame}, Text.{Line, lines_of, field_of, n_in, a_in, run_in, string_of, release_of, plan_in, list_in, layout_check, version_check, header_check, string_line_check, string_lines_check, release_line_check, release_lines_check, body_check, lines_check, text_check, lawful_reading, reading_in}}
 use Rattle.laws.proofs.{Lawful.head_check-lawful, Versions.{strings-many, strings-lawful, strings-are, one-cost, reading-checked, lines-checked}}

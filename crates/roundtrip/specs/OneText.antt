@@ -6,11 +6,11 @@
 --     CanSay v p rs         the version v can say the plan p and its releases: where its header says one moving cost for all strings, they
 --                           have one; where its frames do not say late days or due days, there are none, and each release is due on its day
 use Rattle.std.specs.Prelude.{◌≡◌, true, false}
+use Rattle.faults.specs.Checks.{Lawful}
 use Rattle.base.specs.Count.{All, filled}
-use Rattle.faults.specs.declared.Checked.TheVariants.{Lawful}
 use Rattle.rules.specs.declared.Plan.{Plan}
 use Rattle.rules.specs.declared.Releases.{Releases}
-use Rattle.rules.specs.declared.Reading.{Reading}
+use Rattle.rules.specs.Text.{Reading}
 use Rattle.rules.specs.Plan.{strings_of, string_at, no_string}
 use Rattle.rules.specs.Release.{releases_of, no_release}
 use Rattle.rules.specs.Layout.{Version, has_field, header_frame, string_frame, release_frame, Common, Late, Due}

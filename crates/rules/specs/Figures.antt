@@ -1,13 +1,10 @@
 -- The figures of a plan that its file does not say (document 01, "The demand rule"): H, the load, and E of each string.
 --     holds_of p             E of each of the ten places; 0 where there is no string
 --     figures_of p           the figures of a lawful plan
---     no_figures f at        those of a refused one: its refusal, and 0 for each number
 --     figures_answer p       what the entry answers: the check of the plan decides
-use Rattle.std.specs.Prelude.{ℕ, List, map, replicate}
-use Rattle.faults.specs.declared.Fault.{Fault}
-use Rattle.faults.specs.declared.Checked.{Checked}
-use Rattle.faults.specs.declared.Checked.TheVariants.{Lawful, Refused}
-use Rattle.faults.specs.Checks.{or_refused}
+use Rattle.std.specs.Prelude.{ℕ, List, map, Result, Ok}
+use Rattle.faults.specs.Checks.{Refused, or_refused}
+use Rattle.faults.specs.declared.Refusal.{Refusal}
 use Rattle.base.specs.Count.{filled}
 use Rattle.rules.specs.declared.Plan.{Plan}
 use Rattle.rules.specs.declared.Figures.{Figures}
@@ -19,15 +16,9 @@ unfoldable pub holds_of : Plan → List ℕ
 holds_of p = filled 10 0 (map (hold_of p) (strings_of p))
 
 unfoldable pub figures_of : Plan → Figures
-figures_of p = record { checked = Lawful; multiple = multiple_of p; load = load p; holds = holds_of p }
+figures_of p = record { multiple = multiple_of p; load = load p; holds = holds_of p }
 
-abbrev pub no_figures : Fault → ℕ → Figures
-no_figures f at = record { checked = Refused f at; multiple = 0; load = 0; holds = replicate 10 0 }
-
-abbrev pub on_figures : Checked → Figures → Figures
-on_figures = or_refused no_figures
-
-unfoldable pub figures_answer : Plan → Figures
+unfoldable pub figures_answer : Plan → Result Figures Refusal
 figures_answer p =
     let v = figures_of p in
-    on_figures (plan_check p) v
+    or_refused Refused (plan_check p) (Ok v)

@@ -1,7 +1,8 @@
--- The rules of document 01, in its order. Read: Plan, Demand, Verdict, Search, Release, Run, Refusal, Stints, Figures, Layout, Text,
+-- The rules of document 01, in its order. Read: Plan, Demand, Found, Verdict, Search, Release, Run, Refusal, Stints, Figures, Layout, Text,
 -- Answer, Said, Lines.
 pub mod Plan
 pub mod Demand
+pub mod Found
 pub mod Verdict
 pub mod Search
 pub mod Release

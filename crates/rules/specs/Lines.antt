@@ -10,6 +10,10 @@
 --     lines_for a            all that is written for an answer
 --     row_line s             T,C,D,X,moving cost,J of a string, ended by CR LF (document 02, W-210 and W-213)
 use Rattle.std.specs.Prelude.{ℕ, cond, List, [], ◌∷◌, ◌++◌, map, eqb}
+use Rattle.faults.specs.declared.Refusal.{Refusal}
+use Rattle.std.specs.Prelude.{Ok, Err, Result, Some, None}
+use Rattle.rules.specs.declared.Answers.{Answers}
+use Rattle.rules.specs.Found.{Assign}
 use Prim.Native.Char.{code}
 use Prim.Native.String.{String}
 use Prim.Native.String as text
@@ -18,14 +22,8 @@ use Rattle.faults.specs.declared.Fault.{Fault}
 use Rattle.rules.specs.declared.BatteryString.{BatteryString}
 use Rattle.rules.specs.declared.Verdict.{Verdict}
 use Rattle.rules.specs.declared.Verdict.TheVariants as verdict
-use Rattle.rules.specs.declared.AskedVerdict.{AskedVerdict}
-use Rattle.rules.specs.declared.AskedVerdict.TheVariants as asked-verdict
-use Rattle.rules.specs.declared.Assign.{Assign}
-use Rattle.rules.specs.declared.Assign.TheVariants as assign
 use Rattle.rules.specs.declared.Outcome.{Outcome}
 use Rattle.rules.specs.declared.Outcome.TheVariants as outcome
-use Rattle.rules.specs.declared.Answer.{Answer}
-use Rattle.rules.specs.declared.Answer.TheVariants as answer
 use Rattle.faults.specs.Checks.{fault_number}
 
 unfoldable pub bytes_of : String → List ℕ
@@ -58,21 +56,21 @@ verdict_line (verdict.Fail l b d k) =
     worded "verdict fail interval # blocking # demand # pairs #\n" (decimal l.0 ∷ decimal b.0 ∷ decimal d.0 ∷ decimal k ∷ [])
 verdict_line (verdict.Pass k) = worded "verdict pass pairs #\n" (decimal k ∷ [])
 
-unfoldable pub asked_line : AskedVerdict → List ℕ
-asked_line (asked-verdict.Refused f at) = refused_line f at
-asked_line (asked-verdict.Given v) = verdict_line v
+unfoldable pub asked_line : Result Verdict Refusal → List ℕ
+asked_line (Err e) = refused_line e.fault e.at
+asked_line (Ok v) = verdict_line v
 
 unfoldable pub assign_line : Assign → List ℕ
-assign_line (assign.Takers m) = worded "assign #\n" (decimal m ∷ [])
-assign_line assign.Nobody = worded "assign none\n" []
+assign_line (Some m) = worded "assign #\n" (decimal m ∷ [])
+assign_line None = worded "assign none\n" []
 
 unfoldable pub outcome_line : Outcome → List ℕ
 outcome_line (outcome.Miss t i) = worded "run miss day # place #\n" (decimal t.0 ∷ decimal i ∷ [])
 outcome_line (outcome.Clean w m i) = worded "run clean work # move # idle #\n" (decimal w.0 ∷ decimal m.0 ∷ decimal i.0 ∷ [])
 
-unfoldable pub lines_for : Answer → List ℕ
-lines_for (answer.Refused f at) = refused_line f at
-lines_for (answer.Answered v a o) = verdict_line v ++ assign_line a ++ outcome_line o
+unfoldable pub lines_for : Result Answers Refusal → List ℕ
+lines_for (Err e) = refused_line e.fault e.at
+lines_for (Ok a) = verdict_line a.verdict ++ assign_line a.assign ++ outcome_line a.outcome
 
 -- ---- A string in the asset register's table
 

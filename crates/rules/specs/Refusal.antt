@@ -14,24 +14,16 @@
 --     verdict_answer p, set_answer p m, search_answer p, run_answer p rs    the answers of the entries
 --     break_answer p         and of the one that asks for the first broken pair of all, overloaded or not
 use Rattle.std.specs.Prelude.{ℕ, suc, ◌^◌, not, List, [], ◌∷◌, ltb, leb}
+use Rattle.faults.specs.Checks.{Refused, Lawful, Checked}
+use Rattle.faults.specs.declared.Refusal.{Refusal}
+use Rattle.std.specs.Prelude.{Ok, Result}
+use Rattle.rules.specs.Found.{FirstBroken, Assign}
 use Rattle.rules.specs.declared.BatteryString.{BatteryString}
 use Rattle.rules.specs.declared.Plan.{Plan}
 use Rattle.rules.specs.declared.Releases.{Releases}
 use Rattle.faults.specs.declared.Fault.TheVariants.{StringCount, OutOfBounds, MultipleOver, ReleaseTooMany, ReleaseUnlawful}
-use Rattle.faults.specs.declared.Checked.{Checked}
-use Rattle.faults.specs.declared.Checked.TheVariants as checked
 use Rattle.rules.specs.declared.Verdict.{Verdict}
-use Rattle.rules.specs.declared.AskedVerdict.{AskedVerdict}
-use Rattle.rules.specs.declared.AskedVerdict.TheVariants as asked-verdict
-use Rattle.rules.specs.declared.Broken.{Broken}
-use Rattle.rules.specs.declared.AskedBroken.{AskedBroken}
-use Rattle.rules.specs.declared.AskedBroken.TheVariants as asked-broken
-use Rattle.rules.specs.declared.Assign.{Assign}
-use Rattle.rules.specs.declared.AskedAssign.{AskedAssign}
-use Rattle.rules.specs.declared.AskedAssign.TheVariants as asked-assign
 use Rattle.rules.specs.declared.Outcome.{Outcome}
-use Rattle.rules.specs.declared.AskedOutcome.{AskedOutcome}
-use Rattle.rules.specs.declared.AskedOutcome.TheVariants as asked-outcome
 use Rattle.rules.specs.Plan.{strings_of, cost_lawful, string_lawful, multiple_of}
 use Rattle.faults.specs.Checks.{in_bounds, refuse_if, then, or_refused}
 use Rattle.rules.specs.Verdict.{all_pairs, first_broken, broken_at, verdict_of}
@@ -65,7 +57,7 @@ many_check at j = refuse_if (ltb 1000 j) ReleaseTooMany at
 -- ---- The order of faults
 
 unfoldable pub strings_check : ℕ → List BatteryString → Checked
-strings_check k [] = checked.Lawful
+strings_check k [] = Lawful
 strings_check k (s ∷ ss) =
     let later = strings_check (suc k) ss in
     then (string_check k s) later
@@ -92,39 +84,39 @@ run_check p rs =
 
 -- ---- The answers
 
-abbrev pub on_verdict : Checked → Verdict → AskedVerdict
-on_verdict c v = or_refused asked-verdict.Refused c (asked-verdict.Given v)
+abbrev pub on_verdict : Checked → Verdict → Result Verdict Refusal
+on_verdict c v = or_refused Refused c (Ok v)
 
-abbrev pub on_broken : Checked → Broken → AskedBroken
-on_broken c v = or_refused asked-broken.Refused c (asked-broken.Given v)
+abbrev pub on_broken : Checked → FirstBroken → Result FirstBroken Refusal
+on_broken c v = or_refused Refused c (Ok v)
 
-abbrev pub on_assign : Checked → Assign → AskedAssign
-on_assign c v = or_refused asked-assign.Refused c (asked-assign.Given v)
+abbrev pub on_assign : Checked → Assign → Result Assign Refusal
+on_assign c v = or_refused Refused c (Ok v)
 
-abbrev pub on_outcome : Checked → Outcome → AskedOutcome
-on_outcome c v = or_refused asked-outcome.Refused c (asked-outcome.Given v)
+abbrev pub on_outcome : Checked → Outcome → Result Outcome Refusal
+on_outcome c v = or_refused Refused c (Ok v)
 
-unfoldable pub verdict_answer : Plan → AskedVerdict
+unfoldable pub verdict_answer : Plan → Result Verdict Refusal
 verdict_answer p =
     let v = verdict_of p in
     on_verdict (plan_check p) v
 
-unfoldable pub break_answer : Plan → AskedBroken
+unfoldable pub break_answer : Plan → Result FirstBroken Refusal
 break_answer p =
     let v = broken_at (first_broken p (all_pairs p)) in
     on_broken (plan_check p) v
 
-unfoldable pub set_answer : Plan → ℕ → AskedVerdict
+unfoldable pub set_answer : Plan → ℕ → Result Verdict Refusal
 set_answer p m =
     let v = verdict_of (with_set p m) in
     on_verdict (set_check p m) v
 
-unfoldable pub search_answer : Plan → AskedAssign
+unfoldable pub search_answer : Plan → Result Assign Refusal
 search_answer p =
     let v = search_of p in
     on_assign (plan_check p) v
 
-unfoldable pub run_answer : Plan → Releases → AskedOutcome
+unfoldable pub run_answer : Plan → Releases → Result Outcome Refusal
 run_answer p rs =
     let v = run_of p (releases_of rs) in
     on_outcome (run_check p rs) v

@@ -21,27 +21,15 @@
 --     stinted_says s                           what is said where the stints of a run are asked for
 -- Of texts that are written and of releases that miss the crates writing, tries and missed have it: saved_says, missing_says, missed_says.
 use Rattle.std.specs.Prelude.{ℕ}
-use Rattle.faults.specs.declared.Checked.{Checked}
-use Rattle.faults.specs.declared.Checked.TheVariants as checked
+use Rattle.faults.specs.Checks.{Checked}
+use Rattle.faults.specs.declared.Refusal.{Refusal}
+use Rattle.std.specs.Prelude.{Ok, Err, Result, Some, None}
+use Rattle.rules.specs.Found.{FirstBroken, Assign}
 use Rattle.faults.specs.Checks.{fault_number}
 use Rattle.rules.specs.declared.Verdict.{Verdict}
 use Rattle.rules.specs.declared.Verdict.TheVariants as verdict
-use Rattle.rules.specs.declared.AskedVerdict.{AskedVerdict}
-use Rattle.rules.specs.declared.AskedVerdict.TheVariants as asked-verdict
-use Rattle.rules.specs.declared.Broken.{Broken}
-use Rattle.rules.specs.declared.Broken.TheVariants as broken
-use Rattle.rules.specs.declared.AskedBroken.{AskedBroken}
-use Rattle.rules.specs.declared.AskedBroken.TheVariants as asked-broken
-use Rattle.rules.specs.declared.Assign.{Assign}
-use Rattle.rules.specs.declared.Assign.TheVariants as assign
-use Rattle.rules.specs.declared.AskedAssign.{AskedAssign}
-use Rattle.rules.specs.declared.AskedAssign.TheVariants as asked-assign
 use Rattle.rules.specs.declared.Outcome.{Outcome}
 use Rattle.rules.specs.declared.Outcome.TheVariants as outcome
-use Rattle.rules.specs.declared.AskedOutcome.{AskedOutcome}
-use Rattle.rules.specs.declared.AskedOutcome.TheVariants as asked-outcome
-use Rattle.rules.specs.declared.Stinted.{Stinted}
-use Rattle.rules.specs.declared.Stinted.TheVariants as stinted
 
 pub data Said : Type 0 where
   lawful : Said
@@ -55,33 +43,33 @@ pub data Said : Type 0 where
   clean : ℕ → ℕ → ℕ → Said
 
 abbrev pub checked_says : Checked → Said
-checked_says checked.Lawful = lawful
-checked_says (checked.Refused f at) = refused (fault_number f) at
+checked_says (Ok _) = lawful
+checked_says (Err e) = refused (fault_number e.fault) e.at
 
 abbrev pub verdict_says : Verdict → Said
 verdict_says verdict.Overload = overload 0
 verdict_says (verdict.Fail l b d k) = fail l.0 b.0 d.0 k
 verdict_says (verdict.Pass k) = pass k
 
-abbrev pub asked_verdict_says : AskedVerdict → Said
-asked_verdict_says (asked-verdict.Refused f at) = refused (fault_number f) at
-asked_verdict_says (asked-verdict.Given v) = verdict_says v
+abbrev pub asked_verdict_says : Result Verdict Refusal → Said
+asked_verdict_says (Err e) = refused (fault_number e.fault) e.at
+asked_verdict_says (Ok v) = verdict_says v
 
 abbrev pub assign_says : Assign → Said
-assign_says (assign.Takers m) = takers m
-assign_says assign.Nobody = none
+assign_says (Some m) = takers m
+assign_says None = none
 
-abbrev pub asked_assign_says : AskedAssign → Said
-asked_assign_says (asked-assign.Refused f at) = refused (fault_number f) at
-asked_assign_says (asked-assign.Given a) = assign_says a
+abbrev pub asked_assign_says : Result Assign Refusal → Said
+asked_assign_says (Err e) = refused (fault_number e.fault) e.at
+asked_assign_says (Ok a) = assign_says a
 
 abbrev pub outcome_says : Outcome → Said
 outcome_says (outcome.Miss t i) = miss t.0 i
 outcome_says (outcome.Clean w m i) = clean w.0 m.0 i.0
 
-abbrev pub asked_outcome_says : AskedOutcome → Said
-asked_outcome_says (asked-outcome.Refused f at) = refused (fault_number f) at
-asked_outcome_says (asked-outcome.Given o) = outcome_says o
+abbrev pub asked_outcome_says : Result Outcome Refusal → Said
+asked_outcome_says (Err e) = refused (fault_number e.fault) e.at
+asked_outcome_says (Ok o) = outcome_says o
 
 -- ---- Beside the desk's lines
 
@@ -97,14 +85,14 @@ pub data Noted : Type 0 where
   too_many : Noted
   misses : ℕ → Noted
 
-abbrev pub broken_says : Broken → Noted
-broken_says broken.Nowhere = unbroken
-broken_says (broken.At l b) = breaks l.0 b.0
+abbrev pub broken_says : FirstBroken → Noted
+broken_says None = unbroken
+broken_says (Some q) = breaks q.interval.0 q.blocking.0
 
-abbrev pub asked_broken_says : AskedBroken → Noted
-asked_broken_says (asked-broken.Refused f at) = refused_with (fault_number f) at
-asked_broken_says (asked-broken.Given b) = broken_says b
+abbrev pub asked_broken_says : Result FirstBroken Refusal → Noted
+asked_broken_says (Err e) = refused_with (fault_number e.fault) e.at
+asked_broken_says (Ok b) = broken_says b
 
-abbrev pub stinted_says : Stinted → Noted
-stinted_says (stinted.Refused f at) = refused_with (fault_number f) at
-stinted_says (stinted.Listed k) = stints k
+abbrev pub stinted_says : Result ℕ Refusal → Noted
+stinted_says (Err e) = refused_with (fault_number e.fault) e.at
+stinted_says (Ok k) = stints k

@@ -7,13 +7,13 @@
 --     search_of p            the first set of that order that passes
 -- The X of the plan plays no part in the answer.
 use Rattle.std.specs.Prelude.{ℕ, suc, ◌/◌, ◌%◌, ◌^◌, Bool, eqb}
+use Rattle.std.specs.Prelude.{Some, None}
+use Rattle.rules.specs.Found.{Assign}
 use mathlib.Core.List.{List, [], ◌∷◌, flat_map}
 use Rattle.std.proofs.Math.Option.{Option, none, some}
 use Rattle.std.specs.Int.Count.{ones}
 use Rattle.rules.specs.declared.BatteryString.{BatteryString}
 use Rattle.rules.specs.declared.Plan.{Plan}
-use Rattle.rules.specs.declared.Assign.{Assign}
-use Rattle.rules.specs.declared.Assign.TheVariants.{Takers, Nobody}
 use Rattle.base.specs.Count.{up_from, keep, first_of}
 use Rattle.rules.specs.Verdict.{verdict_of, is_pass}
 
@@ -35,8 +35,8 @@ ordered n = flat_map (sets_of n) (up_from 0 (suc n))
 
 -- what is answered where a set is found, and where none is
 abbrev pub assigned : Option ℕ → Assign
-assigned none = Nobody
-assigned (some m) = Takers m
+assigned none = None
+assigned (some m) = Some m
 
 abbrev pub first_passing : Plan → List ℕ → Assign
 first_passing p ms = assigned (first_of (set_passes p) ms)

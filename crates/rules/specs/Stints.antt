@@ -13,10 +13,12 @@
 --     stints_answer p rs room    how many stints are listed, or the refusal
 --     stints_listed p rs list    what the lent list holds afterwards: the numbers, and then its own later places; as it was on a refusal
 use Rattle.std.specs.Prelude.{ℕ, suc, ◌+◌, ◌*◌, min, Bool, true, false, cond, ◌&&◌, ltb, eqb, length, drop}
+use Rattle.faults.specs.Checks.{Refused, Checked}
+use Rattle.faults.specs.declared.Refusal.{Refusal}
+use Rattle.std.specs.Prelude.{Ok, Result}
 use mathlib.Core.List.{List, [], ◌∷◌, ◌++◌, flat_map}
 use Rattle.days.specs.Days.{day, days}
 use Rattle.faults.specs.declared.Fault.TheVariants.{NoRoom}
-use Rattle.faults.specs.declared.Checked.{Checked}
 use Rattle.faults.specs.Checks.{then, refuse_if, or_refused}
 use Rattle.rules.specs.declared.Plan.{Plan}
 use Rattle.rules.specs.declared.Release.{Release}
@@ -24,8 +26,6 @@ use Rattle.rules.specs.declared.Releases.{Releases}
 use Rattle.rules.specs.declared.Use.{Use}
 use Rattle.rules.specs.declared.Use.TheVariants.{Idle, Work, Move}
 use Rattle.rules.specs.declared.Stint.{Stint}
-use Rattle.rules.specs.declared.Stinted.{Stinted}
-use Rattle.rules.specs.declared.Stinted.TheVariants as stinted
 use Rattle.rules.specs.Release.{releases_of}
 use Rattle.rules.specs.Run.{history, miss_day}
 use Rattle.rules.specs.Refusal.{run_check}
@@ -92,10 +92,10 @@ stints_check p rs room =
     let full = refuse_if (ltb room (5 * length (run_stints p (releases_of rs)))) NoRoom 0 in
     then (run_check p rs) full
 
-unfoldable pub stints_answer : Plan → Releases → ℕ → Stinted
+unfoldable pub stints_answer : Plan → Releases → ℕ → Result ℕ Refusal
 stints_answer p rs room =
     let count = length (run_stints p (releases_of rs)) in
-    or_refused stinted.Refused (stints_check p rs room) (stinted.Listed count)
+    or_refused Refused (stints_check p rs room) (Ok count)
 
 unfoldable pub stints_listed : Plan → Releases → List ℕ → List ℕ
 stints_listed p rs list =

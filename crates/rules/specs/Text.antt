@@ -16,21 +16,23 @@
 --     reading_in v text      what reading a text of that version gives: on a refusal an empty plan and no releases
 --     version_of lines       the version that lines are held to: the one that the first of them names
 --     reading_of text        what reading a text gives: its lines are held to the version that its header names
+--     said_in r              what is answered for what reading gives
 -- Versions 01, 02 and 03 are read; in 01 and 02 every J is 0. A header of another version, or of another length than its version's, is 3
 -- at line 1; a string or release line of another length than its version's is 3 at its line.
 use Rattle.std.specs.Prelude.{ℕ, zero, suc, ◌+◌, ◌-◌, ◌*◌, ◌%◌, Bool, true, false, not, cond, ◌&&◌, List, [], ◌∷◌, map, ltb, eqb, length, take, drop, replicate}
+use Rattle.std.specs.Prelude.{Result, Ok}
+use Rattle.faults.specs.Checks.{Refused, Lawful, Checked}
+use Rattle.faults.specs.declared.Refusal.{Refusal}
+use Rattle.rules.specs.declared.PlanFile.{PlanFile}
 use Rattle.days.specs.Days.{day, days}
 use Rattle.faults.specs.declared.Fault.{Fault}
 use Rattle.faults.specs.declared.Fault.TheVariants.{TextTooLong, LineMalformed, FrameWrong, ReleaseUnlawful}
-use Rattle.faults.specs.declared.Checked.{Checked}
-use Rattle.faults.specs.declared.Checked.TheVariants.{Lawful, Refused}
 use Rattle.faults.specs.Checks.{in_bounds, then, refuse_if, or_refused}
 use Rattle.base.specs.Count.{every, filled}
 use Rattle.rules.specs.declared.BatteryString.{BatteryString}
 use Rattle.rules.specs.declared.Plan.{Plan}
 use Rattle.rules.specs.declared.Release.{Release}
 use Rattle.rules.specs.declared.Releases.{Releases}
-use Rattle.rules.specs.declared.Reading.{Reading}
 use Rattle.rules.specs.Plan.{no_string}
 use Rattle.rules.specs.Release.{release_lawful, no_release}
 use Rattle.rules.specs.Refusal.{head_check, cost_check, string_check, multiple_check, many_check}
@@ -81,6 +83,11 @@ no_plan = record { n = 0; run = days 0; strings = replicate 10 no_string }
 
 abbrev pub no_releases : Releases
 no_releases = record { count = 0; list = replicate 1000 no_release }
+
+pub record Reading : Type 0 where
+  pub checked : Checked
+  pub plan : Plan
+  pub releases : Releases
 
 abbrev pub refused_reading : Fault → ℕ → Reading
 refused_reading f at = record { checked = Refused f at; plan = no_plan; releases = no_releases }
@@ -214,3 +221,7 @@ version_of (header ∷ lines) = held_to (version_in (frame_of header))
 
 unfoldable pub reading_of : List ℕ → Reading
 reading_of text = reading_in (version_of (lines_of text)) text
+
+-- what is answered: the plan and the releases where nothing is found, else the refusal
+abbrev pub said_in : Reading → Result PlanFile Refusal
+said_in r = or_refused Refused r.checked (Ok (record { plan = r.plan; releases = r.releases }))

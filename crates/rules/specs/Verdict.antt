@@ -9,14 +9,14 @@
 --     verdict_of p           the verdict on a lawful plan: by all pairs
 --     is_pass v              the verdict v is a pass
 use Rattle.std.specs.Prelude.{ℕ, suc, ◌+◌, ◌-◌, Bool, true, false, cond, ltb, length}
+use Rattle.std.specs.Prelude.{None}
+use Rattle.rules.specs.Found.{At, FirstBroken}
 use mathlib.Core.List.{List, [], ◌∷◌, map, flat_map}
 use Rattle.std.proofs.Math.Option.{Option, none, some}
 use Rattle.days.specs.Days.{days}
 use Rattle.rules.specs.declared.Plan.{Plan}
 use Rattle.rules.specs.declared.Verdict.{Verdict}
 use Rattle.rules.specs.declared.Verdict.TheVariants.{Overload, Fail, Pass}
-use Rattle.rules.specs.declared.Broken.{Broken}
-use Rattle.rules.specs.declared.Broken.TheVariants.{Nowhere, At}
 use Rattle.base.specs.Count.{up_from, first_of}
 use Rattle.rules.specs.Plan.{multiple_of, d_max}
 use Rattle.rules.specs.Demand.{block_limit, demand, overloaded}
@@ -37,8 +37,8 @@ broken p q = ltb q.l (demand p q.l q.b)
 abbrev pub first_broken : Plan → List Pair → Option Pair
 first_broken p qs = first_of (broken p) qs
 
-unfoldable pub broken_at : Option Pair → Broken
-broken_at none = Nowhere
+unfoldable pub broken_at : Option Pair → FirstBroken
+broken_at none = None
 broken_at (some q) = At (days q.l) (days q.b)
 
 unfoldable pub compared : Plan → List Pair → List Pair

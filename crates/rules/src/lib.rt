@@ -7,11 +7,9 @@ ghost use Rattle.std.specs.Prelude.{◌≡◌};
 ghost use Rattle.days.specs.Days.{days};
 ghost use Rattle.rules.specs.Demand.{moving_cost};
 ghost use Rattle.rules.specs.Plan.{with_run};
-ghost use Rattle.rules.specs.Text.{refused_reading};
 ghost use Rattle.rules.specs.Verdict.{is_pass};
 
 use days::{Day, Length};
-use faults::{Checked, Fault};
 
 // A battery string: least days between two due days, most working days of a job, days from due day to deadline, whether its jobs may
 // take the bank (1) or not (0), the moving days that a job pays which takes it, and how many days after its due day a job may come.
@@ -56,9 +54,7 @@ impl Plan {
     pub fn with_run(self, run: Length) -> Plan
         ensures exact { result ≡ with_run self run.0 }
     {
-        let n = self.n;
-        let strings = self.strings;
-        Plan { n, run, strings }
+        Plan { run, ..self }
     }
 }
 
@@ -86,30 +82,11 @@ pub struct Releases {
     pub list: [Release; 1000],
 }
 
-// What a text says: whether it is lawful and, where it is, the plan and the releases.
+// What a plan file says: the plan and its releases.
 #[derive(Clone, Copy)]
-pub struct Reading {
-    pub checked: Checked,
+pub struct PlanFile {
     pub plan: Plan,
     pub releases: Releases,
-}
-
-// What a refusal gives beside its number and line: an empty plan and no releases.
-pub fn refused_reading(fault: Fault, at: usize) -> Reading
-    ensures exact { result ≡ refused_reading fault at }
-{
-    Reading {
-        checked: Checked::Refused { fault, at },
-        plan: Plan {
-            n: 0,
-            run: Length(0),
-            strings: [NO_STRING; 10],
-        },
-        releases: Releases {
-            count: 0,
-            list: [NO_RELEASE; 1000],
-        },
-    }
 }
 
 // The verdict on a plan. A fail names the interval, the blocking and the demand there; pairs are those compared.
@@ -132,32 +109,19 @@ impl Verdict {
     pub fn passes(self) -> bool
         ensures exact { result ≡ is_pass self }
     {
-        match self {
-            Verdict::Overload => false,
-            Verdict::Fail {
-                interval: _,
-                blocking: _,
-                demand: _,
-                pairs: _,
-            } => false,
-            Verdict::Pass { pairs: _ } => true,
-        }
+        matches!(self, Verdict::Pass { .. })
     }
 }
 
 // The first pair, in order of l, then b, at which the demand rule breaks.
 #[derive(Clone, Copy)]
-pub enum Broken {
-    Nowhere,
-    At { interval: Length, blocking: Length },
+pub struct Broken {
+    pub interval: Length,
+    pub blocking: Length,
 }
 
-// What the search finds: a permission set, in which place 1 is worth 1, place 2 is worth 2, place 3 is worth 4.
-#[derive(Clone, Copy)]
-pub enum Assign {
-    Takers { set: u32 },
-    Nobody,
-}
+// What the search finds: a permission set, in which place 1 is worth 1, place 2 is worth 2, place 3 is worth 4; none where no set passes.
+pub type Assign = Option<u32>;
 
 // How a run ends: at a miss, or clean, with the days of each kind.
 #[derive(Clone, Copy)]
@@ -173,52 +137,17 @@ pub enum Outcome {
     },
 }
 
-// What is answered where a verdict is asked for: the refusal of what was handed over, or the verdict.
+// All that is answered for a plan file that is lawful.
 #[derive(Clone, Copy)]
-pub enum AskedVerdict {
-    Refused { fault: Fault, at: usize },
-    Given { verdict: Verdict },
+pub struct Answers {
+    pub verdict: Verdict,
+    pub assign: Assign,
+    pub outcome: Outcome,
 }
 
-// The same where the first broken pair is asked for.
-#[derive(Clone, Copy)]
-pub enum AskedBroken {
-    Refused { fault: Fault, at: usize },
-    Given { broken: Broken },
-}
-
-// The same where a search is asked for.
-#[derive(Clone, Copy)]
-pub enum AskedAssign {
-    Refused { fault: Fault, at: usize },
-    Given { assign: Assign },
-}
-
-// The same where a run is asked for.
-#[derive(Clone, Copy)]
-pub enum AskedOutcome {
-    Refused { fault: Fault, at: usize },
-    Given { outcome: Outcome },
-}
-
-// All that is answered for a plan file: its refusal, or the three answers, none of which can be a refusal.
-#[derive(Clone, Copy)]
-pub enum Answer {
-    Refused {
-        fault: Fault,
-        at: usize,
-    },
-    Answered {
-        verdict: Verdict,
-        assign: Assign,
-        outcome: Outcome,
-    },
-}
-
-// The figures of a plan that its file does not say: whether it is lawful and, where it is, H, the load, and E by place.
+// The figures of a lawful plan that its file does not say: H, the load, and E by place.
 #[derive(Clone, Copy)]
 pub struct Figures {
-    pub checked: Checked,
     pub multiple: u32,
     pub load: u32,
     pub holds: [u32; 10],
@@ -256,11 +185,4 @@ pub struct Stint {
     pub first: Day,
     pub length: Length,
     pub used: Use,
-}
-
-// What is answered where the stints of a run are asked for: the refusal of what was handed over, or how many were listed.
-#[derive(Clone, Copy)]
-pub enum Stinted {
-    Refused { fault: Fault, at: usize },
-    Listed { stints: usize },
 }

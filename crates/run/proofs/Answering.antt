@@ -1,8 +1,10 @@
 -- What is answered where the stints of a run are asked for, case by case.
 use Rattle.base.proofs.Prelude.{ℕ, ◌*◌, ◌≤◌, ◌<◌, ◌≡◌, List, ◌++◌, arith, lt-ltb, le-ltb, length, drop, length-take}
-use Rattle.faults.specs.{declared.Fault.Fault, declared.Fault.TheVariants.NoRoom, declared.Checked.TheVariants.{Lawful, Refused}}
+use Rattle.faults.specs.Checks.{Refused, Lawful}
+use Rattle.std.specs.Prelude.{Ok}
+use Rattle.faults.specs.declared.Fault.{Fault}
+use Rattle.faults.specs.declared.Fault.TheVariants.{NoRoom}
 use Rattle.rules.specs.{declared.Plan.Plan, declared.Releases.Releases, Release.releases_of, Refusal.run_check, Stints.{run_stints, stints_numbers, stints_check, stints_answer, stints_listed}}
-use Rattle.rules.specs.declared.Stinted.TheVariants as stinted
 use Rattle.laws.proofs.Releases.{LawfulRun}
 use Rattle.stretch.proofs.RunStints.{few-run-stints}
 
@@ -17,17 +19,17 @@ module _ (p : Plan) (rs : Releases) where
 
   module _ (list : List ℕ) where
     pub stints-refused : (f : Fault) (at : ℕ) → run_check p rs ≡ Refused f at
-        → (stinted.Refused f at ≡ stints_answer p rs (length list)) × (list ≡ stints_listed p rs list)
+        → (Refused f at ≡ stints_answer p rs (length list)) × (list ≡ stints_listed p rs list)
     unfolding stints_check stints_answer stints_listed
     stints-refused f at e = (rw e, rw e)
 
     pub stints-short : run_check p rs ≡ Lawful → length list < 5 * stints_here
-        → (stinted.Refused NoRoom 0 ≡ stints_answer p rs (length list)) × (list ≡ stints_listed p rs list)
+        → (Refused NoRoom 0 ≡ stints_answer p rs (length list)) × (list ≡ stints_listed p rs list)
     unfolding stints_check stints_answer stints_listed
     stints-short e short = let test = lt-ltb (length list) (5 * stints_here) short in (rw (e, test), rw (e, test))
 
     pub stints-fit : run_check p rs ≡ Lawful → 5 * stints_here ≤ length list
-        → (stinted.Listed stints_here ≡ stints_answer p rs (length list))
+        → (Ok stints_here ≡ stints_answer p rs (length list))
         × (stints_numbers (run_stints p (releases_of rs)) ++ drop (length (stints_numbers (run_stints p (releases_of rs)))) list
         ≡ stints_listed p rs list)
     unfolding stints_check stints_answer stints_listed

@@ -2,12 +2,10 @@
 --     Booked us list₀ list b    the book b and the list, which was list₀, have the stints of the uses us: those before the last stand in
 --                               the list, if it has room for them, and the last, if there is one, is the book's current one
 --     Told us list₀ list k      there are k stints, and the list has them all, if it has room for them
-use Rattle.base.proofs.Prelude.{ℕ, suc, ◌+◌, ◌*◌, ◌≤◌, ◌<◌, ◌≡◌, refl, sym, ap, ◌∙◌, subst, ◌⊎◌, inl, inr, true, false, ◌&&◌, List, [], ◌∷◌, ◌++◌, append_assoc, arith, eq-eqb, ne_eqb, leb-true, le-leb, lt-leb, eqb, leb, length, take, drop, set, replicate, length-append, length-replicate, length-drop, take_at, drop-drop, drop_at, length-take}
+use Rattle.base.proofs.Prelude.{ℕ, ◌+◌, ◌-◌, ◌*◌, ◌≤◌, ◌<◌, ◌≡◌, refl, sym, ap, ◌∙◌, subst, ◌⊎◌, inl, inr, true, false, ◌&&◌, List, [], ◌∷◌, ◌++◌, append_assoc, arith, eq-eqb, ne_eqb, leb-true, le-leb, lt-leb, eqb, leb, length, take, drop, put_mid, replicate, length-append, length-replicate, length-drop, take_at, drop-drop, drop_at, length-take}
 use mathlib.Core.List.{flat_map}
-use lib.Seq.{sets-eq}
 use Rattle.days.specs.Days.{day}
 use Rattle.rules.specs.{declared.Plan.Plan, declared.Release.Release, declared.Use.Use, declared.Use.TheVariants.{Idle, Work, Move}, declared.Stint.Stint, Run.{late_on, history}, Stints.{same_use, stint, stints_from, days_run, run_stints, kind_of, place_used, release_used, stint_numbers, stints_numbers}}
-use Rattle.base.specs.Count.{put_at}
 use Rattle.base.proofs.Lists.{by_bool}
 use Rattle.laws.proofs.History.{miss_day-is, miss_day-none}
 use Rattle.stretch.proofs.Few.{few-stints}
@@ -31,25 +29,13 @@ same_numbers (Move i k) (Move j m) = refl
 
 -- ---- Five numbers at a place
 
-five-stored : (list : List ℕ) (at a b c d e : ℕ) → at + 5 ≤ length list
-    → set (set (set (set (set list at a) (at + 1) b) (at + 2) c) (at + 3) d) (at + 4) e ≡ put_at at (a ∷ b ∷ c ∷ d ∷ e ∷ []) list
-five-stored list at a b c d e room =
-    let one : at + 1 ≡ suc at = omega arith in
-    let two : at + 2 ≡ suc (suc at) = omega arith in
-    let three : at + 3 ≡ suc (suc (suc at)) = omega arith in
-    let four : at + 4 ≡ suc (suc (suc (suc at))) = omega arith in
-    let five = a ∷ b ∷ c ∷ d ∷ e ∷ [] in
-    rw (one, two, three, four) (sets-eq five list at room ∙ append_assoc (take at list) five (drop (at + 5) list))
-
 pub stint-stored : (k : ℕ) (s : Stint) (list : List ℕ) (kind place release : ℕ) → kind ≡ kind_of s.used → place ≡ place_used s.used
     → release ≡ release_used s.used → 5 * k + 5 ≤ length list
-    → set (set (set (set (set list (5 * k) s.first.0) (5 * k + 1) s.length.0) (5 * k + 2) kind) (5 * k + 3) place)
-    (5 * k + 4) release
-    ≡ stored_at k s list
+    → put_mid (5 * k) (5 * k + 5 - 5 * k) list (s.first.0 ∷ s.length.0 ∷ kind ∷ place ∷ release ∷ []) ≡ stored_at k s list
 unfolding stored_at
 stint-stored k s list kind place release ki pl re room =
-    rw (le-leb (5 * k + 5) (length list) room, ki, pl, re)
-    (five-stored list (5 * k) s.first.0 s.length.0 (kind_of s.used) (place_used s.used) (release_used s.used) room)
+    let five : 5 * k + 5 - 5 * k ≡ 5 = omega arith in
+    rw (le-leb (5 * k + 5) (length list) room, ki, pl, re, five, drop-drop 5 (5 * k) list)
 
 pub stint-not-stored : (k : ℕ) (s : Stint) (list : List ℕ) → length list < 5 * k + 5 → list ≡ stored_at k s list
 unfolding stored_at
@@ -273,8 +259,10 @@ module _ (p : Plan) (rs : List Release) (t : ℕ) (list₀ list : List ℕ) (b :
       )
 
 -- the code's stretch comes: the days of the history that follow
-pub booked-next : (us vs : List Use) (list₀ list : List ℕ) (b : Book) (d k : ℕ) (u v : Use) (after : List ℕ) (next : Book)
-    → Booked us list₀ list b → vs ≡ us ++ replicate k u → d ≡ length us → v ≡ u → 1 ≤ k → Sayable u
-    → after ≡ noted_list b (stint d k v) list → next ≡ noted_book b (stint d k v) → Booked vs list₀ after next
-booked-next us vs list₀ list b d k u v after next so longer day same some said is book =
-    rw (longer, is, book, day, same) (noted-booked us list₀ list b so k u some said)
+pub booked-next : (us vs : List Use) (list₀ list : List ℕ) (b : Book) (s : Stint) (u : Use) (after : List ℕ) (next : Book)
+    → Booked us list₀ list b → s.first.0 ≡ length us → s.used ≡ u → vs ≡ us ++ replicate s.length.0 u → 1 ≤ s.length.0 → Sayable u
+    → after ≡ noted_list b s list → next ≡ noted_book b s → Booked vs list₀ after next
+booked-next us vs list₀ list b s u after next so day same longer some said is book =
+    let spelled : s ≡ stint (length us) s.length.0 u =
+    ap (λ d. stint d s.length.0 s.used) day ∙ ap (λ w. stint (length us) s.length.0 w) same in
+    rw (longer, is, book, spelled) (noted-booked us list₀ list b so s.length.0 u some said)

@@ -1,6 +1,5 @@
 -- Why the code of the run meets its definition, in the order in which the parts build on each other.
-pub mod FirstSlots
-pub mod Gaps
+pub mod Stepping
 pub mod Deadlines
 pub mod MayJoin
 pub mod State

@@ -1,9 +1,9 @@
 -- What holds of every slot at the start of every day: the moving that is left is at most 1,000 days for each day passed, and what its job
 -- would pay is at most 1,000, so that paying always fits; and the release that it serves is one of the list, so that its number does.
-use Rattle.base.proofs.Prelude.{ℕ, zero, suc, ◌+◌, ◌-◌, ◌*◌, ◌^◌, ◌≤◌, ◌<◌, ◌≡◌, sym, ap, ◌∙◌, subst, List, arith, ℕ_discrete, ltb, length, take, length-set, length-take}
-use Rattle.rules.specs.{declared.Plan.Plan, declared.Release.Release, declared.Job.Job, declared.Job.TheVariants.{Empty, Waiting, OnBank}, declared.Slot.Slot, Plan.{strings_of, no_string}, Demand.moving_cost, Run.{empty_slot, no_slot, slot_at, new_slot, joined, holder, payer, stopped, stop, taken, given, use_of, used_for, morning, state_at, use_on}, Stints.{place_used, release_used}}
+use Rattle.base.proofs.Prelude.{ℕ, zero, suc, ◌+◌, ◌-◌, ◌*◌, ◌^◌, ◌≤◌, ◌<◌, ◌≡◌, ap, List, arith, ℕ_discrete, ltb, length, length-set}
+use Rattle.rules.specs.{declared.Plan.Plan, declared.Release.Release, declared.Job.Job, declared.Job.TheVariants.{Empty, Waiting, OnBank}, declared.Slot.Slot, Plan.{strings_of, no_string}, Demand.moving_cost, Run.{empty_slot, no_slot, slot_at, new_slot, joined, holder, stop, taken, given, use_of, used_for, morning, state_at, use_on}, Stints.{place_used, release_used}}
 use Rattle.base.proofs.{Lists.{All, all-at, all_map, all_get_d, by_bool}, Order.{all_of, all-mapped}}
-use Rattle.laws.proofs.{Lawful.{LawfulPlan, PlanString, plan-strings, no_string-cost}, JobParts.{moving_of, stopped-parts, seated-parts, charged-moving, spent-moving}, Slots.{new_slot-string, new_slot-job, new_slot-serves, slot_at-take, change-take}, Steps.{use_of-free, use_of-held, holder-le, payer-le}}
+use Rattle.laws.proofs.{Lawful.{LawfulPlan, PlanString, plan-strings, no_string-cost}, JobParts.{moving_of, stopped-parts, seated-parts, charged-moving, spent-moving}, Slots.{new_slot-string, new_slot-job, new_slot-serves}, Steps.{use_of-free, use_of-held, holder-le}}
 use Rattle.stretch.specs.Stretch.{morning_on}
 use Rattle.stretch.proofs.{JoinList.join_from-all, EachSlot.{stop-all, taken-all, given-all, spent_all}}
 use Rattle.run.specs.inner.Day.{Affords}
@@ -47,22 +47,15 @@ module _ (p : Plan) (rs : List Release) (lawful : LawfulPlan p) where
       all_map (MovingTo p (1000 * t)) (λ s. moving_of s.job + moving_cost p s.string < 2 ^ 32) (λ s h. omega (arith, h.0, h.1))
       (joined p rs t (state_at p rs t)) (joined-moving t (1000 * t) (state_at p rs t) (state_at-moving t))
 
--- who pays can afford it, in an array of which the first n slots count: stopping the job on the bank leaves all moving as it was
-pub payer-affords : (p : Plan) (slots : List Slot) (n t h q : ℕ) → h ≡ holder (take n slots) → (h ≡ 0 → ⊥) → q ≡ payer t (take n slots)
-    → (q ≡ 0 → ⊥) → Affords p (take n slots)
-    → moving_of (slot_at (stop slots h) q).job + moving_cost p (slot_at (stop slots h) q).string < 2 ^ 32
-payer-affords p slots n t h q holds held pays paid affords =
-    let ss = take n slots in
+-- who pays can afford it: stopping the job on the bank leaves all moving as it was
+pub payer-affords : (p : Plan) (ss : List Slot) (q : ℕ) → (holder ss ≡ 0 → ⊥) → 1 ≤ q → q ≤ length ss → Affords p ss
+    → moving_of (slot_at (stop ss (holder ss)) q).job + moving_cost p (slot_at (stop ss (holder ss)) q).string < 2 ^ 32
+payer-affords p ss q held low high affords =
     let P : Slot → Type 0 = λ s. moving_of s.job + moving_cost p s.string < 2 ^ 32 in
     let still : All P (stop ss (holder ss)) =
-    stop-all P (λ s k. let same = (stopped-parts s.job).1 in omega arith) ss (λ z. held (holds ∙ z)) affords in
-    let freed : take n (stop slots h) ≡ stop ss h =
-    change-take (λ s. stopped s.job) slots n h (omega arith) (omega (arith, holder-le ss, length-take n slots)) in
-    let there : slot_at (stop ss (holder ss)) q ≡ slot_at (stop slots h) q =
-    ap (λ i. slot_at (stop ss i) q) (sym holds) ∙ ap (λ xs. slot_at xs q) (sym freed)
-    ∙ slot_at-take (stop slots h) n q (omega arith) (omega (arith, payer-le t ss, length-take n slots)) in
-    let room : q - 1 < length (stop ss (holder ss)) = simp length-set (omega (arith, payer-le t ss)) in
-    subst P there (all-at P (stop ss (holder ss)) no_slot still (q - 1) room)
+    stop-all P (λ s k. let same = (stopped-parts s.job).1 in omega arith) ss held affords in
+    let room : q - 1 < length (stop ss (holder ss)) = simp length-set (omega arith) in
+    all-at P (stop ss (holder ss)) no_slot still (q - 1) room
 
 -- ---- Whom it serves
 

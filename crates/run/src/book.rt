@@ -13,20 +13,14 @@ pub(crate) struct Book {
     pub(crate) current: Stint,
 }
 
-// What the bank did, as a number: nothing 0, work 1, moving 2.
+// What the bank did, as the number that the list has for it (the C interface): nothing 0, work 1, moving 2.
 fn kind(used: Use) -> u32
     ensures exact { result ≡ kind_of used }
 {
     match used {
         Use::Idle => 0,
-        Use::Work {
-            place: _,
-            serves: _,
-        } => 1,
-        Use::Move {
-            place: _,
-            serves: _,
-        } => 2,
+        Use::Work { .. } => 1,
+        Use::Move { .. } => 2,
     }
 }
 
@@ -36,8 +30,7 @@ fn place_of(used: Use) -> usize
 {
     match used {
         Use::Idle => 0,
-        Use::Work { place, serves: _ } => place,
-        Use::Move { place, serves: _ } => place,
+        Use::Work { place, .. } | Use::Move { place, .. } => place,
     }
 }
 
@@ -47,81 +40,76 @@ fn release_of(used: Use) -> usize
 {
     match used {
         Use::Idle => 0,
-        Use::Work { place: _, serves } => serves,
-        Use::Move { place: _, serves } => serves,
+        Use::Work { serves, .. } | Use::Move { serves, .. } => serves,
     }
 }
 
 // Whether the bank did the same.
+#[tactic(auto, using(crate::proofs::Booking::same_numbers))]
 fn same_use(u: Use, v: Use) -> bool
     ensures exact { result ≡ same_use u v }
 {
-    if kind(u) != kind(v) {
-        return false;
-    }
-    if place_of(u) != place_of(v) {
-        return false;
-    }
-    release_of(u) == release_of(v)
+    kind(u) == kind(v) && place_of(u) == place_of(v) && release_of(u) == release_of(v)
 }
 
-// The five numbers of a stint at its place in the list, where there is room for them.
-fn write_stint(list: &mut [u32], book: Book)
-    requires { Writable book }
-    ensures stored { list.new ≡ stored_at book.finished book.current list.old }
-{
-    let at = 5 * book.finished;
-    let current = book.current;
-    let used = current.used;
-    if list.len() < at + 5 {
-        return;
+impl Book {
+    // The five numbers of the last stint at its place in the list, where there is room for them.
+    fn write_stint(self, list: &mut [u32])
+        requires { Writable self }
+        ensures stored { list.new ≡ stored_at self.finished self.current list.old }
+    {
+        let at = 5 * self.finished;
+        let Stint {
+            first,
+            length,
+            used,
+        } = self.current;
+        if at + 5 <= list.len() {
+            list[at..at + 5].copy_from_slice(&[
+                first.0,
+                length.0,
+                kind(used),
+                place_of(used) as u32,
+                release_of(used) as u32,
+            ]);
+        }
     }
-    list[at] = current.first.0;
-    list[at + 1] = current.length.0;
-    list[at + 2] = kind(used);
-    list[at + 3] = place_of(used) as u32;
-    list[at + 4] = release_of(used) as u32;
-}
 
-// Finishes the last stint, if it has a day, and says how many stints there are.
-pub(crate) fn close(list: &mut [u32], book: Book) -> usize
-    requires { Writable book }
-    ensures count { result ≡ closed_count book }
-    ensures stored { list.new ≡ closed_list book list.old }
-{
-    if book.current.length.0 == 0 {
-        return book.finished;
+    // Finishes the last stint, if it has a day, and says how many stints there are.
+    #[tactic(auto, unfolding(crate::specs::inner::Book::closed_count, crate::specs::inner::Book::closed_list))]
+    pub(crate) fn close(self, list: &mut [u32]) -> usize
+        requires { Writable self }
+        ensures count { result ≡ closed_count self }
+        ensures stored { list.new ≡ closed_list self list.old }
+    {
+        if self.current.length.0 == 0 {
+            return self.finished;
+        }
+        self.write_stint(list);
+        self.finished + 1
     }
-    write_stint(list, book);
-    book.finished + 1
-}
 
-// A stretch of days comes: the last stint goes on, or it is finished and another begins.
-pub(crate) fn noted(list: &mut [u32], book: Book, stretch: Stint) -> Book
-    requires writable { Writable book }
-    requires length_bound { book.current.length.0 + stretch.length.0 < 2 ^ 32 }
-    ensures exact { result ≡ noted_book book stretch }
-    ensures stored { list.new ≡ noted_list book stretch list.old }
-{
-    let current = book.current;
-    let before = current.used;
-    let used = stretch.used;
-    if same_use(before, used) {
-        let finished = book.finished;
-        let first = current.first;
-        let length = Length(current.length.0 + stretch.length.0);
-        return Book {
-            finished,
-            current: Stint {
-                first,
-                length,
-                used: before,
-            },
-        };
-    }
-    let finished = close(list, book);
-    Book {
-        finished,
-        current: stretch,
+    // A stretch of days comes: the last stint goes on, or it is finished and another begins.
+    #[tactic(auto, unfolding(crate::specs::inner::Book::noted_book, crate::specs::inner::Book::noted_list))]
+    pub(crate) fn noted(self, list: &mut [u32], stretch: Stint) -> Book
+        requires writable { Writable self }
+        requires length_bound { self.current.length.0 + stretch.length.0 < 2 ^ 32 }
+        ensures exact { result ≡ noted_book self stretch }
+        ensures stored { list.new ≡ noted_list self stretch list.old }
+    {
+        if same_use(self.current.used, stretch.used) {
+            let length = Length(self.current.length.0 + stretch.length.0);
+            return Book {
+                current: Stint {
+                    length,
+                    ..self.current
+                },
+                ..self
+            };
+        }
+        Book {
+            finished: self.close(list),
+            current: stretch,
+        }
     }
 }

@@ -1,34 +1,13 @@
-// Slots with one job made another. Of the ten slots of an array the first n count.
-ghost use Rattle.std.specs.Prelude.{◌≡◌, ◌+◌, ◌≤◌, ◌<◌, ◌^◌};
+// Step 3: a job pays for taking the bank.
+ghost use Rattle.std.specs.Prelude.{◌≡◌, ◌+◌, ◌≤◌, ◌<◌, ◌^◌, length};
 ghost use Rattle.rules.specs.Demand.{moving_cost};
-ghost use Rattle.rules.specs.Run.{slot_at, with_job, charged, charge};
+ghost use Rattle.rules.specs.Run.{slot_at, charged, charge};
 ghost use Rattle.laws.proofs.JobParts.{moving_of};
 
 use days::Length;
 use rules::{Job, Plan, Slot};
 
-// The slots with the job at a place made another.
-pub(crate) fn with_job(slots: [Slot; 10], place: usize, job: Job) -> [Slot; 10]
-    requires { (1 ≤ place) × (place ≤ 10) }
-    ensures exact { result ≡ with_job slots place job }
-{
-    let s = slots[place - 1];
-    let string = s.string;
-    let release = s.release;
-    let deadline = s.deadline;
-    let serves = s.serves;
-    let mut changed = slots;
-    changed[place - 1] = Slot {
-        string,
-        job,
-        release,
-        deadline,
-        serves,
-    };
-    changed
-}
-
-// Step 3: the payer has more moving before it.
+// The payer has more moving before it.
 fn charged_job(job: Job, cost: Length) -> Job
     requires { moving_of job + cost.0 < 2 ^ 32 }
     ensures exact { result ≡ charged cost.0 job }
@@ -46,14 +25,12 @@ fn charged_job(job: Job, cost: Length) -> Job
     }
 }
 
-// Step 3: the job at a place pays for taking the bank.
-pub(crate) fn charge_at(slots: [Slot; 10], place: usize, p: Plan) -> [Slot; 10]
-    requires le_place { (1 ≤ place) × (place ≤ 10) }
-    requires place_bound { moving_of (slot_at slots place).job + moving_cost p (slot_at slots place).string < 2 ^ 32 }
-    ensures exact { result ≡ charge p slots place }
+// The job at a place pays.
+pub(crate) fn charge_at(slots: &mut [Slot], place: usize, p: Plan)
+    requires within { (1 ≤ place) × (place ≤ length slots.old) }
+    requires place_bound { moving_of (slot_at slots.old place).job + moving_cost p (slot_at slots.old place).string < 2 ^ 32 }
+    ensures exact { slots.new ≡ charge p slots.old place }
 {
     let s = slots[place - 1];
-    let job = s.job;
-    let string = s.string;
-    with_job(slots, place, charged_job(job, p.moving_cost(string)))
+    slots[place - 1].job = charged_job(s.job, p.moving_cost(s.string));
 }

@@ -5,22 +5,19 @@ ghost use Rattle.run.specs.Numbers.{use_in, stint_at};
 use days::{Day, Length};
 use rules::{Stint, Use};
 
-// What the bank did, by its numbers.
-fn use_in(kind: u32, place: u32, release: u32) -> Use
-    ensures exact { result ≡ use_in kind place release }
+// What the bank did, by the numbers of the list (the C interface): 1 work, 2 moving.
+fn use_in(kind: u32, place: usize, serves: usize) -> Use
+    ensures exact { result ≡ use_in kind place serves }
 {
-    let serves = release as usize;
-    let place = place as usize;
-    if kind == 1 {
-        return Use::Work { place, serves };
+    match kind {
+        1 => Use::Work { place, serves },
+        2 => Use::Move { place, serves },
+        _ => Use::Idle,
     }
-    if kind == 2 {
-        return Use::Move { place, serves };
-    }
-    Use::Idle
 }
 
 // The stint with index k, from 0, of a list with five numbers for each; one of no days where the list does not reach it.
+#[tactic(auto, unfolding(crate::specs::Numbers::stint_at))]
 pub fn stint_at(numbers: &[u32], k: usize) -> Stint
     ensures exact { result ≡ stint_at numbers.now k }
     ensures kept { numbers.exit.now ≡ numbers.entry.now }
@@ -33,12 +30,13 @@ pub fn stint_at(numbers: &[u32], k: usize) -> Stint
         };
     }
     let at = 5 * k;
-    let first = numbers[at];
-    let length = numbers[at + 1];
-    let used = use_in(numbers[at + 2], numbers[at + 3], numbers[at + 4]);
     Stint {
-        first: Day(first),
-        length: Length(length),
-        used,
+        first: Day(numbers[at]),
+        length: Length(numbers[at + 1]),
+        used: use_in(
+            numbers[at + 2],
+            numbers[at + 3] as usize,
+            numbers[at + 4] as usize,
+        ),
     }
 }

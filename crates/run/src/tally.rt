@@ -12,46 +12,34 @@ pub(crate) struct Tally {
     pub(crate) idle: Length,
 }
 
-// The tally with a stretch of days more, all used alike.
-pub(crate) fn counted(tally: Tally, used: Use, length: Length) -> Tally
-    requires under { Under 1000000 tally }
-    requires length_bound { length.0 ≤ 1000000 }
-    ensures exact { result ≡ added_to tally used length.0 }
-{
-    let work = tally.work;
-    let moving = tally.moving;
-    let idle = tally.idle;
-    match used {
-        Use::Idle => Tally {
-            work,
-            moving,
-            idle: Length(idle.0 + length.0),
-        },
-        Use::Work {
-            place: _,
-            serves: _,
-        } => Tally {
-            work: Length(work.0 + length.0),
-            moving,
-            idle,
-        },
-        Use::Move {
-            place: _,
-            serves: _,
-        } => Tally {
-            work,
-            moving: Length(moving.0 + length.0),
-            idle,
-        },
+impl Tally {
+    // The tally with a stretch of days more, all used alike.
+    pub(crate) fn with(self, used: Use, length: Length) -> Tally
+        requires under { Under 1000000 self }
+        requires length_bound { length.0 ≤ 1000000 }
+        ensures exact { result ≡ added_to self used length.0 }
+    {
+        match used {
+            Use::Idle => Tally {
+                idle: Length(self.idle.0 + length.0),
+                ..self
+            },
+            Use::Work { .. } => Tally {
+                work: Length(self.work.0 + length.0),
+                ..self
+            },
+            Use::Move { .. } => Tally {
+                moving: Length(self.moving.0 + length.0),
+                ..self
+            },
+        }
     }
-}
 
-// What a clean run reports.
-pub(crate) fn clean(tally: Tally) -> Outcome
-    ensures exact { result ≡ Outcome.Clean tally.work tally.moving tally.idle }
-{
-    let work = tally.work;
-    let moving = tally.moving;
-    let idle = tally.idle;
-    Outcome::Clean { work, moving, idle }
+    // What a clean run reports.
+    pub(crate) fn clean(self) -> Outcome
+        ensures exact { result ≡ Outcome.Clean self.work self.moving self.idle }
+    {
+        let Tally { work, moving, idle } = self;
+        Outcome::Clean { work, moving, idle }
+    }
 }

@@ -5,13 +5,13 @@ ghost use Rattle.rules.specs.Release.{releases_of};
 ghost use Rattle.laws.proofs.Releases.{LawfulRun};
 ghost use Rattle.run.specs.inner.Walk.{Ends, Tells};
 
-use super::book::{Book, close, noted};
+use super::book::Book;
 use super::day::{morning, use_days};
-use super::release::{day_after, join};
-use super::tally::{Tally, clean, counted};
+use super::release::{day_after, join_today, next_release};
+use super::tally::Tally;
 use days::{Day, Length};
 use rules::{Outcome, Plan, Releases, Stint, Use};
-use slots::{Question, chosen_place, empty_slots};
+use slots::{empty_slots, late_place};
 
 // How the run ended, and how many stints it had.
 #[derive(Clone, Copy)]
@@ -21,18 +21,16 @@ pub(crate) struct Walked {
 }
 
 // The run under a lawful plan and lawful releases, its stints written into the lent list as far as it has room. `next` is the index of the
-// first release that has not joined; the list is sorted by day, so no other can join before it.
-pub(crate) fn walk(p: Plan, rs: Releases, list: &mut [u32]) -> Walked
-    requires { LawfulRun p rs }
-    ensures exact { Ends p (releases_of rs) result }
-    ensures told { Tells p (releases_of rs) list.old list.new }
+// first release that has not joined.
+pub(crate) fn walk(p: Plan, rs: &Releases, list: &mut [u32]) -> Walked
+    requires { LawfulRun p rs.now }
+    ensures exact { Ends p (releases_of rs.now) result }
+    ensures told { Tells p (releases_of rs.now) list.old list.new }
 {
-    let n = p.n;
     let end = day_after(Day(0), p.run);
-    let strings = p.strings;
-    let count = rs.count;
-    let releases = rs.list;
-    let mut slots = empty_slots(strings);
+    let releases = &rs.list[..rs.count];
+    let mut row = empty_slots(p.strings);
+    let slots = &mut row[..p.n];
     let mut tally = Tally {
         work: Length(0),
         moving: Length(0),
@@ -49,53 +47,25 @@ pub(crate) fn walk(p: Plan, rs: Releases, list: &mut [u32]) -> Walked
     let mut next: usize = 0;
     let mut today = Day(0);
     loop {
-        let late = chosen_place(Question::Late { day: today }, slots, n);
-        if late != 0 {
+        if let Some(place) = late_place(slots, today) {
             return Walked {
-                outcome: Outcome::Miss {
-                    day: today,
-                    place: late,
-                },
-                stints: close(list, book),
+                outcome: Outcome::Miss { day: today, place },
+                stints: book.close(list),
             };
         }
-        if !today.before(end) {
+        if end <= today {
             return Walked {
-                outcome: clean(tally),
-                stints: close(list, book),
+                outcome: tally.clean(),
+                stints: book.close(list),
             };
         }
-        let first = next;
-        while next < count {
-            let r = releases[next];
-            if r.day.0 != today.0 {
-                break;
-            }
-            let joined = join(slots, p, r, next + 1);
-            slots = joined;
-            next += 1;
-        }
-        let mut until = end;
-        if next < count {
-            let r = releases[next];
-            until = r.day;
-        }
-        let settled = morning(slots, p, today, first < next);
-        let evening = use_days(settled, n, today, until);
-        let after = evening.slots;
-        let used = evening.used;
-        let length = evening.length;
-        slots = after;
-        tally = counted(tally, used, length);
-        book = noted(
-            list,
-            book,
-            Stint {
-                first: today,
-                length,
-                used,
-            },
-        );
-        today = day_after(today, length);
+        let coming = join_today(slots, p, releases, next, today);
+        let until = next_release(releases, coming, end);
+        morning(slots, p, today, next < coming);
+        next = coming;
+        let stretch = use_days(slots, today, until);
+        tally = tally.with(stretch.used, stretch.length);
+        book = book.noted(list, stretch);
+        today = day_after(today, stretch.length);
     }
 }

@@ -3,9 +3,16 @@
 --     misses                stands only where a list of releases that is lawful for the plan with the set misses a deadline
 --     never misses          stands only where none does, whatever N
 use Rattle.base.proofs.Prelude.{ℕ, ◌≡◌, refl, ap, ◌∙◌, ◌⊎◌, inl, inr, ◌↔◌, true, arith, eqb, eq-eqb, eqb-true}
+use Rattle.std.specs.Prelude.{Result, Ok, Err, Some, None}
+use Rattle.faults.specs.declared.Refusal.{Refusal}
+use Rattle.rules.specs.Found.{Assign}
 use Rattle.base.proofs.Lists.{by_bool}
 use Rattle.days.specs.declared.Length.{Length}
-use Rattle.rules.specs.{declared.Plan.Plan, declared.Releases.Releases, declared.Assign.Assign, declared.Assign.TheVariants.{Takers, Nobody}, declared.Verdict.Verdict, Verdict.is_pass, Search.{with_set, set_passes, search_of}}
+use Rattle.rules.specs.declared.Plan.{Plan}
+use Rattle.rules.specs.declared.Releases.{Releases}
+use Rattle.rules.specs.declared.Verdict.{Verdict}
+use Rattle.rules.specs.Verdict.{is_pass}
+use Rattle.rules.specs.Search.{with_set, set_passes, search_of}
 use Rattle.laws.proofs.Lawful.{LawfulPlan}
 use Rattle.demand.specs.Quick.{quick_of}
 use Rattle.demand.proofs.{Agreeing.quick-passes, Sets.with_set-lawful, Search.search-passes}
@@ -18,73 +25,67 @@ use Rattle.lines.specs.declared.sets.SetNote.TheVariants.{Nothing, FewestTakers,
 use Rattle.lines.specs.declared.sets.SetNote.TheVariants as note
 use Rattle.sets.specs.Sets.{found_note, miss_note, note_of}
 
--- the notes, told apart by a number
-abbrev kind_of : SetNote → ℕ
-kind_of Nothing = 0
-kind_of FewestTakers = 1
-kind_of Misses = 2
-kind_of note.NeverMisses = 3
-
-found-fewest : (a : Assign) (m : ℕ) → found_note a m ≡ FewestTakers → a ≡ Takers m
+found-fewest : (a : Assign) (m : ℕ) → found_note a m ≡ FewestTakers → a ≡ Some m
 unfolding found_note
-found-fewest Nobody m is = absurd (omega (arith, ap kind_of is))
-found-fewest (Takers best) m is =
+found-fewest None m is = absurd (cc is)
+found-fewest (Some best) m is =
     by_bool (eqb best m)
-    (λ t. ap Takers (eqb-true best m t))
-    (λ f. absurd (omega (arith, ap kind_of (rw f at is))))
+    (λ t. ap Some (eqb-true best m t))
+    (λ f. absurd (cc (rw f at is)))
 
 found-never : (a : Assign) (m : ℕ) → found_note a m ≡ Misses → ⊥
 unfolding found_note
-found-never Nobody m is = omega (arith, ap kind_of is)
-found-never (Takers best) m is =
-    by_bool (eqb best m) (λ t. omega (arith, ap kind_of (rw t at is))) (λ f. omega (arith, ap kind_of (rw f at is)))
+found-never None m is = cc is
+found-never (Some best) m is =
+    by_bool (eqb best m) (λ t. cc (rw t at is)) (λ f. cc (rw f at is))
 
-miss-fewest : (k : Missing) → miss_note k ≡ FewestTakers → ⊥
+miss-fewest : (k : Result Missing Refusal) → miss_note k ≡ FewestTakers → ⊥
 unfolding miss_note
-miss-fewest (missing.Refused f at) is = omega (arith, ap kind_of is)
-miss-fewest missing.Passes is = omega (arith, ap kind_of is)
-miss-fewest missing.Never is = omega (arith, ap kind_of is)
-miss-fewest missing.NoneFound is = omega (arith, ap kind_of is)
-miss-fewest missing.TooMany is = omega (arith, ap kind_of is)
-miss-fewest (missing.Found n) is = omega (arith, ap kind_of is)
+miss-fewest (Err e) is = cc is
+miss-fewest (Ok missing.Passes) is = cc is
+miss-fewest (Ok missing.Never) is = cc is
+miss-fewest (Ok missing.NoneFound) is = cc is
+miss-fewest (Ok missing.TooMany) is = cc is
+miss-fewest (Ok (missing.Found n rs)) is = cc is
 
-miss-said : (k : Missing) → miss_note k ≡ Misses → ((n : Length) × (k ≡ missing.Found n)) ⊎ (k ≡ missing.TooMany)
+miss-said : (k : Result Missing Refusal) → miss_note k ≡ Misses
+    → ((n : Length) × (rs : Releases) × (k ≡ Ok (missing.Found n rs))) ⊎ (k ≡ Ok missing.TooMany)
 unfolding miss_note
-miss-said (missing.Refused f at) is = absurd (omega (arith, ap kind_of is))
-miss-said missing.Passes is = absurd (omega (arith, ap kind_of is))
-miss-said missing.Never is = absurd (omega (arith, ap kind_of is))
-miss-said missing.NoneFound is = absurd (omega (arith, ap kind_of is))
-miss-said missing.TooMany is = inr refl
-miss-said (missing.Found n) is = inl (n, refl)
+miss-said (Err e) is = absurd (cc is)
+miss-said (Ok missing.Passes) is = absurd (cc is)
+miss-said (Ok missing.Never) is = absurd (cc is)
+miss-said (Ok missing.NoneFound) is = absurd (cc is)
+miss-said (Ok missing.TooMany) is = inr refl
+miss-said (Ok (missing.Found n rs)) is = inl (n, rs, refl)
 
 found-silent : (a : Assign) (m : ℕ) → found_note a m ≡ note.NeverMisses → ⊥
 unfolding found_note
-found-silent Nobody m is = omega (arith, ap kind_of is)
-found-silent (Takers best) m is =
-    by_bool (eqb best m) (λ t. omega (arith, ap kind_of (rw t at is))) (λ f. omega (arith, ap kind_of (rw f at is)))
+found-silent None m is = cc is
+found-silent (Some best) m is =
+    by_bool (eqb best m) (λ t. cc (rw t at is)) (λ f. cc (rw f at is))
 
-never-said : (k : Missing) → miss_note k ≡ note.NeverMisses → k ≡ missing.Never
+never-said : (k : Result Missing Refusal) → miss_note k ≡ note.NeverMisses → k ≡ Ok missing.Never
 unfolding miss_note
-never-said (missing.Refused f at) is = absurd (omega (arith, ap kind_of is))
-never-said missing.Passes is = absurd (omega (arith, ap kind_of is))
-never-said missing.Never is = refl
-never-said missing.NoneFound is = absurd (omega (arith, ap kind_of is))
-never-said missing.TooMany is = absurd (omega (arith, ap kind_of is))
-never-said (missing.Found n) is = absurd (omega (arith, ap kind_of is))
+never-said (Err e) is = absurd (cc is)
+never-said (Ok missing.Passes) is = absurd (cc is)
+never-said (Ok missing.Never) is = refl
+never-said (Ok missing.NoneFound) is = absurd (cc is)
+never-said (Ok missing.TooMany) is = absurd (cc is)
+never-said (Ok (missing.Found n rs)) is = absurd (cc is)
 
 module _ (p : Plan) (lawful : LawfulPlan p) (m : ℕ) where
   -- `fewest takers` stands at the set that the search finds, and at no other
-  pub fewest-exactly : (note_of p (search_of p) m (quick_of (with_set p m)) ≡ FewestTakers) ↔ (search_of p ≡ Takers m)
+  pub fewest-exactly : (note_of p (search_of p) m (quick_of (with_set p m)) ≡ FewestTakers) ↔ (search_of p ≡ Some m)
   unfolding note_of found_note
   fewest-exactly = (only, there)
     where
-      only : note_of p (search_of p) m (quick_of (with_set p m)) ≡ FewestTakers → search_of p ≡ Takers m
+      only : note_of p (search_of p) m (quick_of (with_set p m)) ≡ FewestTakers → search_of p ≡ Some m
       only is =
           by_bool (is_pass (quick_of (with_set p m)))
           (λ t. found-fewest (search_of p) m (rw t at is))
-          (λ f. absurd (miss-fewest (missing_answer (with_set p m)).missing (rw f at is)))
+          (λ f. absurd (miss-fewest (missing_answer (with_set p m)) (rw f at is)))
 
-      there : search_of p ≡ Takers m → note_of p (search_of p) m (quick_of (with_set p m)) ≡ FewestTakers
+      there : search_of p ≡ Some m → note_of p (search_of p) m (quick_of (with_set p m)) ≡ FewestTakers
       there found =
           let passes : is_pass (quick_of (with_set p m)) ≡ true =
           quick-passes (with_set p m) (with_set-lawful p m lawful).each ∙ unfold set_passes in (search-passes p m found).0 in
@@ -97,12 +98,12 @@ module _ (p : Plan) (lawful : LawfulPlan p) (m : ℕ) where
   noted-misses a v is =
       by_bool (is_pass v)
       (λ t. absurd (found-never a m (rw t at is)))
-      (λ f. by_said (miss-said (missing_answer (with_set p m)).missing (rw f at is)))
+      (λ f. by_said (miss-said (missing_answer (with_set p m)) (rw f at is)))
     where
-      by_said : ((n : Length) × ((missing_answer (with_set p m)).missing ≡ missing.Found n))
-          ⊎ ((missing_answer (with_set p m)).missing ≡ missing.TooMany)
+      by_said : ((n : Length) × (rs : Releases) × (missing_answer (with_set p m) ≡ Ok (missing.Found n rs)))
+          ⊎ (missing_answer (with_set p m) ≡ Ok missing.TooMany)
           → ((n : Length) × (rs : Releases) × Shows (with_set p m) n.0 rs) ⊎ MissesOverMany (with_set p m)
-      by_said (inl found) = inl (found.0, (missing_answer (with_set p m)).releases, (answer-found (with_set p m) found.0 found.1).1)
+      by_said (inl found) = inl (found.0, found.1, (answer-found (with_set p m) found.0 found.1 found.2).1)
       by_said (inr many) = inr (answer-many (with_set p m) many)
 
   -- where it says `never misses`, no list does
@@ -111,4 +112,4 @@ module _ (p : Plan) (lawful : LawfulPlan p) (m : ℕ) where
   noted-never a v is =
       by_bool (is_pass v)
       (λ t. absurd (found-silent a m (rw t at is)))
-      (λ f. answer-never (with_set p m) (never-said (missing_answer (with_set p m)).missing (rw f at is)))
+      (λ f. answer-never (with_set p m) (never-said (missing_answer (with_set p m)) (rw f at is)))

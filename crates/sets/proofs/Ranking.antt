@@ -1,6 +1,6 @@
 -- The search's order by number: how many sets there are, and which is the k-th, as a walk over all numbers meets them.
 --     sets_left n k m        the sets with k ones from the number m on, and then those with more, in the search's order
-use Rattle.base.proofs.Prelude.{ℕ, zero, suc, ◌+◌, ◌-◌, ◌^◌, ◌≤◌, ◌<◌, ◌≡◌, refl, ap, ◌∙◌, Bool, cond, List, [], ◌∷◌, ◌++◌, arith, add-one, eq-eqb, ne_eqb, eqb-true, eqb-false, fun_ext, ones, eqb, length, length-append, get_or}
+use Rattle.base.proofs.Prelude.{ℕ, zero, suc, ◌+◌, ◌-◌, ◌^◌, ◌≤◌, ◌<◌, ◌≡◌, refl, sym, ap, ◌∙◌, Bool, cond, List, [], ◌∷◌, ◌++◌, arith, add-one, eq-eqb, ne_eqb, eqb-true, eqb-false, fun_ext, ones, eqb, length, length-append, get_or}
 use mathlib.Core.List.{flat_map}
 use lib.Count.{ones-le}
 use Rattle.base.specs.Count.{up_from, keep, count_of, sum_of, All}
@@ -115,24 +115,35 @@ module _ (n k m : ℕ) (below : m < 2 ^ n) where
       let more : 2 ^ n - m ≡ suc (2 ^ n - suc m) = omega arith in
       rw (more, add-one m, ne_eqb (ones m) k is)
 
-  -- the number is the set that is looked for
-  pub number-found : (i : ℕ) → i < cond (eqb (ones m) k) 1 0 → get_or (sets_left n k m) i 0 ≡ m
-  number-found i h =
-      by_bool (eqb (ones m) k)
-      (λ t.
-      let first : i ≡ 0 = omega (arith, rw t at h) in
-      ap (λ ms. get_or ms i 0) (number_in (eqb-true (ones m) k t)) ∙ ap (λ j. get_or (m ∷ sets_left n k (m + 1)) j 0) first)
-      (λ f. absurd (omega (arith, rw f at h)))
+-- so many sets are to go, from the number m on, until the one that is looked for
+pub record SetsAhead (n wanted k m left : ℕ) : Type 0 where
+  pub there : get_or (sets_left n k m) left 0 ≡ wanted
 
-  -- it is not: past it, one less is to go where it counts
-  pub number_passed : (i : ℕ) → cond (eqb (ones m) k) 1 0 ≤ i
-      → get_or (sets_left n k m) i 0 ≡ get_or (sets_left n k (m + 1)) (i - cond (eqb (ones m) k) 1 0) 0
-  number_passed i h =
-      by_bool (eqb (ones m) k)
-      (λ t.
-      let some : 1 ≤ i = rw t at h in
-      let next : i ≡ suc (i - 1) = omega arith in
-      rw t (ap (λ ms. get_or ms i 0) (number_in (eqb-true (ones m) k t)) ∙ ap (λ j. get_or (m ∷ sets_left n k (m + 1)) j 0) next))
-      (λ f.
-      let all : i - 0 ≡ i = omega arith in
-      rw (f, all) (ap (λ ms. get_or ms i 0) (number-out (eqb-false (ones m) k f))))
+pub ahead_start : (n left : ℕ) → SetsAhead n (get_or (ordered n) left 0) 0 0 left
+ahead_start n left = record { there = ap (λ ms. get_or ms left 0) (sym (from_first n)) }
+
+module _ {n wanted k m left : ℕ} (a : SetsAhead n wanted k m left) where
+  -- the number is a set of another row
+  pub ahead-out : m < 2 ^ n → (ones m ≡ k → ⊥) → SetsAhead n wanted k (m + 1) left
+  ahead-out below out = record { there = ap (λ ms. get_or ms left 0) (sym (number-out n k m below out)) ∙ a.there }
+
+  -- it is the one that is looked for
+  pub ahead-found : m < 2 ^ n → ones m ≡ k → left ≡ 0 → m ≡ wanted
+  ahead-found below is first =
+      sym (ap (λ ms. get_or ms left 0) (number_in n k m below is) ∙ ap (λ i. get_or (m ∷ sets_left n k (m + 1)) i 0) first) ∙ a.there
+
+  -- it is one of those before
+  pub ahead-in : m < 2 ^ n → ones m ≡ k → (left ≡ 0 → ⊥) → SetsAhead n wanted k (m + 1) (left - 1)
+  ahead-in below is more =
+      let next : left ≡ suc (left - 1) = omega arith in
+      record {
+        there = sym (ap (λ ms. get_or ms left 0) (number_in n k m below is) ∙ ap (λ i. get_or (m ∷ sets_left n k (m + 1)) i 0) next)
+            ∙ a.there;
+      }
+
+  -- the row is over, or the last one is
+  pub ahead-row : 2 ^ n ≤ m → k < n → SetsAhead n wanted (k + 1) 0 left
+  ahead-row past more = record { there = ap (λ ms. get_or ms left 0) (sym (row-over n k m past more)) ∙ a.there }
+
+  pub sets-ahead-end : 2 ^ n ≤ m → n ≤ k → 0 ≡ wanted
+  sets-ahead-end past last = ap (λ ms. get_or ms left 0) (sym (row_done n k m past last)) ∙ a.there

@@ -1,8 +1,8 @@
 -- The lines that are asked for one by one, put together, are the whole text.
 use Rattle.base.proofs.Prelude.{ℕ, ◌^◌, ◌≡◌, ap, ◌∙◌, List, arith}
+use Rattle.faults.specs.Checks.{Lawful}
 use mathlib.Core.List.{flat_map}
 use Rattle.base.specs.Count.{up_from}
-use Rattle.faults.specs.declared.Checked.TheVariants.{Lawful}
 use Rattle.rules.specs.{declared.Plan.Plan, Search.{ordered, search_of}, Refusal.plan_check}
 use Rattle.showing.specs.Shown.{in_place, on_text}
 use Rattle.showing.proofs.Whole.{all-places}

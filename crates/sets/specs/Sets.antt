@@ -9,12 +9,11 @@
 --     set_shown p a k        the line of the k-th set, from 1; nothing where there is none
 --     sets_text p            the whole text: every set of p, once, in the search's order, with what the search finds
 use Rattle.std.specs.Prelude.{ℕ, cond, List, eqb}
+use Rattle.faults.specs.declared.Refusal.{Refusal}
+use Rattle.std.specs.Prelude.{Ok, Err, Result, Some, None}
+use Rattle.rules.specs.Found.{Assign}
 use Rattle.rules.specs.declared.Plan.{Plan}
 use Rattle.rules.specs.declared.Verdict.{Verdict}
-use Rattle.rules.specs.declared.AskedVerdict.{AskedVerdict}
-use Rattle.rules.specs.declared.AskedVerdict.TheVariants as asked
-use Rattle.rules.specs.declared.Assign.{Assign}
-use Rattle.rules.specs.declared.Assign.TheVariants.{Takers, Nobody}
 use Rattle.rules.specs.Verdict.{is_pass}
 use Rattle.rules.specs.Search.{with_set, ordered, search_of}
 use Rattle.rules.specs.Refusal.{plan_check}
@@ -29,25 +28,25 @@ use Rattle.lines.specs.Sets.{set_line}
 use Rattle.showing.specs.Shown.{in_place, in_order, on_text}
 
 unfoldable pub found_note : Assign → ℕ → SetNote
-found_note (Takers best) m = cond (eqb best m) FewestTakers Nothing
-found_note Nobody m = Nothing
+found_note (Some best) m = cond (eqb best m) FewestTakers Nothing
+found_note None m = Nothing
 
-unfoldable pub miss_note : Missing → SetNote
-miss_note (missing.Refused f at) = Nothing
-miss_note missing.Passes = Nothing
-miss_note missing.Never = NeverMisses
-miss_note missing.NoneFound = Nothing
-miss_note missing.TooMany = Misses
-miss_note (missing.Found n) = Misses
+unfoldable pub miss_note : Result Missing Refusal → SetNote
+miss_note (Err e) = Nothing
+miss_note (Ok missing.Passes) = Nothing
+miss_note (Ok missing.Never) = NeverMisses
+miss_note (Ok missing.NoneFound) = Nothing
+miss_note (Ok missing.TooMany) = Misses
+miss_note (Ok (missing.Found n rs)) = Misses
 
 unfoldable pub note_of : Plan → Assign → ℕ → Verdict → SetNote
 note_of p a m v =
-    let beyond = miss_note (missing_answer (with_set p m)).missing in
+    let beyond = miss_note (missing_answer (with_set p m)) in
     cond (is_pass v) (found_note a m) beyond
 
-unfoldable pub asked_words : Plan → Assign → ℕ → AskedVerdict → List ℕ
-asked_words p a m (asked.Refused f at) = refused_line f at
-asked_words p a m (asked.Given v) = set_line m v (note_of p a m v)
+unfoldable pub asked_words : Plan → Assign → ℕ → Result Verdict Refusal → List ℕ
+asked_words p a m (Err e) = refused_line e.fault e.at
+asked_words p a m (Ok v) = set_line m v (note_of p a m v)
 
 unfoldable pub set_words : Plan → Assign → ℕ → List ℕ
 set_words p a m = asked_words p a m (quick_set_answer p m)

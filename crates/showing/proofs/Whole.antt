@@ -1,8 +1,8 @@
 -- The lines that are asked for one by one, put together, are the whole text.
 use Rattle.base.proofs.Prelude.{ℕ, zero, suc, ◌+◌, ◌-◌, ◌≤◌, ◌≡◌, sym, ap, ◌∙◌, List, ◌++◌, arith, dec_le, length, drop, length-take, drop_of_length-le, drop-cons}
+use Rattle.faults.specs.Checks.{Lawful}
 use mathlib.Core.List.{flat_map}
 use Rattle.base.specs.Count.{up_from}
-use Rattle.faults.specs.declared.Checked.TheVariants.{Lawful}
 use Rattle.rules.specs.{declared.Plan.Plan, declared.Releases.Releases, Plan.{strings_of, no_string}, Release.{releases_of, no_release}, Refusal.plan_check}
 use Rattle.lines.specs.Shown.{release_line}
 use Rattle.showing.specs.Shown.{in_place, in_order, on_text, string_words, plan_shown, string_shown, load_shown, release_shown, shown_text}

@@ -9,8 +9,8 @@
 --     release_shown rs k     the line of the k-th release
 --     shown_text p rs        the whole text: the plan, its strings by place, H and the load, the releases in their order
 use Rattle.std.specs.Prelude.{ℕ, suc, ◌-◌, cond, List, [], ◌∷◌, ◌++◌, length, get_or}
-use Rattle.faults.specs.declared.Checked.{Checked}
-use Rattle.faults.specs.declared.Checked.TheVariants.{Lawful, Refused}
+use Rattle.faults.specs.Checks.{Checked}
+use Rattle.std.specs.Prelude.{Ok, Err}
 use Rattle.faults.specs.Checks.{in_bounds}
 use Rattle.rules.specs.declared.BatteryString.{BatteryString}
 use Rattle.rules.specs.declared.Plan.{Plan}
@@ -35,8 +35,8 @@ module _ {A : Type 0} (line : ℕ → A → List ℕ) where
 -- ---- Lines of a plan
 
 abbrev pub on_text : Checked → List ℕ → List ℕ
-on_text Lawful text = text
-on_text (Refused f at) text = refused_line f at
+on_text (Ok _) text = text
+on_text (Err e) text = refused_line e.fault e.at
 
 abbrev pub string_words : Plan → ℕ → BatteryString → List ℕ
 string_words p i s = string_line i s (hold_of p s)

@@ -1,8 +1,15 @@
 -- Easing never hurts (document 02, W-212) of one number: with which values a plan is lawful and passes.
 use Rattle.base.proofs.Prelude.{ℕ, zero, suc, ◌-◌, ◌≤◌, ◌<◌, ◌≡◌, refl, sym, ap, ◌∙◌, true, List, [], ◌∷◌, arith, le_refl, eqb-true, length, get_or, take, set, length-set, length-take-le, get_or-take, get_or-set_same}
+use Rattle.faults.specs.Checks.{Lawful, Checked}
+use Rattle.faults.specs.declared.Refusal.{Refusal}
+use Rattle.std.specs.Prelude.{Ok, Err, Result}
 use Rattle.base.proofs.Lists.{true-not-false, all-at}
-use Rattle.faults.specs.{declared.Checked.Checked, declared.Checked.TheVariants.{Lawful, Refused}}
-use Rattle.rules.specs.{declared.BatteryString.BatteryString, declared.Plan.Plan, declared.Verdict.Verdict, declared.AskedVerdict.AskedVerdict, Plan.{strings_of, no_string}, Verdict.{verdict_of, is_pass}, Refusal.{plan_check, on_verdict, verdict_answer}}
+use Rattle.rules.specs.declared.BatteryString.{BatteryString}
+use Rattle.rules.specs.declared.Plan.{Plan}
+use Rattle.rules.specs.declared.Verdict.{Verdict}
+use Rattle.rules.specs.Plan.{strings_of, no_string}
+use Rattle.rules.specs.Verdict.{verdict_of, is_pass}
+use Rattle.rules.specs.Refusal.{plan_check, on_verdict, verdict_answer}
 use Rattle.laws.proofs.{Lawful.{LawfulString, plan_check-lawful}}
 use Rattle.demand.specs.Quick.{apart_from_pairs, asked_apart, quick_answer}
 use Rattle.demand.proofs.{Verdict.pass-exactly, Agreeing.quick-answer-agrees}
@@ -11,13 +18,12 @@ use Rattle.results.proofs.{Changes.one-eased, NeverHurts.eased-passes}
 use Rattle.slack.specs.{declared.Letter.Letter, Slack.{string_with, plan_with, says_pass, passes_with}, Beyond.{Harder, gapless, LawfulWith, RuleWith}, inner.Values.{finds_nothing, lawful_with}}
 use Rattle.slack.specs.declared.Letter.TheVariants as letter
 use Rattle.rules.specs.declared.Verdict.TheVariants as verdict-is
-use Rattle.rules.specs.declared.AskedVerdict.TheVariants as asked-verdict
 
 -- ---- What it is to pass with a value
 
 says_both : (c : Checked) (v : Verdict) → says_pass (on_verdict c v) ≡ true → (c ≡ Lawful) × (is_pass v ≡ true)
-says_both Lawful v h = (refl, h)
-says_both (Refused f at) v h = absurd (true-not-false (sym h))
+says_both (Ok _) v h = (refl, h)
+says_both (Err e) v h = absurd (true-not-false (sym h))
 
 module _ (p : Plan) (i : ℕ) (x : Letter) (v : ℕ) where
   pub lawful-with : lawful_with p i x v ≡ true → LawfulWith p i x v
@@ -25,8 +31,8 @@ module _ (p : Plan) (i : ℕ) (x : Letter) (v : ℕ) where
   lawful-with h = finds (plan_check (plan_with p i x v)) h
     where
       finds : (c : Checked) → finds_nothing c ≡ true → c ≡ Lawful
-      finds Lawful t = refl
-      finds (Refused f at) t = absurd (true-not-false (sym t))
+      finds (Ok _) t = refl
+      finds (Err e) t = absurd (true-not-false (sym t))
 
   pub with-lawful : LawfulWith p i x v → lawful_with p i x v ≡ true
   unfolding lawful_with
@@ -43,14 +49,15 @@ module _ (p : Plan) (i : ℕ) (x : Letter) (v : ℕ) where
   rule-passes lawful rule = rw lawful ((pass-exactly (plan_with p i x v) (plan_check-lawful (plan_with p i x v) lawful)).1 rule)
 
 -- a quick verdict says so too
-says-apart : (a : AskedVerdict) → says_pass (asked_apart a) ≡ says_pass a
+says-apart : (a : Result Verdict Refusal) → says_pass (asked_apart a) ≡ says_pass a
 unfolding apart_from_pairs is_pass
-says-apart (asked-verdict.Refused f at) = refl
-says-apart (asked-verdict.Given verdict-is.Overload) = refl
-says-apart (asked-verdict.Given (verdict-is.Fail l b d k)) = refl
-says-apart (asked-verdict.Given (verdict-is.Pass k)) = refl
+says-apart (Err e) = refl
+says-apart (Ok verdict-is.Overload) = refl
+says-apart (Ok (verdict-is.Fail l b d k)) = refl
+says-apart (Ok (verdict-is.Pass k)) = refl
 
-pub quick-says : (p : Plan) (i : ℕ) (x : Letter) (v : ℕ) (q : Plan) (a : AskedVerdict) → q ≡ plan_with p i x v → a ≡ quick_answer q
+pub quick-says : (p : Plan) (i : ℕ) (x : Letter) (v : ℕ) (q : Plan) (a : Result Verdict Refusal) → q ≡ plan_with p i x v → a
+    ≡ quick_answer q
     → says_pass a ≡ passes_with p i x v
 unfolding passes_with
 quick-says p i x v q a changed asked =

@@ -1,8 +1,8 @@
 -- The line of a string by its place: which stands there, and where none does. All of them, put together.
-use Rattle.base.proofs.Prelude.{ℕ, ◌-◌, ◌≤◌, ◌≡◌, sym, ap, ◌∙◌, [], ◌++◌, arith, length, get_or, length-take, length-take-le, get_or-take}
+use Rattle.base.proofs.Prelude.{ℕ, ◌-◌, ◌≤◌, ◌≡◌, sym, ap, ◌∙◌, [], ◌++◌, arith, length, get_or, length-take, get_or-take}
+use Rattle.faults.specs.Checks.{Lawful}
 use mathlib.Core.List.{flat_map}
 use Rattle.base.specs.Count.{up_from}
-use Rattle.faults.specs.declared.Checked.TheVariants.{Lawful}
 use Rattle.rules.specs.{declared.Plan.Plan, Plan.{strings_of, no_string}, Verdict.verdict_of, Refusal.plan_check, Lines.verdict_line}
 use Rattle.lines.specs.{declared.limits.Limits.Limits, Limits.limits_line}
 use Rattle.showing.specs.Shown.{in_place, in_order, on_text}
@@ -10,14 +10,15 @@ use Rattle.showing.proofs.{InPlace.{in_place-there, in_place-none}, Whole.all-pl
 use Rattle.slack.specs.Slack.{limits_of, limit_words, limits_shown, slack_text}
 
 module _ (p : Plan) (i : ℕ) where
-  pub words-none : (1 ≤ i → i ≤ p.n → ⊥) → in_place (limit_words p) no_string (strings_of p) i ≡ []
+  pub words-none : (1 ≤ i → i ≤ p.n → i ≤ length p.strings → ⊥) → in_place (limit_words p) no_string (strings_of p) i ≡ []
   words-none out =
-      in_place-none (limit_words p) no_string (strings_of p) i (λ low high. out low (omega (arith, length-take p.n p.strings)))
+      let many = length-take p.n p.strings in
+      in_place-none (limit_words p) no_string (strings_of p) i (λ low high. out low (omega arith) (omega arith))
 
-  pub words-there : p.n ≤ length p.strings → 1 ≤ i → i ≤ p.n → (limits : Limits) → limits ≡ limits_of p i
+  pub words-there : 1 ≤ i → i ≤ p.n → i ≤ length p.strings → (limits : Limits) → limits ≡ limits_of p i
       → limits_line i (get_or p.strings (i - 1) no_string) limits ≡ in_place (limit_words p) no_string (strings_of p) i
-  words-there room low high limits are =
-      let here = length-take-le p.n p.strings room in
+  words-there low high room limits are =
+      let many = length-take p.n p.strings in
       let string = get_or-take p.n p.strings (i - 1) no_string (omega arith) in
       ap (limits_line i (get_or p.strings (i - 1) no_string)) are
       ∙ ap (λ s. limits_line i s (limits_of p i)) (sym string)

@@ -1,14 +1,14 @@
 -- The limit is the first of the lawful values with which the plan passes: no other value passes. What the entry answers.
 use Rattle.base.proofs.Prelude.{ℕ, ◌≤◌, ◌≡◌, sym, ap, ◌∙◌}
+use Rattle.faults.specs.Checks.{Refused, Lawful}
+use Rattle.std.specs.Prelude.{Ok, None}
 use Rattle.base.specs.Count.{first_of}
 use Rattle.base.proofs.FirstOf.{first_of-passes, first_of-keep}
-use Rattle.faults.specs.{declared.Fault.Fault, declared.Checked.TheVariants.{Lawful, Refused}}
+use Rattle.faults.specs.declared.Fault.{Fault}
 use Rattle.faults.proofs.Checks.{in_bounds-yes, in_bounds-not}
 use Rattle.rules.specs.{declared.Plan.Plan, Refusal.plan_check}
-use Rattle.lines.specs.declared.limits.Limit.TheVariants.{Nothing}
 use Rattle.slack.specs.{declared.Letter.Letter, Slack.{hardest_first, passes_with, limit_from, limit_of, limit_answer}, inner.Values.{lawful_with, lawful_values}}
 use Rattle.slack.proofs.Easier.{with-lawful, passes-rule}
-use Rattle.slack.specs.declared.AskedLimit.TheVariants as asked-limit
 
 module _ (p : Plan) (i : ℕ) (x : Letter) where
   pub first-lawful : first_of (passes_with p i x) (lawful_values p i x) ≡ first_of (passes_with p i x) (hardest_first x)
@@ -24,14 +24,14 @@ module _ (p : Plan) (i : ℕ) (x : Letter) where
   pub limit-lawful : 1 ≤ i → i ≤ p.n → limit_from (first_of (passes_with p i x) (lawful_values p i x)) ≡ limit_of p i x
   limit-lawful low high = ap limit_from first-lawful ∙ sym (limit-there low high)
 
-  pub limit-out : (1 ≤ i → i ≤ p.n → ⊥) → limit_of p i x ≡ Nothing
+  pub limit-out : (1 ≤ i → i ≤ p.n → ⊥) → limit_of p i x ≡ None
   unfolding limit_of
   limit-out out = rw (in_bounds-not 1 i p.n out)
 
-  pub limit-given : plan_check p ≡ Lawful → limit_answer p i x ≡ asked-limit.Given (limit_of p i x)
+  pub limit-given : plan_check p ≡ Lawful → limit_answer p i x ≡ Ok (limit_of p i x)
   unfolding limit_answer
   limit-given h = rw h
 
-  pub limit-refused : (f : Fault) (at : ℕ) → plan_check p ≡ Refused f at → limit_answer p i x ≡ asked-limit.Refused f at
+  pub limit-refused : (f : Fault) (at : ℕ) → plan_check p ≡ Refused f at → limit_answer p i x ≡ Refused f at
   unfolding limit_answer
   limit-refused f at h = rw h

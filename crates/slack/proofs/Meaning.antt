@@ -1,10 +1,10 @@
 -- What a limit says to a planner: with it the plan passes, beyond it with no lawful value, and between it and the easy end with each, where
 -- easing never hurts.
 use Rattle.base.proofs.Prelude.{ℕ, ◌-◌, ◌≤◌, ◌<◌, ◌≡◌, refl, sym, ap, ◌∙◌, true, false, Option, none, some, ◌⊎◌, ⊎_elim, arith, length}
+use Rattle.std.specs.Prelude.{Some, None}
 use Rattle.base.specs.Count.{All, up_from, first_of}
 use Rattle.base.proofs.{Lists.{true-not-false}, FirstOf.{first_of-none, first_of-passes, first_of-least}, Order.{each-of-mapped, each-of-up_from}}
 use Rattle.rules.specs.declared.Plan.{Plan}
-use Rattle.lines.specs.declared.limits.Limit.TheVariants.{Nothing, At}
 use Rattle.slack.specs.{declared.Letter.Letter, Slack.{value_at, hardest_first, passes_with, limit_from, limit_of}, Beyond.{Harder, LawfulWith, RuleWith, IsLimit, NoLimit}}
 use Rattle.slack.proofs.{Easier.{passes-rule, rule-passes, lawful-small, easier-passes}, Limited.limit-there, Upward.hardest-rising}
 use Rattle.slack.specs.declared.Letter.TheVariants as letter
@@ -51,7 +51,7 @@ not_itself letter.T v w h same = omega arith
 not_itself letter.A v w h same = omega arith
 not_itself letter.J v w h same = omega arith
 
-found : (o : Option ℕ) (v : ℕ) → limit_from o ≡ At v → o ≡ some v
+found : (o : Option ℕ) (v : ℕ) → limit_from o ≡ Some v → o ≡ some v
 found none v h = absurd (omega (arith, apart))
   where
     apart : ◌≡◌ {A = ℕ} 0 1
@@ -60,7 +60,7 @@ found (some w) v h =
     let same : w ≡ v = cc in
     ap some same
 
-missing : (o : Option ℕ) → limit_from o ≡ Nothing → o ≡ none
+missing : (o : Option ℕ) → limit_from o ≡ None → o ≡ none
 missing none h = refl
 missing (some w) h = absurd (omega (arith, apart))
   where
@@ -68,7 +68,7 @@ missing (some w) h = absurd (omega (arith, apart))
     apart = cc
 
 module _ (p : Plan) (i : ℕ) (x : Letter) (low : 1 ≤ i) (high : i ≤ p.n) (room : p.n ≤ length p.strings) where
-  module _ (v : ℕ) (is : limit_of p i x ≡ At v) where
+  module _ (v : ℕ) (is : limit_of p i x ≡ Some v) where
     first : first_of (passes_with p i x) (hardest_first x) ≡ some v
     first = found _ v (sym (limit-there p i x low high) ∙ is)
 
@@ -92,7 +92,7 @@ module _ (p : Plan) (i : ℕ) (x : Letter) (low : 1 ≤ i) (high : i ≤ p.n) (r
           between = λ no_gaps w easier lawful. easier-passes p i x low high room no_gaps v w easier here.0 lawful here.1;
         }
 
-  pub limit-none : limit_of p i x ≡ Nothing → NoLimit p i x
+  pub limit-none : limit_of p i x ≡ None → NoLimit p i x
   limit-none is w lawful rule =
       let nowhere = missing _ (sym (limit-there p i x low high) ∙ is) in
       let fails = of-all (λ u. passes_with p i x u ≡ false) x ((first_of-none (passes_with p i x) (hardest_first x)).0 nowhere) w

@@ -1,9 +1,11 @@
 -- With which values a plan is lawful: where the changed string is within its bounds, and for T where H is too. No other number moves H.
 use Rattle.base.proofs.Prelude.{ℕ, zero, suc, ◌-◌, ◌%◌, ◌≡◌, refl, sym, ap, ◌∙◌, fun_ext, Bool, true, false, cond, List, [], ◌∷◌, arith, eqb, ltb, get_or, set, get_or-take}
+use Rattle.faults.specs.Checks.{Lawful}
 use lib.Seq.{take-set-lt}
 use Rattle.base.specs.Count.{every, least_from}
 use Rattle.base.proofs.Lists.{by_bool, true-not-false}
-use Rattle.faults.specs.{declared.Checked.TheVariants.Lawful, declared.Fault.TheVariants.MultipleOver, Checks.{then, refuse_if}}
+use Rattle.faults.specs.declared.Fault.TheVariants.{MultipleOver}
+use Rattle.faults.specs.Checks.{then, refuse_if}
 use Rattle.faults.proofs.Checks.{then-first, then-second, then-lawful}
 use Rattle.rules.specs.{declared.BatteryString.BatteryString, declared.Plan.Plan, Plan.{strings_of, no_string, string_lawful, common_multiple, multiple_of}, Refusal.{head_check, string_check, strings_check, multiple_check, plan_check}}
 use Rattle.laws.proofs.Lawful.{string_lawful-yes}

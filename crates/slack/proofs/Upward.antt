@@ -2,10 +2,10 @@
 -- limit. Where it may, the first found by trying one after the other is the limit.
 --     TriedTo p i x list at   with none of the values before place `at` does the plan pass
 use Rattle.base.proofs.Prelude.{ℕ, ◌+◌, ◌-◌, ◌≤◌, ◌<◌, ◌≡◌, sym, ap, ◌∙◌, Bool, true, false, List, arith, ℕ_discrete, length, get_or, take, length-take-le, get_or-take}
+use Rattle.std.specs.Prelude.{Some, None}
 use Rattle.base.specs.Count.{All, up_from, first_of}
 use Rattle.base.proofs.{Lists.{all-at}, Order.{Rising, rising-mapped, rising-within, rising-up_from, rising-keep, all-up_from, all_keep, all_of}}
 use Rattle.rules.specs.{declared.Plan.Plan, Plan.no_string}
-use Rattle.lines.specs.declared.limits.Limit.TheVariants.{Nothing, At}
 use Rattle.slack.specs.{declared.Letter.Letter, Slack.{value_at, hardest_first, passes_with, limit_from}, Beyond.{Harder, gapless}, inner.Values.{lawful_with, lawful_values, HoldsValues}}
 use Rattle.slack.proofs.{ByHalves.{first_of-place, first_of-nowhere, Upward, Between, between_start, between_lower, between-upper, between-found, between_none, rising-places}, Easier.{lawful-with, passes-rule, rule-passes, easier-passes}}
 use Rattle.slack.specs.declared.Letter.TheVariants as letter
@@ -95,13 +95,13 @@ module _ (p : Plan) (i : ℕ) (x : Letter) where
     halved-within low high so = omega (arith, so.inside, count-is)
 
     module _ (low high : ℕ) (so : Between (passes_with p i x) (take count list) low high) (met : high ≤ low) where
-      pub halved-found : low < count → At (get_or list low 0) ≡ limit_from (first_of (passes_with p i x) (lawful_values p i x))
+      pub halved-found : low < count → Some (get_or list low 0) ≡ limit_from (first_of (passes_with p i x) (lawful_values p i x))
       halved-found inside =
-          ap At (sym (value-is low inside))
+          ap Some (sym (value-is low inside))
           ∙ ap limit_from (sym (between-found (passes_with p i x) (take count list) low high so met (omega (arith, count-is))))
           ∙ ap (λ values. limit_from (first_of (passes_with p i x) values)) listed.held
 
-      pub halved_none : count ≤ low → Nothing ≡ limit_from (first_of (passes_with p i x) (lawful_values p i x))
+      pub halved_none : count ≤ low → None ≡ limit_from (first_of (passes_with p i x) (lawful_values p i x))
       halved_none past =
           ap limit_from (sym (between_none (passes_with p i x) (take count list) low high so met (omega (arith, count-is))))
           ∙ ap (λ values. limit_from (first_of (passes_with p i x) values)) listed.held
@@ -113,12 +113,12 @@ module _ (p : Plan) (i : ℕ) (x : Letter) where
 
     module _ (at : ℕ) (tried : TriedTo at) where
       pub tried-found : at < count → passes_with p i x (get_or list at 0) ≡ true
-          → At (get_or list at 0) ≡ limit_from (first_of (passes_with p i x) (lawful_values p i x))
+          → Some (get_or list at 0) ≡ limit_from (first_of (passes_with p i x) (lawful_values p i x))
       tried-found inside passes =
           let fails : (j : ℕ) → j < at → passes_with p i x (get_or (take count list) j 0) ≡ false =
           λ j before. ap (passes_with p i x) (value-is j (omega arith)) ∙ tried j before in
           let here = value-is at inside in
-          ap At (sym here)
+          ap Some (sym here)
           ∙ ap limit_from
           (sym
           (first_of-place (passes_with p i x) (take count list) at (omega (arith, count-is)) fails (ap (passes_with p i x) here ∙ passes)))
@@ -131,7 +131,7 @@ module _ (p : Plan) (i : ℕ) (x : Letter) where
             | no other ↦ tried j (omega arith)
           ]
 
-      pub tried-none : count ≤ at → Nothing ≡ limit_from (first_of (passes_with p i x) (lawful_values p i x))
+      pub tried-none : count ≤ at → None ≡ limit_from (first_of (passes_with p i x) (lawful_values p i x))
       tried-none past =
           let none = first_of-nowhere (passes_with p i x) (take count list)
           (λ j inside. ap (passes_with p i x) (value-is j (omega (arith, count-is))) ∙ tried j (omega (arith, count-is))) in

@@ -7,7 +7,7 @@
 --                           every lawful value between it and the easy end the plan passes, of D where J is 0
 --     NoLimit p i x         there is none: with no lawful value does the plan pass
 use Rattle.std.specs.Prelude.{ℕ, ◌-◌, ◌<◌, ◌≡◌, Bool, true, eqb, get_or}
-use Rattle.faults.specs.declared.Checked.TheVariants.{Lawful}
+use Rattle.faults.specs.Checks.{Lawful}
 use Rattle.rules.specs.declared.BatteryString.{BatteryString}
 use Rattle.rules.specs.declared.Plan.{Plan}
 use Rattle.rules.specs.Plan.{no_string}

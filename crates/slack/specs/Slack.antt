@@ -14,27 +14,25 @@
 --     limits_shown p i       the line of the string at place i, as it is asked for; an empty text where there is none
 --     slack_text p           the whole text of `clerk slack`: the verdict, then the strings by place
 use Rattle.std.specs.Prelude.{ℕ, ◌-◌, Bool, false, cond, List, map, ◌++◌, get_or, set}
+use Rattle.rules.specs.declared.Verdict.{Verdict}
+use Rattle.faults.specs.Checks.{Refused}
+use Rattle.faults.specs.declared.Refusal.{Refusal}
+use Rattle.std.specs.Prelude.{Ok, Err, Result, Some, None}
 use Rattle.std.proofs.Math.Option.{Option, none, some}
 use Rattle.days.specs.Days.{days}
 use Rattle.base.specs.Count.{up_from, first_of}
 use Rattle.faults.specs.Checks.{in_bounds, or_refused}
 use Rattle.rules.specs.declared.BatteryString.{BatteryString}
 use Rattle.rules.specs.declared.Plan.{Plan}
-use Rattle.rules.specs.declared.AskedVerdict.{AskedVerdict}
-use Rattle.rules.specs.declared.AskedVerdict.TheVariants as asked-verdict
 use Rattle.rules.specs.Plan.{strings_of, no_string}
 use Rattle.rules.specs.Verdict.{verdict_of, is_pass}
 use Rattle.rules.specs.Refusal.{plan_check, verdict_answer}
 use Rattle.rules.specs.Lines.{verdict_line}
-use Rattle.lines.specs.declared.limits.Limit.{Limit}
-use Rattle.lines.specs.declared.limits.Limit.TheVariants.{Nothing, At}
 use Rattle.lines.specs.declared.limits.Limits.{Limits}
-use Rattle.lines.specs.Limits.{limits_line}
+use Rattle.lines.specs.Limits.{Limit, limits_line}
 use Rattle.showing.specs.Shown.{in_place, in_order, on_text}
 use Rattle.slack.specs.declared.Letter.{Letter}
 use Rattle.slack.specs.declared.Letter.TheVariants as letter
-use Rattle.slack.specs.declared.AskedLimit.{AskedLimit}
-use Rattle.slack.specs.declared.AskedLimit.TheVariants as asked-limit
 
 -- ---- One number changed
 
@@ -52,9 +50,9 @@ plan_with p i x v = record {
   strings = set p.strings (i - 1) (string_with x v (get_or p.strings (i - 1) no_string));
 }
 
-abbrev pub says_pass : AskedVerdict → Bool
-says_pass (asked-verdict.Refused f at) = false
-says_pass (asked-verdict.Given v) = is_pass v
+abbrev pub says_pass : Result Verdict Refusal → Bool
+says_pass (Err e) = false
+says_pass (Ok v) = is_pass v
 
 unfoldable pub passes_with : Plan → ℕ → Letter → ℕ → Bool
 passes_with p i x v = says_pass (verdict_answer (plan_with p i x v))
@@ -72,18 +70,18 @@ unfoldable pub hardest_first : Letter → List ℕ
 hardest_first x = map (value_at x) (up_from 0 1001)
 
 abbrev pub limit_from : Option ℕ → Limit
-limit_from none = Nothing
-limit_from (some v) = At v
+limit_from none = None
+limit_from (some v) = Some v
 
 unfoldable pub limit_of : Plan → ℕ → Letter → Limit
 limit_of p i x =
     let hardest = limit_from (first_of (passes_with p i x) (hardest_first x)) in
-    cond (in_bounds 1 i p.n) hardest Nothing
+    cond (in_bounds 1 i p.n) hardest None
 
-unfoldable pub limit_answer : Plan → ℕ → Letter → AskedLimit
+unfoldable pub limit_answer : Plan → ℕ → Letter → Result Limit Refusal
 limit_answer p i x =
     let v = limit_of p i x in
-    or_refused asked-limit.Refused (plan_check p) (asked-limit.Given v)
+    or_refused Refused (plan_check p) (Ok v)
 
 -- ---- The lines
 

@@ -1,6 +1,6 @@
 // A plan with one number of one string changed, and whether it is lawful and passes.
 ghost use Rattle.std.specs.Prelude.{◌≡◌};
-ghost use Rattle.faults.specs.declared.Checked.TheVariants.{Lawful};
+ghost use Rattle.faults.specs.Checks.{Lawful};
 ghost use Rattle.rules.specs.Refusal.{plan_check};
 ghost use Rattle.slack.specs.Slack.{string_with, plan_with, passes_with};
 ghost use Rattle.slack.specs.Beyond.{gapless};
@@ -9,8 +9,7 @@ ghost use Rattle.slack.specs.inner.Values.{HasPlace, leaves_multiple, lawful_wit
 use super::Letter;
 use bounds::{plan_check, string_lawful};
 use days::Length;
-use faults::Checked;
-use rules::{AskedVerdict, BatteryString, Plan};
+use rules::{BatteryString, Plan};
 use verdict::quick;
 
 // Whether easing never hurts this number of the string: D only where no job comes late.
@@ -29,67 +28,24 @@ pub(crate) fn is_gapless(letter: Letter, s: BatteryString) -> bool
 fn string_with(letter: Letter, v: u32, s: BatteryString) -> BatteryString
     ensures { result ≡ string_with letter v s }
 {
-    let t = s.t;
-    let c = s.c;
-    let d = s.d;
-    let x = s.x;
-    let a = s.a;
-    let j = s.j;
     let value = Length(v);
     match letter {
-        Letter::C => BatteryString {
-            t,
-            c: value,
-            d,
-            x,
-            a,
-            j,
-        },
-        Letter::D => BatteryString {
-            t,
-            c,
-            d: value,
-            x,
-            a,
-            j,
-        },
-        Letter::T => BatteryString {
-            t: value,
-            c,
-            d,
-            x,
-            a,
-            j,
-        },
-        Letter::A => BatteryString {
-            t,
-            c,
-            d,
-            x,
-            a: value,
-            j,
-        },
-        Letter::J => BatteryString {
-            t,
-            c,
-            d,
-            x,
-            a,
-            j: value,
-        },
+        Letter::C => BatteryString { c: value, ..s },
+        Letter::D => BatteryString { d: value, ..s },
+        Letter::T => BatteryString { t: value, ..s },
+        Letter::A => BatteryString { a: value, ..s },
+        Letter::J => BatteryString { j: value, ..s },
     }
 }
 
+#[tactic(auto, unfolding(crate::specs::Slack::plan_with))]
 fn plan_with(p: Plan, place: usize, letter: Letter, v: u32) -> Plan
     requires { HasPlace p place }
     ensures { result ≡ plan_with p place letter v }
 {
-    let n = p.n;
-    let run = p.run;
     let mut strings = p.strings;
-    let s = strings[place - 1];
-    strings[place - 1] = string_with(letter, v, s);
-    Plan { n, run, strings }
+    strings[place - 1] = string_with(letter, v, strings[place - 1]);
+    Plan { strings, ..p }
 }
 
 // Whether H stays as it is with another value: it does of all but T.
@@ -111,19 +67,10 @@ pub(crate) fn lawful_with(p: Plan, place: usize, letter: Letter, v: u32) -> bool
     requires p_value { plan_check p ≡ Lawful }
     ensures { result ≡ lawful_with p place letter v }
 {
-    let strings = p.strings;
-    let s = strings[place - 1];
-    if !string_lawful(string_with(letter, v, s)) {
+    if !string_lawful(string_with(letter, v, p.strings[place - 1])) {
         return false;
     }
-    if leaves_multiple(letter) {
-        return true;
-    }
-    let checked = plan_check(plan_with(p, place, letter, v));
-    match checked {
-        Checked::Lawful => true,
-        Checked::Refused { fault: _, at: _ } => false,
-    }
+    leaves_multiple(letter) || plan_check(plan_with(p, place, letter, v)).is_ok()
 }
 
 // Whether it is lawful and passes: a quick verdict says so.
@@ -131,9 +78,8 @@ pub(crate) fn passes_with(p: Plan, place: usize, letter: Letter, v: u32) -> bool
     requires { HasPlace p place }
     ensures { result ≡ passes_with p place letter v }
 {
-    let asked = quick(plan_with(p, place, letter, v));
-    match asked {
-        AskedVerdict::Refused { fault: _, at: _ } => false,
-        AskedVerdict::Given { verdict } => verdict.passes(),
+    match quick(plan_with(p, place, letter, v)) {
+        Ok(verdict) => verdict.passes(),
+        Err(_) => false,
     }
 }

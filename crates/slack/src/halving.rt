@@ -33,9 +33,9 @@ pub(crate) fn halved(p: Plan, place: usize, letter: Letter, values: Values) -> L
         }
     }
     if low < count {
-        return Limit::At { value: list[low] };
+        return Some(list[low]);
     }
-    Limit::Nothing
+    None
 }
 
 pub(crate) fn walked(p: Plan, place: usize, letter: Letter, values: Values) -> Limit
@@ -49,9 +49,9 @@ pub(crate) fn walked(p: Plan, place: usize, letter: Letter, values: Values) -> L
     while i < count {
         let v = list[i];
         if passes_with(p, place, letter, v) {
-            return Limit::At { value: v };
+            return Some(v);
         }
         i += 1;
     }
-    Limit::Nothing
+    None
 }

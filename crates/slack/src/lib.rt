@@ -8,13 +8,13 @@ mod shown;
 mod values;
 
 ghost use Rattle.std.specs.Prelude.{◌≡◌, length};
-ghost use Rattle.faults.specs.declared.Checked.TheVariants.{Lawful};
+ghost use Rattle.faults.specs.Checks.{Lawful};
 ghost use Rattle.rules.specs.Refusal.{plan_check};
 ghost use Rattle.slack.specs.Slack.{limit_of, limit_answer};
 
 use bounds::plan_check;
 use changing::is_gapless;
-use faults::{Checked, Fault};
+use faults::Refusal;
 use halving::{halved, walked};
 use lines::Limit;
 use rules::Plan;
@@ -31,43 +31,28 @@ pub enum Letter {
     J,
 }
 
-// What is answered where a limit is asked for: the refusal of the plan, or the limit.
-#[derive(Clone, Copy)]
-pub enum AskedLimit {
-    Refused { fault: Fault, at: usize },
-    Given { limit: Limit },
-}
-
 // Where easing never hurts, the lawful values are halved; else each is tried, the hardest first.
 pub(crate) fn limit_of(p: Plan, place: usize, letter: Letter) -> Limit
     requires p_value { plan_check p ≡ Lawful }
     requires strings_len { length p.strings ≡ 10 }
     ensures exact { result ≡ limit_of p place letter }
 {
-    if place < 1 {
-        return Limit::Nothing;
-    }
-    if p.n < place {
-        return Limit::Nothing;
+    if !(1..=p.n).contains(&place) {
+        return None;
     }
     let values = lawful_values(p, place, letter);
-    let strings = p.strings;
-    let s = strings[place - 1];
-    if is_gapless(letter, s) {
-        return halved(p, place, letter, values);
+    if is_gapless(letter, p.strings[place - 1]) {
+        halved(p, place, letter, values)
+    } else {
+        walked(p, place, letter, values)
     }
-    walked(p, place, letter, values)
 }
 
 // The hardest lawful value of a number of the string at a place, from 1, with which the plan passes.
-pub fn limit_at(p: Plan, place: usize, letter: Letter) -> AskedLimit
+#[tactic(auto, unfolding(crate::specs::Slack::limit_answer))]
+pub fn limit_at(p: Plan, place: usize, letter: Letter) -> Result<Limit, Refusal>
     ensures exact { result ≡ limit_answer p place letter }
 {
-    let checked = plan_check(p);
-    match checked {
-        Checked::Lawful => AskedLimit::Given {
-            limit: limit_of(p, place, letter),
-        },
-        Checked::Refused { fault, at } => AskedLimit::Refused { fault, at },
-    }
+    plan_check(p)?;
+    Ok(limit_of(p, place, letter))
 }

@@ -1,6 +1,6 @@
 // The lawful values of a number, the hardest first. For T the common multiple decides which those are.
 ghost use Rattle.std.specs.Prelude.{◌≡◌, cond, ◌≤◌};
-ghost use Rattle.faults.specs.declared.Checked.TheVariants.{Lawful};
+ghost use Rattle.faults.specs.Checks.{Lawful};
 ghost use Rattle.rules.specs.Refusal.{plan_check};
 ghost use Rattle.slack.specs.Slack.{value_at};
 ghost use Rattle.slack.specs.inner.Values.{HasPlace, HoldsValues};

@@ -1,3 +1,2 @@
 -- Why the code of the slots meets its definitions.
-pub mod Questions
 pub mod EmptySlots

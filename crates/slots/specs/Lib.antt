@@ -1,2 +1,1 @@
--- What the code of the slots promises beside the definitions of `rules`.
-pub mod inner
+-- Nothing: what the code of the slots promises is said in rules and stretch.

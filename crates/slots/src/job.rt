@@ -1,5 +1,5 @@
 // A job alone: whether it waits, holds the bank or has something left, and what each step of a day makes of it.
-ghost use Rattle.std.specs.Prelude.{◌≡◌, ◌+◌, ◌-◌, ltb};
+ghost use Rattle.std.specs.Prelude.{◌≡◌, ◌+◌, ltb};
 ghost use Rattle.days.specs.Days.{days};
 ghost use Rattle.rules.specs.Run.{left, waits, on_bank, stopped, seated, on_or_gone, used_for};
 ghost use Rattle.stretch.specs.Stretch.{part_days, spent_by};
@@ -13,38 +13,26 @@ pub(crate) fn unfinished(job: Job) -> bool
 {
     match job {
         Job::Empty => false,
-        Job::Waiting { work, moving } => some_left(work, moving),
-        Job::OnBank { work, moving } => some_left(work, moving),
+        Job::Waiting { work, moving } | Job::OnBank { work, moving } => some_left(work, moving),
     }
 }
 
 fn some_left(work: Length, moving: Length) -> bool
     ensures exact { result ≡ ltb 0 (work.0 + moving.0) }
 {
-    if work.0 == 0 {
-        return 0 < moving.0;
-    }
-    true
+    0 < work.0 || 0 < moving.0
 }
 
 pub(crate) fn is_waiting(job: Job) -> bool
     ensures exact { result ≡ waits job }
 {
-    match job {
-        Job::Empty => false,
-        Job::Waiting { work: _, moving: _ } => true,
-        Job::OnBank { work: _, moving: _ } => false,
-    }
+    matches!(job, Job::Waiting { .. })
 }
 
 pub(crate) fn is_on_bank(job: Job) -> bool
     ensures exact { result ≡ on_bank job }
 {
-    match job {
-        Job::Empty => false,
-        Job::Waiting { work: _, moving: _ } => false,
-        Job::OnBank { work: _, moving: _ } => true,
-    }
+    matches!(job, Job::OnBank { .. })
 }
 
 // Step 3: the job on the bank waits again.
@@ -52,9 +40,8 @@ pub fn stopped_job(job: Job) -> Job
     ensures exact { result ≡ stopped job }
 {
     match job {
-        Job::Empty => Job::Empty,
-        Job::Waiting { work, moving } => Job::Waiting { work, moving },
         Job::OnBank { work, moving } => Job::Waiting { work, moving },
+        other => other,
     }
 }
 
@@ -63,9 +50,8 @@ pub fn seated_job(job: Job) -> Job
     ensures exact { result ≡ seated job }
 {
     match job {
-        Job::Empty => Job::Empty,
         Job::Waiting { work, moving } => Job::OnBank { work, moving },
-        Job::OnBank { work, moving } => Job::OnBank { work, moving },
+        other => other,
     }
 }
 
@@ -74,14 +60,9 @@ pub fn part_left(job: Job) -> Length
     ensures exact { result ≡ days (part_days job) }
 {
     match job {
-        Job::Empty => Length(0),
-        Job::Waiting { work: _, moving: _ } => Length(0),
-        Job::OnBank { work, moving } => {
-            if 0 < moving.0 {
-                return moving;
-            }
-            work
-        }
+        Job::OnBank { moving, .. } if 0 < moving.0 => moving,
+        Job::OnBank { work, .. } => work,
+        _ => Length(0),
     }
 }
 
@@ -90,14 +71,12 @@ pub fn spent_by(job: Job, used: Length) -> Job
     ensures exact { result ≡ spent_by used.0 job }
 {
     match job {
-        Job::Empty => Job::Empty,
-        Job::Waiting { work, moving } => Job::Waiting { work, moving },
-        Job::OnBank { work, moving } => {
-            if 0 < moving.0 {
-                return on_or_gone(work, less(moving, used));
-            }
-            on_or_gone(less(work, used), moving)
-        }
+        Job::OnBank { work, moving } if 0 < moving.0 => on_or_gone(
+            work,
+            Length(moving.0.saturating_sub(used.0)),
+        ),
+        Job::OnBank { work, moving } => on_or_gone(Length(work.0.saturating_sub(used.0)), moving),
+        other => other,
     }
 }
 
@@ -106,19 +85,10 @@ fn on_or_gone(work: Length, moving: Length) -> Job
     ensures exact { result ≡ on_or_gone work moving }
 {
     if some_left(work, moving) {
-        return Job::OnBank { work, moving };
+        Job::OnBank { work, moving }
+    } else {
+        Job::Empty
     }
-    Job::Empty
-}
-
-// A length less another; nothing where the other is longer.
-fn less(length: Length, other: Length) -> Length
-    ensures exact { result ≡ days (length.0 - other.0) }
-{
-    if length.shorter(other) {
-        return Length(0);
-    }
-    Length(length.0 - other.0)
 }
 
 // What the bank does for the job in the slot s at a place: moving days first.
@@ -126,15 +96,9 @@ pub fn use_for(place: usize, s: Slot) -> Use
     ensures exact { result ≡ used_for place s.serves s.job }
 {
     let serves = s.serves;
-    let job = s.job;
-    match job {
-        Job::Empty => Use::Idle,
-        Job::Waiting { work: _, moving: _ } => Use::Idle,
-        Job::OnBank { work: _, moving } => {
-            if 0 < moving.0 {
-                return Use::Move { place, serves };
-            }
-            Use::Work { place, serves }
-        }
+    match s.job {
+        Job::OnBank { moving, .. } if 0 < moving.0 => Use::Move { place, serves },
+        Job::OnBank { .. } => Use::Work { place, serves },
+        _ => Use::Idle,
     }
 }

@@ -21,12 +21,5 @@ fn empty_slot(string: BatteryString) -> Slot
 pub fn empty_slots(strings: [BatteryString; 10]) -> [Slot; 10]
     ensures exact { result ≡ map empty_slot strings }
 {
-    let mut slots = [empty_slot(strings[0]); 10];
-    let mut i: usize = 1;
-    while i < 10 {
-        let string = strings[i];
-        slots[i] = empty_slot(string);
-        i += 1;
-    }
-    slots
+    strings.map(empty_slot)
 }

@@ -1,7 +1,7 @@
 -- The releases of an interval behind the first ones, day by day and place by place.
 --     days_from t            the releases from day t on
---     places_from t i        the releases of day t after the first i places
---     release_at t i         the release of the place after them, if it comes
+--     places_from t k        the releases of day t from place k on
+--     release_at t i         that of the string behind the first i, if it comes
 use Rattle.base.proofs.Prelude.{ℕ, suc, ◌+◌, ◌-◌, ◌≤◌, ◌<◌, ◌≡◌, ap, ◌∙◌, Bool, true, false, not, ◌&&◌, List, [], ◌∷◌, ◌++◌, map, arith, add-one, eq-eqb, ne_eqb, length, get_or}
 use mathlib.Core.List.{flat_map}
 use Rattle.days.specs.Days.{day}
@@ -11,7 +11,7 @@ use Rattle.base.proofs.Order.{up_from-cons, keep-yes, keep-no}
 use Rattle.verdict.specs.inner.Asked.{Ready}
 use Rattle.verdict.proofs.StringSums.{strings-count}
 use Rattle.exact.specs.Missing.{first_in, due_coming, comes_in, comes_first, comes_at, release_in, releases_in, others_in}
-use Rattle.tries.proofs.Places.{after, after_next, after-end, place-string}
+use Rattle.tries.proofs.Places.{from, from-all, from_next, from-end, string-here}
 
 -- ---- The due day of a job that comes on day t
 
@@ -31,7 +31,7 @@ module _ (p : Plan) (head : List Release) (lead b l : ℕ) where
   days_from t = flat_map (releases_in p head lead b l) (up_from t (lead + l - t))
 
   abbrev pub places_from : ℕ → ℕ → List Release
-  places_from t i = map (release_in p lead b t) (keep (comes_at p head lead b l t) (after i p.n))
+  places_from t k = map (release_in p lead b t) (keep (comes_at p head lead b l t) (from k p.n))
 
   pub days-all : others_in p head lead b l ≡ days_from lead
   unfolding others_in
@@ -46,13 +46,13 @@ module _ (p : Plan) (head : List Release) (lead b l : ℕ) where
       rw none_left
 
   module _ (ready : Ready p) where
-    day-places : (t : ℕ) → releases_in p head lead b l t ≡ places_from t 0
+    day-places : (t : ℕ) → releases_in p head lead b l t ≡ places_from t 1
     unfolding releases_in
     day-places t =
-        let every : length (strings_of p) ≡ p.n - 0 = strings-count p ready ∙ omega arith in
+        let every : length (strings_of p) ≡ p.n + 1 - 1 = strings-count p ready ∙ omega arith in
         rw every
 
-    pub days-next : (t : ℕ) → t < lead + l → days_from t ≡ places_from t 0 ++ days_from (t + 1)
+    pub days-next : (t : ℕ) → t < lead + l → days_from t ≡ places_from t 1 ++ days_from (t + 1)
     unfolding flat_map
     days-next t h =
         let left : lead + l - t ≡ suc (lead + l - (t + 1)) = omega arith in
@@ -60,37 +60,37 @@ module _ (p : Plan) (head : List Release) (lead b l : ℕ) where
         ∙ ap (flat_map (releases_in p head lead b l)) (up_from-cons t (lead + l - (t + 1)))
         ∙ rw (← add-one t, day-places t)
 
-    module _ (t i : ℕ) (h : i < p.n) where
+    module _ {ss : List BatteryString} (counted : ss ≡ strings_of p) (t i : ℕ) (h : i < p.n) where
       -- whether the string of the place comes, as the code asks
       abbrev pub comes_next : Bool
       comes_next =
-          let s = get_or p.strings i no_string in
+          let s = get_or ss i no_string in
           not (comes_first head (i + 1)) && comes_in (first_in lead b s) (lead + l) s t
 
       asked-as : comes_at p head lead b l t (i + 1) ≡ comes_next
       asked-as =
-          ap (λ s. not (comes_first head (i + 1)) && comes_in (first_in lead b s) (lead + l) s t) (place-string p ready i h)
+          ap (λ s. not (comes_first head (i + 1)) && comes_in (first_in lead b s) (lead + l) s t) (string-here ready counted i)
 
-      pub place-stays : comes_next ≡ false → places_from t i ≡ places_from t (i + 1)
+      pub place-stays : comes_next ≡ false → places_from t (i + 1) ≡ places_from t (i + 1 + 1)
       place-stays e =
-          ap (λ js. map (release_in p lead b t) (keep (comes_at p head lead b l t) js)) (after_next i p.n h)
-          ∙ ap (map (release_in p lead b t)) (keep-no (comes_at p head lead b l t) (i + 1) (after (i + 1) p.n) (asked-as ∙ e))
+          ap (λ js. map (release_in p lead b t) (keep (comes_at p head lead b l t) js)) (from_next (i + 1) p.n (omega arith))
+          ∙ ap (map (release_in p lead b t)) (keep-no (comes_at p head lead b l t) (i + 1) (from (i + 1 + 1) p.n) (asked-as ∙ e))
 
       -- the release as the code makes it
       abbrev pub release_at : Release
       release_at =
-          let s = get_or p.strings i no_string in
+          let s = get_or ss i no_string in
           record { day = day t; place = i + 1; need = s.c; due = day (due_coming (first_in lead b s) s t) }
 
-      pub place-comes : comes_next ≡ true → places_from t i ≡ release_at ∷ places_from t (i + 1)
+      pub place-comes : comes_next ≡ true → places_from t (i + 1) ≡ release_at ∷ places_from t (i + 1 + 1)
       place-comes e =
           let full : release_in p lead b t (i + 1) ≡ release_at =
           ap (λ s. record { day = day t; place = i + 1; need = s.c; due = day (due_coming (first_in lead b s) s t) })
-          (place-string p ready i h) in
-          ap (λ js. map (release_in p lead b t) (keep (comes_at p head lead b l t) js)) (after_next i p.n h)
-          ∙ ap (map (release_in p lead b t)) (keep-yes (comes_at p head lead b l t) (i + 1) (after (i + 1) p.n) (asked-as ∙ e))
-          ∙ ap (λ r. r ∷ places_from t (i + 1)) full
+          (string-here ready counted i) in
+          ap (λ js. map (release_in p lead b t) (keep (comes_at p head lead b l t) js)) (from_next (i + 1) p.n (omega arith))
+          ∙ ap (map (release_in p lead b t)) (keep-yes (comes_at p head lead b l t) (i + 1) (from (i + 1 + 1) p.n) (asked-as ∙ e))
+          ∙ ap (λ r. r ∷ places_from t (i + 1 + 1)) full
 
-    pub places-end : (t i : ℕ) → p.n ≤ i → places_from t i ≡ []
+    pub places-end : (t k : ℕ) → p.n + 1 ≤ k → places_from t k ≡ []
     unfolding keep
-    places-end t i h = ap (λ js. map (release_in p lead b t) (keep (comes_at p head lead b l t) js)) (after-end i p.n h)
+    places-end t k h = ap (λ js. map (release_in p lead b t) (keep (comes_at p head lead b l t) js)) (from-end k p.n h)

@@ -1,11 +1,20 @@
 -- What the tries find: a try that is found has a list of at most 1,000 releases over which the plan misses; and where the sharp rule with
 -- free moving breaks and the list there has at most 1,000 releases, one is found.
 use Rattle.base.proofs.Prelude.{ℕ, ◌-◌, ◌≤◌, min, ◌≡◌, refl, sym, ap, ◌∙◌, true, List, ◌∷◌, ◌++◌, none, some, arith, length, replicate, take_all, take-append_seam}
+use Rattle.rules.specs.declared.Outcome.{Outcome}
+use Rattle.faults.specs.Checks.{Lawful}
+use Rattle.faults.specs.declared.Refusal.{Refusal}
+use Rattle.std.specs.Prelude.{Ok, Err, Result}
 use Rattle.days.specs.{Days.day, declared.Day.Day}
 use Rattle.base.proofs.{Lists.true-not-false, FirstOf.{first_of-none, first_of-passes}}
-use Rattle.faults.specs.declared.Checked.TheVariants.{Lawful}
 use Rattle.faults.proofs.Checks.{by-checked, then-lawful}
-use Rattle.rules.specs.{declared.Plan.Plan, declared.Release.Release, declared.Outcome.TheVariants.{Miss, Clean}, declared.AskedOutcome.AskedOutcome, declared.AskedOutcome.TheVariants.{Refused, Given}, Release.{no_release, releases_of, first_unlawful}, Refusal.{plan_check, releases_check, run_check, run_answer}, Run.run_of, Plan.with_run}
+use Rattle.rules.specs.declared.Plan.{Plan}
+use Rattle.rules.specs.declared.Release.{Release}
+use Rattle.rules.specs.declared.Outcome.TheVariants.{Miss, Clean}
+use Rattle.rules.specs.Release.{no_release, releases_of, first_unlawful}
+use Rattle.rules.specs.Refusal.{plan_check, releases_check, run_check, run_answer}
+use Rattle.rules.specs.Run.{run_of}
+use Rattle.rules.specs.Plan.{with_run}
 use Rattle.laws.proofs.{Lawful.LawfulPlan, LawfulChecked.lawful-checked, Releases.{LawfulRun, run_check-lawful, releases_check-good}, Answers.run-lawful}
 use Rattle.exact.specs.Missing.{freely, SharpBreak, missing, MissesBy}
 use Rattle.exact.proofs.{Exact.{with_run-lawful, most_late-le, sharp-break-misses}, Longer.{miss-soon, longer-misses}}
@@ -21,11 +30,11 @@ packed-holds rs few =
 
 -- ---- An answer that is a miss
 
-miss-only : (o : AskedOutcome) → is_miss o ≡ true → (t : Day) × (place : ℕ) × (o ≡ Given (Miss t place))
+miss-only : (o : Result Outcome Refusal) → is_miss o ≡ true → (t : Day) × (place : ℕ) × (o ≡ Ok (Miss t place))
 unfolding is_miss
-miss-only (Refused f at) h = absurd (true-not-false (sym h))
-miss-only (Given (Miss t place)) h = (t, place, refl)
-miss-only (Given (Clean w m i)) h = absurd (true-not-false (sym h))
+miss-only (Err e) h = absurd (true-not-false (sym h))
+miss-only (Ok (Miss t place)) h = (t, place, refl)
+miss-only (Ok (Clean w m i)) h = absurd (true-not-false (sym h))
 
 module _ (q : Plan) (rs : List Release) where
   module _ (h : is_miss (run_answer q (packed rs)) ≡ true) where
@@ -63,13 +72,13 @@ module _ (q : Plan) (rs : List Release) where
 
   -- and the other way round: a short list that misses is answered with its miss
   pub misses-packed : (d : ℕ) → plan_check q ≡ Lawful → length rs ≤ 1000 → (m : MissesBy q rs d)
-      → run_answer q (packed rs) ≡ Given (Miss (day m.t) m.place)
+      → run_answer q (packed rs) ≡ Ok (Miss (day m.t) m.place)
   unfolding run_check
   misses-packed d plan few m =
       let holds = packed-holds rs few in
       let list = releases_check-good q (packed rs) (omega arith) (ap (first_unlawful q) holds ∙ m.listed) in
       let check : run_check q (packed rs) ≡ Lawful = then-lawful (plan_check q) (releases_check q (packed rs)) plan ∙ list in
-      run-lawful q (packed rs) check ∙ ap Given (ap (run_of q) holds ∙ m.ends)
+      run-lawful q (packed rs) check ∙ ap Ok (ap (run_of q) holds ∙ m.ends)
 
 -- ---- The first try that misses
 

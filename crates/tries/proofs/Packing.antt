@@ -1,10 +1,11 @@
 -- The code's list as it is filled.
 --     Packing all left list count     the first `count` places of the list hold what comes before `left` in `all`; there is nothing behind
-use Rattle.base.proofs.Prelude.{ℕ, ◌+◌, ◌≤◌, ◌<◌, min, ◌≡◌, sym, ap, ◌∙◌, List, [], ◌∷◌, ◌++◌, append_assoc, append-nil, arith, length, take, set, length-append, take_all, take_at}
+use Rattle.base.proofs.Prelude.{ℕ, ◌+◌, ◌≤◌, ◌<◌, min, ◌≡◌, refl, sym, ap, ◌∙◌, List, [], ◌∷◌, ◌++◌, append_assoc, append-nil, arith, length, take, set, replicate, length-append, take_all, take_at}
+use Rattle.std.specs.Prelude.{Option, Some, None, option_to_list}
 use Rattle.base.specs.Count.{filled}
 use Rattle.base.proofs.Filling.{filled-set}
 use Rattle.rules.specs.{declared.Release.Release, declared.Releases.Releases, Release.no_release}
-use Rattle.tries.specs.Tries.{packed}
+use Rattle.tries.specs.{Tries.packed, declared.openings.Opening.Opening, inner.Openings.head_of}
 
 pub record Packing (all left list : List Release) (count : ℕ) : Type 0 where
   pub done : List Release
@@ -59,3 +60,41 @@ module _ (all left list : List Release) (count : ℕ) (s : Packing all left list
       let front : take 1000 all ≡ s.done = ap (take 1000) (sym whole) ∙ take_at s.done (r ∷ rest) 1000 (omega arith) in
       same-list 1001 (min (length all) 1001) list (filled 1000 no_release (take 1000 all)) (omega arith)
       (s.stored ∙ ap (filled 1000 no_release) (sym front))
+
+-- ---- The first releases
+
+pub begun_none : (all : List Release) → Packing all all (replicate 1000 no_release) 0
+begun_none all = record { done = []; whole = refl; many = refl; few = omega arith; stored = refl }
+
+-- a list that begins so, and what comes behind it
+pub packed-begins : (head left all : List Release) → length head ≤ 1000 → head ++ left ≡ all
+    → Packing all left (packed head).list (packed head).count
+packed-begins head left all few whole =
+    record {
+      done = head;
+      whole = whole;
+      many = omega arith;
+      few = omega arith;
+      stored = ap (filled 1000 no_release) (take_all 1000 head few);
+    }
+
+module _ (o : Opening) where
+  pub begun-first : (r : Release) → o.first ≡ Some r
+      → Packing (head_of o) (option_to_list o.taker) (set (replicate 1000 no_release) 0 r) 1
+  begun-first r is =
+      packing-more (head_of o) (head_of o) (replicate 1000 no_release) 0 (begun_none (head_of o)) r (option_to_list o.taker)
+      (ap (λ q. option_to_list q ++ option_to_list o.taker) is) (omega arith)
+
+  pub begun-without : o.first ≡ None → Packing (head_of o) (option_to_list o.taker) (replicate 1000 no_release) 0
+  begun-without is =
+      packing-as (head_of o) (head_of o) (replicate 1000 no_release) 0 (begun_none (head_of o)) (option_to_list o.taker)
+      (ap (λ q. option_to_list q ++ option_to_list o.taker) is)
+
+  pub head-few : length (head_of o) ≤ 2
+  head-few = go o.first o.taker
+    where
+      go : (a b : Option Release) → length (option_to_list a ++ option_to_list b) ≤ 2
+      go None None = omega arith
+      go None (Some s) = omega arith
+      go (Some r) None = omega arith
+      go (Some r) (Some s) = omega arith

@@ -1,45 +1,67 @@
--- Walks over the places of a plan, the first i of them done.
---     after i n             the places after the first i of n
-use Rattle.base.proofs.Prelude.{ℕ, suc, ◌+◌, ◌-◌, ◌≤◌, ◌<◌, ◌≡◌, ap, ◌∙◌, List, [], ◌∷◌, arith, add-one, get_or, get_or-take}
-use Rattle.base.specs.Count.{sum_of, up_from}
-use Rattle.rules.specs.{declared.Plan.Plan, Plan.{strings_of, string_at, no_string}}
-use Rattle.base.proofs.Order.{up_from-cons}
-use Rattle.laws.proofs.Lawful.{PlanString}
+-- Walks over the places of a plan, and over its strings, whose places count from 1.
+--     from k n              the places from k on, of n
+use Rattle.base.proofs.Prelude.{ℕ, suc, ◌+◌, ◌-◌, ◌≤◌, ◌<◌, max, ◌≡◌, sym, ap, ◌∙◌, List, [], ◌∷◌, arith, add-one, length, get_or, drop, drop-cons, drop_of_length-le}
+use Rattle.base.specs.Count.{up_from, largest}
+use Rattle.rules.specs.{declared.BatteryString.BatteryString, declared.Plan.Plan, Plan.{strings_of, string_at, no_string}}
+use Rattle.base.proofs.{Lists.all-at, Order.up_from-cons}
+use Rattle.laws.proofs.Lawful.{PlanString, plan-strings}
 use Rattle.verdict.specs.inner.Asked.{Ready}
-use Rattle.verdict.proofs.StringSums.{string-at}
+use Rattle.verdict.proofs.StringSums.{strings-count}
 
-abbrev pub after : ℕ → ℕ → List ℕ
-after i n = up_from (i + 1) (n - i)
+abbrev pub from : ℕ → ℕ → List ℕ
+from k n = up_from k (n + 1 - k)
 
-module _ (i n : ℕ) where
-  next-left : i < n → n - i ≡ suc (n - (i + 1))
-  next-left h = omega arith
+pub from-all : (n : ℕ) → from 1 n ≡ up_from 1 n
+from-all n =
+    let every : n + 1 - 1 ≡ n = omega arith in
+    ap (up_from 1) every
 
-  pub after_next : i < n → after i n ≡ (i + 1) ∷ after (i + 1) n
-  after_next h = ap (up_from (i + 1)) (next-left h) ∙ up_from-cons (i + 1) (n - (i + 1)) ∙ rw (add-one (i + 1))
+module _ (k n : ℕ) where
+  pub from_next : k < n + 1 → from k n ≡ k ∷ from (k + 1) n
+  from_next h =
+      let left : n + 1 - k ≡ suc (n + 1 - (k + 1)) = omega arith in
+      ap (up_from k) left ∙ up_from-cons k (n + 1 - (k + 1)) ∙ rw (add-one k)
 
-  pub after-end : n ≤ i → after i n ≡ []
+  pub from-end : n + 1 ≤ k → from k n ≡ []
   unfolding up_from
-  after-end h =
-      let none_left : n - i ≡ 0 = omega arith in
+  from-end h =
+      let none_left : n + 1 - k ≡ 0 = omega arith in
       rw none_left
 
-  -- what the place asks that is next, and those behind it
-  module _ (f : ℕ → ℕ) where
-    pub after-sum : i < n → sum_of f (after i n) ≡ f (i + 1) + sum_of f (after (i + 1) n)
-    unfolding sum_of
-    after-sum h = ap (sum_of f) (after_next h)
+-- the strings of a plan, as a loop has them
+module _ {p : Plan} (ready : Ready p) {ss : List BatteryString} (counted : ss ≡ strings_of p) where
+  pub many-strings : length ss ≡ p.n
+  many-strings = ap length counted ∙ strings-count p ready
 
-    pub after-sum-end : n ≤ i → sum_of f (after i n) ≡ 0
-    unfolding sum_of
-    after-sum-end h = ap (sum_of f) (after-end h)
+  module _ (i : ℕ) where
+    pub string-here : string_at p (i + 1) ≡ get_or ss i no_string
+    string-here =
+        let here : i + 1 - 1 ≡ i = omega arith in
+        ap (λ j. get_or (strings_of p) j no_string) here ∙ ap (λ xs. get_or xs i no_string) (sym counted)
 
--- the string at a place
-module _ (p : Plan) (ready : Ready p) (i : ℕ) (h : i < p.n) where
-  pub place-string : string_at p (i + 1) ≡ get_or p.strings i no_string
-  place-string =
-      let here : i + 1 - 1 ≡ i = omega arith in
-      ap (λ j. get_or (strings_of p) j no_string) here ∙ get_or-take p.n p.strings i no_string h
+    pub lawful-here : i < length ss → PlanString p (get_or ss i no_string)
+    lawful-here h =
+        rw counted (all-at (PlanString p) (strings_of p) no_string (plan-strings p ready.lawful) i (rw counted at h))
 
-  pub place-lawful : PlanString p (get_or p.strings i no_string)
-  place-lawful = string-at p ready i h
+-- ---- The largest of the strings, the first i of them done
+
+pub record Most (f : BatteryString → ℕ) (ss : List BatteryString) (i most : ℕ) : Type 0 where
+  pub whole : max most (largest f (drop i ss)) ≡ largest f ss
+
+module _ {f : BatteryString → ℕ} {ss : List BatteryString} where
+  pub most_start : Most f ss 0 0
+  most_start = record { whole = omega arith }
+
+  module _ {i most : ℕ} (m : Most f ss i most) where
+    pub most-next : i < length ss → (next : ℕ) → next ≡ max (f (get_or ss i no_string)) most → Most f ss (i + 1) next
+    unfolding largest
+    most-next h next is =
+        let left : largest f (drop i ss) ≡ max (f (get_or ss i no_string)) (largest f (drop (i + 1) ss)) =
+        ap (largest f) (drop-cons ss i no_string h) ∙ rw (add-one i) in
+        record { whole = omega (arith, m.whole) }
+
+    pub most-end : length ss ≤ i → most ≡ largest f ss
+    unfolding largest
+    most-end h =
+        let none_left = ap (largest f) (drop_of_length-le ss h) in
+        omega (arith, m.whole)

@@ -26,25 +26,25 @@
 --     misses_on p y          a run to the interval's end over the list of the try y is lawful and misses
 --     found p               the first try that misses
 --     raised p y            N, raised to the interval's end where that lies beyond it
---     unlisted m            the answer m with an empty list
 --     unfound y             what is answered where no list that was tried misses, y being the free break: if there is one, there is a list
 --                           that misses, the theorem's, but it has more than 1,000 releases; else none was found
---     missing_answer p       what is answered: the refusal, that the plan passes, that it fails and no list misses, why no list is shown,
---                           or N and the list
+--     missing_of p           what is answered for a lawful plan: that it passes, that it fails and no list misses, why no list is shown, or
+--                           N and the list
+--     missing_answer p       what is answered for any plan: the refusal, or that
 use Rattle.std.specs.Prelude.{ℕ, ◌+◌, ◌-◌, min, max, Bool, true, false, cond, ◌&&◌, eqb, ltb, length, take}
+use Rattle.rules.specs.declared.Outcome.{Outcome}
+use Rattle.faults.specs.Checks.{then}
+use Rattle.faults.specs.declared.Refusal.{Refusal}
+use Rattle.std.specs.Prelude.{Ok, Err, Result}
 use mathlib.Core.List.{List, [], ◌∷◌, ◌++◌, map, flat_map}
 use Rattle.std.proofs.Math.Option.{Option, none, some}
 use Rattle.days.specs.Days.{day, days}
 use Rattle.base.specs.Count.{largest, up_from, first_of, filled}
-use Rattle.faults.specs.declared.Checked.{Checked}
-use Rattle.faults.specs.declared.Checked.TheVariants as checked
 use Rattle.rules.specs.declared.BatteryString.{BatteryString}
 use Rattle.rules.specs.declared.Plan.{Plan}
 use Rattle.rules.specs.declared.Release.{Release}
 use Rattle.rules.specs.declared.Releases.{Releases}
 use Rattle.rules.specs.declared.Outcome.TheVariants as outcome
-use Rattle.rules.specs.declared.AskedOutcome.{AskedOutcome}
-use Rattle.rules.specs.declared.AskedOutcome.TheVariants as asked
 use Rattle.rules.specs.Plan.{strings_of, string_at, multiple_of, with_run}
 use Rattle.rules.specs.Demand.{hold_of, blocker_hold}
 use Rattle.rules.specs.Verdict.{Pair, all_pairs, first_broken, verdict_of, is_pass}
@@ -54,8 +54,7 @@ use Rattle.sound.specs.Sharp.{demand_but}
 use Rattle.exact.specs.Missing.{freely, most_late, interval_start, blocker_release, others_in}
 use Rattle.charging.specs.Payable.{payable}
 use Rattle.tries.specs.declared.Missing.{Missing}
-use Rattle.tries.specs.declared.Missing.TheVariants.{Refused, Passes, Never, NoneFound, TooMany, Found}
-use Rattle.tries.specs.declared.Shown.{Shown}
+use Rattle.tries.specs.declared.Missing.TheVariants.{Passes, Never, NoneFound, TooMany, Found}
 
 -- ---- Where the sharp rule breaks
 
@@ -163,10 +162,10 @@ tries p = free_tries p (free_break p) ++ (held_tries p (own_break p) ++ (stopped
 abbrev pub packed : List Release → Releases
 packed rs = record { count = min (length rs) 1001; list = filled 1000 no_release (take 1000 rs) }
 
-unfoldable pub is_miss : AskedOutcome → Bool
-is_miss (asked.Refused f at) = false
-is_miss (asked.Given (outcome.Miss t i)) = true
-is_miss (asked.Given (outcome.Clean w m i)) = false
+unfoldable pub is_miss : Result Outcome Refusal → Bool
+is_miss (Err e) = false
+is_miss (Ok (outcome.Miss t i)) = true
+is_miss (Ok (outcome.Clean w m i)) = false
 
 unfoldable pub misses_on : Plan → Try → Bool
 misses_on p y = is_miss (run_answer (with_run p (end_of_try y)) (packed (list_of p y)))
@@ -179,29 +178,21 @@ found p = first_of (misses_on p) (tries p)
 abbrev pub raised : Plan → Try → ℕ
 raised p y = max p.run.0 (end_of_try y)
 
--- where none is found there is nothing in the list
-abbrev pub unlisted : Missing → Shown
-unlisted m = record { missing = m; releases = packed [] }
-
 abbrev pub unfound : Option Break → Missing
 unfound none = NoneFound
 unfound (some y) = TooMany
 
-abbrev pub found_as : Plan → Option Try → Shown
-found_as p none = unlisted (unfound (free_break p))
-found_as p (some y) = record { missing = Found (days (raised p y)); releases = packed (list_of p y) }
+abbrev pub found_as : Plan → Option Try → Missing
+found_as p none = unfound (free_break p)
+found_as p (some y) = Found (days (raised p y)) (packed (list_of p y))
 
-abbrev pub on_missing : Checked → Shown → Shown
-on_missing checked.Lawful v = v
-on_missing (checked.Refused f at) v = unlisted (Refused f at)
-
-unfoldable pub missing_of : Plan → Shown
+unfoldable pub missing_of : Plan → Missing
 missing_of p =
     let shown = found_as p (found p) in
-    let tried = cond (passes_payably p) (unlisted Never) shown in
-    cond (is_pass (verdict_of p)) (unlisted Passes) tried
+    let tried = cond (passes_payably p) Never shown in
+    cond (is_pass (verdict_of p)) Passes tried
 
-unfoldable pub missing_answer : Plan → Shown
+unfoldable pub missing_answer : Plan → Result Missing Refusal
 missing_answer p =
     let v = missing_of p in
-    on_missing (plan_check p) v
+    then (plan_check p) (Ok v)

@@ -4,28 +4,23 @@ ghost use Rattle.rules.specs.Verdict.{broken_at, verdict_of, is_pass};
 ghost use Rattle.verdict.specs.inner.Asked.{Ready};
 ghost use Rattle.tries.specs.Tries.{own_break};
 
-use rules::{AskedBroken, AskedVerdict, Broken, Plan};
+use rules::{Broken, Plan};
 
 // Whether the plan passes.
 pub(crate) fn passes(p: Plan) -> bool
     requires { Ready p }
     ensures { result ≡ is_pass (verdict_of p) }
 {
-    let asked = verdict::quick(p);
-    match asked {
-        AskedVerdict::Refused { fault: _, at: _ } => false,
-        AskedVerdict::Given { verdict } => verdict.passes(),
+    match verdict::quick(p) {
+        Ok(verdict) => verdict.passes(),
+        Err(_) => false,
     }
 }
 
 // The first pair at which the rule breaks.
-pub(crate) fn where_broken(p: Plan) -> Broken
+pub(crate) fn where_broken(p: Plan) -> Option<Broken>
     requires { Ready p }
     ensures { result ≡ broken_at (own_break p) }
 {
-    let asked = verdict::first_break(p);
-    match asked {
-        AskedBroken::Refused { fault: _, at: _ } => Broken::Nowhere,
-        AskedBroken::Given { broken } => broken,
-    }
+    verdict::first_break(p).unwrap_or(None)
 }

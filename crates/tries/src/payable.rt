@@ -6,21 +6,19 @@ ghost use Rattle.verdict.specs.inner.Asked.{Ready};
 ghost use Rattle.charging.specs.Payable.{least_due, least_hold, chargeable, cost_if, uncharged, payable};
 ghost use Rattle.tries.specs.Tries.{passes_payably};
 
-use super::breaks::{FirstBreak, longest_hold, sharp_break};
+use super::breaks::{longest_hold, sharp_break};
 use super::free::moved_freely;
 use rules::{BatteryString, Plan};
 
 // Whether a job of one string can lose the bank to a job of another, the taker: that came a day later at the earliest and is due strictly
 // sooner, and the job on the bank has used a day and has one left.
+#[tactic(auto, using(crate::proofs::Holding::holds))]
 fn can_lose(p: Plan, s: BatteryString, taker: BatteryString) -> bool
     requires plan_string { PlanString p s }
     requires plan_string_2 { PlanString p taker }
     ensures { result ≡ leb (least_due taker) s.d.0 && leb least_hold (hold_of p s) }
 {
-    if s.d.0 < taker.d.0 - taker.j.0 + 2 {
-        return false;
-    }
-    2 <= longest_hold(p, s)
+    taker.d.0 - taker.j.0 + 2 <= s.d.0 && 2 <= longest_hold(p, s)
 }
 
 // Whether the string at a place can be charged: it may take the bank, and another can lose it to it.
@@ -29,23 +27,15 @@ fn is_chargeable(p: Plan, place: usize) -> bool
     requires le_place { (1 ≤ place) × (place ≤ 10) }
     ensures { result ≡ chargeable p place }
 {
-    let n = p.n;
-    if n < place {
+    if p.n < place {
         return false;
     }
-    let strings = p.strings;
-    let taker = strings[place - 1];
+    let taker = p.strings[place - 1];
     if taker.x != 1 {
         return false;
     }
-    let mut j: usize = 0;
-    while j < n {
-        let s = strings[j];
-        j += 1;
-        if j == place {
-            continue;
-        }
-        if can_lose(p, s, taker) {
+    for (i, s) in p.strings[..p.n].iter().enumerate() {
+        if i + 1 != place && can_lose(p, *s, taker) {
             return true;
         }
     }
@@ -64,16 +54,11 @@ fn round(p: Plan) -> Plan
     requires { Ready p }
     ensures { result ≡ uncharged p }
 {
-    let n = p.n;
-    let run = p.run;
     let mut strings = p.strings;
-    let mut i: usize = 0;
-    while i < 10 {
-        let s = strings[i];
-        strings[i] = cost_if(is_chargeable(p, i + 1), s);
-        i += 1;
+    for (i, s) in strings.iter_mut().enumerate() {
+        *s = cost_if(is_chargeable(p, i + 1), *s);
     }
-    Plan { n, run, strings }
+    Plan { strings, ..p }
 }
 
 // As many rounds as there are strings: a cost less can leave another that is not chargeable.
@@ -81,12 +66,9 @@ fn payable_plan(p: Plan) -> Plan
     requires { Ready p }
     ensures { result ≡ payable p }
 {
-    let n = p.n;
     let mut left = p;
-    let mut k: usize = 0;
-    while k < n {
+    for _ in 0..p.n {
         left = round(left);
-        k += 1;
     }
     left
 }
@@ -96,9 +78,5 @@ pub(crate) fn passes_payably(p: Plan) -> bool
     requires { Ready p }
     ensures { result ≡ passes_payably p }
 {
-    let found = sharp_break(payable_plan(p));
-    let FirstBreak::Unbroken = found else {
-        return false;
-    };
-    true
+    sharp_break(payable_plan(p)).is_none()
 }

@@ -1,15 +1,18 @@
 -- Where a text is answered with, the turned text stands in the page from the named place on.
 use Rattle.base.proofs.Prelude.{ℕ, ◌≡◌, sym, ap, ◌∙◌, List, length, take, drop}
+use Rattle.faults.specs.Checks.{Lawful, Checked}
+use Rattle.std.specs.Prelude.{Ok}
 use Rattle.base.specs.Count.{put_at}
 use Rattle.base.proofs.Parts.{put_at-stands}
-use Rattle.faults.specs.{declared.Fault.TheVariants.NoRoom, declared.Checked.Checked, declared.Checked.TheVariants.Lawful, Checks.{then, refuse_if}}
+use Rattle.faults.specs.declared.Fault.TheVariants.{NoRoom}
+use Rattle.faults.specs.Checks.{then, refuse_if}
 use Rattle.faults.proofs.Checks.{then-first, then-second, refuse_if-not}
 use Rattle.rules.specs.{declared.Plan.Plan, Layout.Version, Text.reading_in}
-use Rattle.writing.specs.{declared.Saved.TheVariants.Text, Saved.{no_room, first_other, alike_check}}
+use Rattle.writing.specs.Saved.{no_room, first_other, alike_check}
 use Rattle.roundtrip.proofs.InPage.{answered-text, room-inside}
 use Rattle.turning.specs.Turned.{line_of, turned_text, turn_check, turned_answer, turned_page}
 
-module _ (v w : Version) (text page : List ℕ) (at len : ℕ) (h : turned_answer v w text page at ≡ Text len) where
+module _ (v w : Version) (text page : List ℕ) (at len : ℕ) (h : turned_answer v w text page at ≡ Ok len) where
   turned : (turn_check v w text page at ≡ Lawful) × (length (turned_text v w text) ≡ len)
   unfolding turned_answer
   turned = answered-text (turn_check v w text page at) (length (turned_text v w text)) len h

@@ -1,20 +1,23 @@
 -- Files of version 01 to 02 and back (document 02, W-208): what is turned and turned back has the bytes that it had; a file of version 02
 -- goes into version 01 exactly when its moving costs are one; and a file says the same before and after.
 use Rattle.base.proofs.Prelude.{ℕ, ◌+◌, ◌-◌, ◌≤◌, ◌<◌, ◌≡◌, refl, sym, ap, ◌∙◌, subst, ◌↔◌, true, false, not, List, [], ◌∷◌, arith, eq-eqb, eqb-true, not-false, lt-leb, leb, length, get_or, length-take-le}
+use Rattle.faults.specs.Checks.{Refused, Lawful}
+use Rattle.std.specs.Prelude.{Ok}
 use borrow.Author.Tests.{leb-false}
 use Rattle.days.specs.{declared.Length.Length, Days.days}
 use Rattle.base.specs.Count.{All}
 use Rattle.base.proofs.{Lists.{all-at, all-by, all_map, by_bool}, Least.{least_from-none, least_from-before}}
-use Rattle.faults.specs.{declared.Fault.Fault, declared.Fault.TheVariants.{FrameWrong, CostsDiffer}, declared.Checked.TheVariants.Lawful}
+use Rattle.faults.specs.declared.Fault.{Fault}
+use Rattle.faults.specs.declared.Fault.TheVariants.{FrameWrong, CostsDiffer}
 use Rattle.faults.proofs.Checks.{refused-not-lawful, refuse_if-not}
 use Rattle.rules.specs.{declared.BatteryString.BatteryString, declared.Plan.Plan, Plan.{strings_of, string_at, no_string}, Refusal.run_check, Layout.{Version, has_field, version01, version02, held_to}, Text.{Line, lines_of, version_of, a_in, plan_in, lines_check, reading_in, reading_of}, Answer.{answered, answer_of}}
 use Rattle.laws.proofs.{Versions.{one-cost, lines-checked, reading-plan, reading-on-time}, ReadLawful.text-read}
-use Rattle.writing.specs.{declared.Saved.TheVariants.{Refused, Text}, Saved.{no_room, cost_differs, first_other, alike_check, saved_text}}
+use Rattle.writing.specs.Saved.{no_room, cost_differs, first_other, alike_check, saved_text}
 use Rattle.roundtrip.proofs.{ReadBack.{reading-what-was-written, written-names, sayable-02}, WriteBack.writing-what-was-read, As02.{read-trimmed, run_is, ten-places, thousand}}
 use Rattle.roundtrip.specs.OneText.{OneCost}
 use Rattle.turning.specs.Turned.{line_of, turned_text, turn_check, turned_answer}
 
-refused-not-text : (f : Fault) (at len : ℕ) → Refused f at ≡ Text len → ⊥
+refused-not-text : (f : Fault) (at len : ℕ) → Refused f at ≡ Ok len → ⊥
 refused-not-text f at len h =
     let z : ◌≡◌ {A = ℕ} 0 1 = cc in
     omega arith
@@ -131,7 +134,7 @@ module _ (text : List ℕ) (h : (reading_in version02 text).checked ≡ Lawful) 
   differs page at other = rw (h, other)
 
   alike : (page : List ℕ) (at : ℕ) → leb (first_other plan) plan.n ≡ false → no_room page at in-01 ≡ false
-      → turned_answer version02 version01 text page at ≡ Text (length in-01)
+      → turned_answer version02 version01 text page at ≡ Ok (length in-01)
   unfolding turned_answer turn_check alike_check has_field
   alike page at none fits = rw (h, none, fits)
 
@@ -143,7 +146,7 @@ module _ (text : List ℕ) (h : (reading_in version02 text).checked ≡ Lawful) 
 
   -- where there is room it works exactly when the moving costs are one
   pub to-01-exactly : (page : List ℕ) (at : ℕ) → no_room page at in-01 ≡ false
-      → (turned_answer version02 version01 text page at ≡ Text (length in-01)) ↔ OneCost plan
+      → (turned_answer version02 version01 text page at ≡ Ok (length in-01)) ↔ OneCost plan
   to-01-exactly page at fits = (
     λ works.
         by_bool (leb (first_other plan) plan.n)

@@ -7,25 +7,25 @@
 --                           that differs from place 1; then 9 with 0 where there is no room
 --     turned_answer, turned_page      what is answered, and the page afterwards: a refusal keeps every byte
 use Rattle.std.specs.Prelude.{ℕ, ◌+◌, cond, List, eqb}
-use Rattle.faults.specs.declared.Checked.{Checked}
+use Rattle.faults.specs.Checks.{Refused, Checked}
+use Rattle.faults.specs.declared.Refusal.{Refusal}
+use Rattle.std.specs.Prelude.{Ok, Err, Result}
 use Rattle.faults.specs.Checks.{then}
 use Rattle.rules.specs.Layout.{Version}
 use Rattle.rules.specs.Text.{reading_in}
-use Rattle.writing.specs.declared.Saved.{Saved}
-use Rattle.writing.specs.declared.Saved.TheVariants.{Refused, Text}
 use Rattle.writing.specs.Saved.{fit_check, text_answer, text_page, first_other, alike_check, saved_text}
 
 unfoldable pub line_of : ℕ → ℕ
 line_of place = cond (eqb place 0) 0 (place + 1)
 
 -- what the writer answers, with the line of a refusal in place of its place
-abbrev pub on_line : Saved → Saved
-on_line (Text len) = Text len
-on_line (Refused f place) = Refused f (line_of place)
+abbrev pub on_line : Result ℕ Refusal → Result ℕ Refusal
+on_line (Ok len) = Ok len
+on_line (Err e) = Refused e.fault (line_of e.at)
 
-abbrev pub place_in : Saved → ℕ
-place_in (Text len) = 0
-place_in (Refused f place) = place
+abbrev pub place_in : Result ℕ Refusal → ℕ
+place_in (Ok len) = 0
+place_in (Err e) = e.at
 
 module _ (v w : Version) (text : List ℕ) where
   unfoldable pub turned_text : List ℕ
@@ -36,7 +36,7 @@ module _ (v w : Version) (text : List ℕ) where
       let plan = (reading_in v text).plan in
       then (reading_in v text).checked (fit_check (alike_check w (line_of (first_other plan)) plan) turned_text page at)
 
-  unfoldable pub turned_answer : List ℕ → ℕ → Saved
+  unfoldable pub turned_answer : List ℕ → ℕ → Result ℕ Refusal
   turned_answer page at = text_answer (turn_check page at) turned_text
 
   unfoldable pub turned_page : List ℕ → ℕ → List ℕ

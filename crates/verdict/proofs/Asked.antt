@@ -1,17 +1,13 @@
 -- Laws of what the strings with one permission ask: the demand is the sum of two such parts, and each fits the code's word.
 use Rattle.base.proofs.Prelude.{ℕ, ◌+◌, ◌-◌, ◌*◌, ◌≤◌, ◌≡◌, ap, ◌∙◌, List, [], ◌∷◌, arith, dec_le, ℕ_discrete, mul-le-mul, le_refl, zero-mul, eq-eqb, ne_eqb, length, length-take}
 use native.Mathlib.Nat.{mul-suc, div-le_self}
-use Rattle.rules.specs.{declared.BatteryString.BatteryString, declared.Plan.Plan, Plan.strings_of, Demand.{moving_cost, hold_of, jobs, need, demand}}
+use Rattle.rules.specs.{declared.BatteryString.BatteryString, declared.Plan.Plan, Plan.strings_of, Demand.{hold_of, jobs, need, demand}}
 use Rattle.base.specs.Count.{sum_of}
 use Rattle.base.proofs.{Lists.{All, all_map, sum_of-le, sum_of-eq, sum_of-add}, Order.sum_of-zero}
 use Rattle.laws.proofs.{Jobs.{jobs-short, jobs-from, jobs-zero, jobs-mono}, Lawful.{LawfulString, LawfulPlan, PlanString, plan-strings}, Demand.{hold_of-le, hold_of-other, need-taker, need-keeper}}
 use Rattle.verdict.specs.inner.Asked.{asked_of, asked_by}
 
 -- ---- Bounds
-
--- the moving that X brings is at most the moving cost
-pub moving-le : (p : Plan) (s : BatteryString) → PlanString p s → moving_cost p s * s.x ≤ 1000
-moving-le p s ok = omega (arith, mul-le-mul ok.cost_max ok.lawful.x_max)
 
 pub jobs-le : (s : BatteryString) (w : ℕ) → LawfulString s → jobs s w ≤ w
 jobs-le s w ok =

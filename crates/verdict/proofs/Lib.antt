@@ -5,6 +5,7 @@ pub mod Holding
 pub mod Blocking
 pub mod Rows
 pub mod Stepping
+pub mod Advancing
 pub mod KeptRows
 pub mod Looking
 pub mod Onward

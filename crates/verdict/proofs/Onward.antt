@@ -1,25 +1,28 @@
 -- From the largest D on nothing blocks, and the walk goes from step to step: at a step a count grows, and between two steps none does.
-use Rattle.base.proofs.Prelude.{ℕ, ◌+◌, ◌-◌, ◌≤◌, ◌<◌, ◌≡◌, refl, sym, ap, ◌∙◌, true, false, List, [], ◌∷◌, ◌++◌, arith, ℕ_discrete, lt-ltb, ltb, length, get_or}
-use denote.Enum.Declared.{tag_of}
+use Rattle.base.proofs.Prelude.{ℕ, ◌+◌, ◌-◌, ◌≤◌, ◌<◌, ◌≡◌, refl, sym, ap, ◌∙◌, true, false, List, ◌++◌, arith, ℕ_discrete, lt-ltb, ltb, length, get_or}
 use Rattle.days.specs.Days.{days}
 use Rattle.rules.specs.{declared.BatteryString.BatteryString, declared.Plan.Plan, declared.Verdict.Verdict, declared.Verdict.TheVariants.{Overload, Fail, Pass}, Plan.{strings_of, no_string, leeway, leeway_min, d_max}, Demand.{jobs, block_limit, demand}, Verdict.Pair}
-use Rattle.rules.specs.contracts.Verdict.{the_type}
 use Rattle.base.specs.Count.{keep, smallest_with}
 use Rattle.base.proofs.Lists.{all_map, all-at, any_at, largest-ge, smallest_with-some, smallest-above, smallest-le}
 use Rattle.laws.proofs.{Lawful.{LawfulString, LawfulPlan}, Demand.block_limit-late}
 use Rattle.demand.proofs.Pairs.{pair, row_from, rows, rows_end, scan_from, scan_from-end}
 use Rattle.demand.specs.Quick.{count_at, grows}
 use Rattle.demand.proofs.Counts.{count_at-taker, count_at-keeper}
-use Rattle.verdict.specs.{inner.Asked.{Ready, asked_by}, inner.Steps.{step_after, Due, onward}}
+use Rattle.verdict.specs.{inner.Asked.{Ready, asked_by}, inner.Steps.{step_after, Due, onward, pairs_of}}
 use Rattle.verdict.proofs.{Asked.demand-parts, StringSums.strings-count, Stepping.{step-jobs, step-jobs-more, soonest, soonest-past, soonest-within, soonest-asked, soonest-due}, KeptRows.{kept_row, kept-rows}, Looking.{none-rises, look-good, look-bad, look-end}}
-use types.Run.{OneOf, miss}
 
--- what has ended is not changed by what is left
-pub onward-ended : (p : Plan) (v : Verdict) (qs : List Pair) → OneOf (0 ∷ (1 ∷ [])) (tag_of the_type v) → onward p v qs ≡ v
+-- what has ended is not changed by what is left, and hands on no count
+pub onward-ended : (p : Plan) (v : Verdict) (qs : List Pair) → ((k : ℕ) → v ≡ Pass k → ⊥) → onward p v qs ≡ v
 unfolding onward
 onward-ended p Overload qs h = refl
 onward-ended p (Fail l b d k) qs h = refl
-onward-ended p (Pass k) qs h = absurd (miss (0 ∷ (1 ∷ [])) 2 tt h)
+onward-ended p (Pass k) qs h = absurd (h k refl)
+
+pub pairs_of-ended : (v : Verdict) → ((k : ℕ) → v ≡ Pass k → ⊥) → pairs_of v ≡ 0
+unfolding pairs_of
+pairs_of-ended Overload h = refl
+pairs_of-ended (Fail l b d k) h = refl
+pairs_of-ended (Pass k) h = absurd (h k refl)
 
 -- ---- Where a count grows with no blocking
 

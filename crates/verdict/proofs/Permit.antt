@@ -1,8 +1,9 @@
 -- Laws of a plan with a set, as a loop over the ten strings makes it: those done, and those left with what is left of the number.
 use Rattle.base.proofs.Prelude.{ℕ, suc, ◌+◌, ◌/◌, ◌%◌, ◌≤◌, ◌<◌, ◌≡◌, refl, sym, ap, ◌∙◌, List, [], ◌∷◌, ◌++◌, append_assoc, append-nil, arith, add-one, length, take, drop, get_or, set, drop_of_length-le, drop-cons, drop-drop, take_all}
 use lib.Seq.{drop-set-lt, take-suc-set}
-use Rattle.rules.specs.{declared.BatteryString.BatteryString, declared.Plan.Plan, Plan.no_string, Search.{permit, with_set}}
-use Rattle.demand.proofs.Sets.{permitted, with_set-lawful}
+use Rattle.rules.specs.{declared.BatteryString.BatteryString, declared.Plan.Plan, Plan.{strings_of, no_string, leeway, leeway_min, d_max}, Search.{permit, with_set}}
+use Rattle.demand.proofs.Sets.{permitted, with_set-strings, with_set-lawful}
+use Rattle.base.specs.Count.{largest, smallest, smallest_with}
 use Rattle.verdict.specs.inner.Asked.{Ready}
 
 permit-length : (m : ℕ) (ss : List BatteryString) → length (permit m ss) ≡ length ss
@@ -58,3 +59,30 @@ done_all all now rest i h k =
     ∙ ap (λ ss. take i now ++ ss) (permit-none rest)
     ∙ append-nil (take i now)
     ∙ take_all i now h
+
+-- ---- What does not depend on the permissions
+
+module _ (f : BatteryString → ℕ) (blind : (s : BatteryString) (x : ℕ) → f (permitted s x) ≡ f s) where
+  permit-largest : (m : ℕ) (ss : List BatteryString) → largest f (permit m ss) ≡ largest f ss
+  unfolding permit largest
+  permit-largest m [] = refl
+  permit-largest m (s ∷ ss) = rw (blind s (m % 2), permit-largest (m / 2) ss)
+
+  permit-smallest_with : (k m : ℕ) (ss : List BatteryString) → smallest_with f k (permit m ss) ≡ smallest_with f k ss
+  unfolding permit smallest_with
+  permit-smallest_with k m [] = refl
+  permit-smallest_with k m (s ∷ ss) = rw (blind s (m % 2), permit-smallest_with k (m / 2) ss)
+
+  permit-smallest : (m : ℕ) (ss : List BatteryString) → smallest f (permit m ss) ≡ smallest f ss
+  unfolding permit smallest
+  permit-smallest m [] = refl
+  permit-smallest m (s ∷ ss) = rw (blind s (m % 2), permit-smallest_with (f s) (m / 2) ss)
+
+module _ (p : Plan) (m : ℕ) where
+  pub with_set-leeway_min : leeway_min (with_set p m) ≡ leeway_min p
+  unfolding leeway_min
+  with_set-leeway_min = ap (smallest leeway) (with_set-strings p m) ∙ permit-smallest leeway (λ s x. refl) m (strings_of p)
+
+  pub with_set-d_max : d_max (with_set p m) ≡ d_max p
+  unfolding d_max
+  with_set-d_max = ap (largest (λ s. s.d.0)) (with_set-strings p m) ∙ permit-largest (λ s. s.d.0) (λ s x. refl) m (strings_of p)

@@ -1,55 +1,32 @@
 // E of each string, and the figures of a plan.
 ghost use Rattle.std.specs.Prelude.{◌≡◌};
-ghost use Rattle.rules.specs.Plan.{multiple_of};
-ghost use Rattle.rules.specs.Figures.{holds_of, figures_of, no_figures};
-ghost use Rattle.verdict.specs.inner.Asked.{Ready};
+ghost use Rattle.rules.specs.Figures.{holds_of, figures_of};
 
 use super::asking::hold;
-use super::limits::load_over;
-use faults::{Checked, Fault};
-use rules::{Figures, Plan};
+use super::ready::ReadyPlan;
+use rules::Figures;
 
-// E by place; 0 where there is no string.
-fn holds_of(p: Plan) -> [u32; 10]
-    requires { Ready p }
-    ensures { result ≡ holds_of p }
-{
-    let n = p.n;
-    let strings = p.strings;
-    let mut holds = [0u32; 10];
-    let mut i: usize = 0;
-    while i < n {
-        let s = strings[i];
-        holds[i] = hold(p, s);
-        i += 1;
+impl ReadyPlan {
+    // E by place; 0 where there is no string.
+    fn holds(self) -> [u32; 10]
+        ensures { result ≡ holds_of self.plan }
+    {
+        let mut holds = [0; 10];
+        for (i, s) in self.strings().iter().enumerate() {
+            holds[i] = hold(self.plan, *s);
+        }
+        holds
     }
-    holds
-}
 
-// The figures of a lawful plan, given H.
-pub(crate) fn figures_over(p: Plan, h: u32) -> Figures
-    requires ready { Ready p }
-    requires h_value { h ≡ multiple_of p }
-    ensures { result ≡ figures_of p }
-{
-    let load = load_over(p, h);
-    let holds = holds_of(p);
-    Figures {
-        checked: Checked::Lawful,
-        multiple: h,
-        load,
-        holds,
-    }
-}
-
-// The figures of a refused plan.
-pub(crate) fn no_figures(fault: Fault, at: usize) -> Figures
-    ensures { result ≡ no_figures fault at }
-{
-    Figures {
-        checked: Checked::Refused { fault, at },
-        multiple: 0,
-        load: 0,
-        holds: [0; 10],
+    // The figures of the plan.
+    #[tactic(auto, unfolding(rules::specs::Figures::figures_of))]
+    pub(crate) fn figures(self) -> Figures
+        ensures { result ≡ figures_of self.plan }
+    {
+        Figures {
+            multiple: self.multiple,
+            load: self.load(),
+            holds: self.holds(),
+        }
     }
 }

@@ -8,6 +8,7 @@ mod holds;
 mod limits;
 mod pairs;
 mod permissions;
+mod ready;
 mod remembering;
 mod steps;
 
@@ -17,114 +18,75 @@ ghost use Rattle.rules.specs.Figures.{figures_answer};
 ghost use Rattle.demand.specs.Quick.{quick_answer, quick_set_answer};
 ghost use Rattle.verdict.specs.Breaks.{breaks_answer};
 
-use bounds::{multiple, plan_check, set_check};
 use days::Length;
-use faults::Checked;
-use growing::{broken_at, quickly_judged};
-use holds::{figures_over, no_figures};
-use limits::{largest_d, smallest_leeway};
-use pairs::judged;
-use permissions::first_set;
+use faults::Refusal;
 pub use permissions::with_set;
-use remembering::breaks_at;
-use rules::{AskedAssign, AskedBroken, AskedVerdict, Figures, Plan};
+use ready::ReadyPlan;
+use rules::{Assign, Broken, Figures, Plan, Verdict};
 
 // The verdict on a plan with the permissions it carries.
-pub fn verdict(p: Plan) -> AskedVerdict
+#[tactic(auto, unfolding(rules::specs::Refusal::verdict_answer))]
+pub fn verdict(p: Plan) -> Result<Verdict, Refusal>
     ensures exact { result ≡ verdict_answer p }
 {
-    let checked = plan_check(p);
-    match checked {
-        Checked::Lawful => AskedVerdict::Given {
-            verdict: judged(p, multiple(p)),
-        },
-        Checked::Refused { fault, at } => AskedVerdict::Refused { fault, at },
-    }
+    Ok(ReadyPlan::new(p)?.judged())
 }
 
 // The verdict on a plan with the permission set given.
-pub fn verdict_with(p: Plan, set: u32) -> AskedVerdict
+#[tactic(auto, unfolding(rules::specs::Refusal::set_answer))]
+pub fn verdict_with(p: Plan, set: u32) -> Result<Verdict, Refusal>
     ensures exact { result ≡ set_answer p set }
 {
-    let checked = set_check(p, set);
-    match checked {
-        Checked::Lawful => AskedVerdict::Given {
-            verdict: judged(with_set(p, set), multiple(p)),
-        },
-        Checked::Refused { fault, at } => AskedVerdict::Refused { fault, at },
-    }
+    Ok(ReadyPlan::new_with(p, set)?.judged())
 }
 
 // The quick verdict on a plan with the permissions it carries.
-pub fn quick(p: Plan) -> AskedVerdict
+#[tactic(auto, unfolding(demand::specs::Quick::quick_answer))]
+pub fn quick(p: Plan) -> Result<Verdict, Refusal>
     ensures exact { result ≡ quick_answer p }
 {
-    let checked = plan_check(p);
-    match checked {
-        Checked::Lawful => AskedVerdict::Given {
-            verdict: quickly_judged(p, multiple(p)),
-        },
-        Checked::Refused { fault, at } => AskedVerdict::Refused { fault, at },
-    }
+    Ok(ReadyPlan::new(p)?.quickly_judged())
 }
 
 // The quick verdict on a plan with the permission set given.
-pub fn quick_with(p: Plan, set: u32) -> AskedVerdict
+#[tactic(auto, unfolding(demand::specs::Quick::quick_set_answer))]
+pub fn quick_with(p: Plan, set: u32) -> Result<Verdict, Refusal>
     ensures exact { result ≡ quick_set_answer p set }
 {
-    let checked = set_check(p, set);
-    match checked {
-        Checked::Lawful => AskedVerdict::Given {
-            verdict: quickly_judged(with_set(p, set), multiple(p)),
-        },
-        Checked::Refused { fault, at } => AskedVerdict::Refused { fault, at },
-    }
+    Ok(ReadyPlan::new_with(p, set)?.quickly_judged())
 }
 
 // The first pair at which the rule breaks, whether the plan is overloaded or not.
-pub fn first_break(p: Plan) -> AskedBroken
+#[tactic(auto, unfolding(rules::specs::Refusal::break_answer))]
+pub fn first_break(p: Plan) -> Result<Option<Broken>, Refusal>
     ensures exact { result ≡ break_answer p }
 {
-    let checked = plan_check(p);
-    match checked {
-        Checked::Lawful => AskedBroken::Given {
-            broken: broken_at(p, multiple(p)),
-        },
-        Checked::Refused { fault, at } => AskedBroken::Refused { fault, at },
-    }
+    Ok(ReadyPlan::new(p)?.broken_at())
 }
 
 // Whether the rule breaks at a pair that the plan's own limit allows: ten additions, where a quick verdict costs thousands.
+#[tactic(auto, unfolding(crate::specs::Breaks::breaks_answer))]
 pub fn breaks(p: Plan, interval: Length, blocking: Length) -> bool
     ensures exact { result ≡ breaks_answer p interval.0 blocking.0 }
 {
-    let checked = plan_check(p);
-    match checked {
-        Checked::Lawful => breaks_at(p, smallest_leeway(p), largest_d(p), interval.0, blocking.0),
-        Checked::Refused { fault: _, at: _ } => false,
+    match ReadyPlan::new(p) {
+        Ok(ready) => ready.breaks_at(interval.0, blocking.0),
+        Err(_) => false,
     }
 }
 
 // The passing set with the fewest ones, among equals the smallest number.
-pub fn search(p: Plan) -> AskedAssign
+#[tactic(auto, unfolding(rules::specs::Refusal::search_answer))]
+pub fn search(p: Plan) -> Result<Assign, Refusal>
     ensures exact { result ≡ search_answer p }
 {
-    let checked = plan_check(p);
-    match checked {
-        Checked::Lawful => AskedAssign::Given {
-            assign: first_set(p, multiple(p)),
-        },
-        Checked::Refused { fault, at } => AskedAssign::Refused { fault, at },
-    }
+    Ok(ReadyPlan::new(p)?.first_set())
 }
 
 // H, the load and each string's E.
-pub fn figures(p: Plan) -> Figures
+#[tactic(auto, unfolding(rules::specs::Figures::figures_answer))]
+pub fn figures(p: Plan) -> Result<Figures, Refusal>
     ensures exact { result ≡ figures_answer p }
 {
-    let checked = plan_check(p);
-    match checked {
-        Checked::Lawful => figures_over(p, multiple(p)),
-        Checked::Refused { fault, at } => no_figures(fault, at),
-    }
+    Ok(ReadyPlan::new(p)?.figures())
 }

@@ -1,39 +1,22 @@
 // The smallest D − J and the largest D, the blocking limit, and the load.
-ghost use Rattle.std.specs.Prelude.{◌≡◌, ◌≤◌, ◌*◌, ◌/◌, min, max};
+ghost use Rattle.std.specs.Prelude.{◌≡◌, ◌≤◌, ◌*◌, ◌/◌};
 ghost use Rattle.base.specs.Count.{largest};
-ghost use Rattle.rules.specs.Plan.{strings_of, multiple_of, leeway_min, d_max};
-ghost use Rattle.rules.specs.Demand.{hold_of, blocker_hold, block_limit, load};
+ghost use Rattle.rules.specs.Plan.{strings_of, leeway_min, d_max};
+ghost use Rattle.rules.specs.Demand.{hold_of, blocker_hold, block_limit, load, overloaded};
 ghost use Rattle.laws.proofs.Lawful.{PlanString};
 ghost use Rattle.verdict.specs.inner.Asked.{Ready};
 
 use super::asking::{hold, leeway_of};
+use super::ready::ReadyPlan;
 use rules::{BatteryString, Plan};
-
-pub(crate) fn smaller(a: u32, b: u32) -> u32
-    ensures { result ≡ min a b }
-{
-    if a < b { a } else { b }
-}
-
-fn larger(a: u32, b: u32) -> u32
-    ensures { result ≡ max a b }
-{
-    if a < b { b } else { a }
-}
 
 pub(crate) fn smallest_leeway(p: Plan) -> u32
     requires { Ready p }
     ensures { result ≡ leeway_min p }
 {
-    let n = p.n;
-    let strings = p.strings;
-    let first = strings[0];
-    let mut least = leeway_of(first);
-    let mut i: usize = 1;
-    while i < n {
-        let s = strings[i];
-        least = smaller(least, leeway_of(s));
-        i += 1;
+    let mut least = leeway_of(p.strings[0]);
+    for s in &p.strings[..p.n] {
+        least = least.min(leeway_of(*s));
     }
     least
 }
@@ -42,19 +25,15 @@ pub(crate) fn largest_d(p: Plan) -> u32
     requires { Ready p }
     ensures { result ≡ d_max p }
 {
-    let n = p.n;
-    let strings = p.strings;
     let mut most: u32 = 0;
-    let mut i: usize = 0;
-    while i < n {
-        let s = strings[i];
-        most = larger(most, s.d.0);
-        i += 1;
+    for s in &p.strings[..p.n] {
+        most = most.max(s.d.0);
     }
     most
 }
 
 // How long a job of the string may hold the bank against an interval that ends before it is due. It started a day earlier at the latest.
+#[tactic(auto, unfolding(rules::specs::Demand::blocker_hold))]
 fn blocker(p: Plan, l: u32, s: BatteryString) -> u32
     requires { PlanString p s }
     ensures { result ≡ blocker_hold p l s }
@@ -63,38 +42,6 @@ fn blocker(p: Plan, l: u32, s: BatteryString) -> u32
         return hold(p, s) - 1;
     }
     0
-}
-
-fn longest_blocker(p: Plan, l: u32) -> u32
-    requires { Ready p }
-    ensures { result ≡ largest (blocker_hold p l) (strings_of p) }
-{
-    let n = p.n;
-    let strings = p.strings;
-    let mut most: u32 = 0;
-    let mut i: usize = 0;
-    while i < n {
-        let s = strings[i];
-        most = larger(most, blocker(p, l, s));
-        i += 1;
-    }
-    most
-}
-
-// The blocking limit at interval l, given the smallest D − J and the largest D. The strings are looked at only between the two.
-pub(crate) fn limit(p: Plan, first: u32, last: u32, l: u32) -> u32
-    requires ready { Ready p }
-    requires first_value { first ≡ leeway_min p }
-    requires last_value { last ≡ d_max p }
-    ensures { result ≡ block_limit p l }
-{
-    if l < first {
-        return 0;
-    }
-    if last <= l {
-        return 0;
-    }
-    smaller(l, longest_blocker(p, l))
 }
 
 // What the string's jobs ask of a period of h days.
@@ -106,20 +53,45 @@ fn period_share(p: Plan, h: u32, s: BatteryString) -> u32
     hold(p, s) * (h / s.t.0)
 }
 
-// The load over h, the least common multiple of all T.
-pub(crate) fn load_over(p: Plan, h: u32) -> u32
-    requires ready { Ready p }
-    requires h_value { h ≡ multiple_of p }
-    ensures { result ≡ load p }
-{
-    let n = p.n;
-    let strings = p.strings;
-    let mut sum: u32 = 0;
-    let mut i: usize = 0;
-    while i < n {
-        let s = strings[i];
-        sum += period_share(p, h, s);
-        i += 1;
+impl ReadyPlan {
+    fn longest_blocker(self, l: u32) -> u32
+        ensures { result ≡ largest (blocker_hold self.plan l) (strings_of self.plan) }
+    {
+        let mut most: u32 = 0;
+        for s in self.strings() {
+            most = most.max(blocker(self.plan, l, *s));
+        }
+        most
     }
-    sum
+
+    // The blocking limit at interval l. The strings are looked at only between the smallest D − J and the largest D.
+    #[tactic(auto, unfolding(rules::specs::Demand::block_limit))]
+    pub(crate) fn limit(self, l: u32) -> u32
+        ensures { result ≡ block_limit self.plan l }
+    {
+        if (self.first..self.last).contains(&l) {
+            l.min(self.longest_blocker(l))
+        } else {
+            0
+        }
+    }
+
+    // The load over H.
+    pub(crate) fn load(self) -> u32
+        ensures { result ≡ load self.plan }
+    {
+        let mut load = 0;
+        for s in self.strings() {
+            load += period_share(self.plan, self.multiple, *s);
+        }
+        load
+    }
+
+    // Whether the load is over H.
+    #[tactic(auto, unfolding(rules::specs::Demand::overloaded))]
+    pub(crate) fn overloaded(self) -> bool
+        ensures { result ≡ overloaded self.plan }
+    {
+        self.multiple < self.load()
+    }
 }

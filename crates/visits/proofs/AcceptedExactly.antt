@@ -1,10 +1,12 @@
 -- The check finds nothing exactly where the plan and its releases are lawful and the list keeps the six rules of the page, each over the
 -- whole list.
 use Rattle.base.proofs.Prelude.{ℕ, zero, suc, ◌≤◌, ◌<◌, ◌≡◌, sym, ◌↔◌, false, not, List, [], ◌∷◌, arith, leb, ltb, le-ltb, ltb-false, lt-leb, eqb-true, eq-eqb, not-false, not-suc-le-zero, length, ap, ℕ_discrete}
+use Rattle.faults.specs.Checks.{Lawful}
 use borrow.Author.Tests.{leb-false}
 use Rattle.base.specs.Count.{least_from}
 use Rattle.base.proofs.{Lists.{All, all-at, all-by}, Order.Rising, Least.{least_from-before, least_from-none}}
-use Rattle.faults.specs.{declared.Fault.TheVariants.{VisitUnlawful, SumDiffers}, declared.Checked.TheVariants.Lawful, Checks.{refuse_if}}
+use Rattle.faults.specs.declared.Fault.TheVariants.{VisitUnlawful, SumDiffers}
+use Rattle.faults.specs.Checks.{refuse_if}
 use Rattle.faults.proofs.Checks.{then-first, then-second, refuse_if-not}
 use Rattle.rules.specs.{declared.Plan.Plan, declared.Release.Release, declared.Releases.Releases, Release.releases_of, Refusal.run_check}
 use Rattle.visits.specs.{declared.Visit.Visit, Visits.{end_of_visit, days_for, days_asked, adds_up, first_breaking, first_short, visit_list_check, visits_check}, Accepted.{no_visit, visit_at, Follows, Accepted}}

@@ -1,16 +1,18 @@
 -- The visits of a run that are handed out: its stints were listed, and there is room for the visits.
 use Rattle.base.proofs.Prelude.{ℕ, suc, ◌+◌, ◌*◌, ◌≤◌, ◌≡◌, sym, ap, ◌∙◌, List, [], ◌∷◌, ◌++◌, arith, length, get_or, drop}
+use Rattle.faults.specs.Checks.{Refused, Lawful}
+use Rattle.std.specs.Prelude.{Ok, Err, Result}
+use Rattle.faults.specs.declared.Refusal.{Refusal}
 use Rattle.base.specs.Count.{All}
 use Rattle.base.proofs.Lists.{by_bool, all_map, all_get_d}
-use Rattle.faults.specs.{declared.Fault.Fault, declared.Checked.TheVariants.{Lawful}}
+use Rattle.faults.specs.declared.Fault.{Fault}
 use Rattle.faults.proofs.Checks.{by-checked}
 use Rattle.rules.specs.{declared.Plan.Plan, declared.Releases.Releases, declared.Use.Use, declared.Use.TheVariants.Idle, declared.Stint.Stint, Release.releases_of, Run.history, Refusal.run_check, Stints.{same_use, stint, day_ahead, stints_from, days_run, run_stints, stints_numbers, stints_answer, stints_listed}}
-use Rattle.rules.specs.declared.Stinted.TheVariants as stinted
 use Rattle.laws.specs.Lawful.{LawfulRun}
 use Rattle.laws.proofs.{Releases.run_check-lawful, History.history-length}
 use Rattle.run.specs.Numbers.{stint_at}
 use Rattle.run.proofs.{Answering.{few-here, stints-refused, stints-fit}, ReadBack.{read_back, all-read-back}}
-use Rattle.visits.specs.{OwnRun.{stints_visits, refused_visits, handed_out, own_visits}, inner.Own.{stints_in, end_of_stint, StintsEnd}}
+use Rattle.visits.specs.{declared.OwnVisits.OwnVisits, OwnRun.{stints_visits, handed_out, own_visits}, inner.Own.{stints_in, end_of_stint, StintsEnd}}
 use Rattle.visits.proofs.OwnStints.{StartAt, stints-start, stints-visits}
 
 -- ---- The stints of a run end with it
@@ -58,7 +60,7 @@ module _ (p : Plan) (rs : Releases) (run : run_check p rs ≡ Lawful) where
         let read : stint_at numbers i ≡ get_or ss i (stint 0 0 Idle) = ap (λ l. stint_at l i) holds ∙ read_back ss rest i (omega arith) in
         rw read (all_get_d (λ s. end_of_stint s ≤ 1000000) ss i (stint 0 0 Idle) ends (omega arith))
 
-    pub stints-listed-visits : handed_out (stints_visits (stints_in numbers n)) ≡ own_visits p rs
+    pub stints-listed-visits : Ok (handed_out (stints_visits (stints_in numbers n))) ≡ own_visits p rs
     unfolding own_visits
     stints-listed-visits =
         let all : stints_in numbers n ≡ ss = ap (λ l. stints_in l n) holds ∙ ap (stints_in (stints_numbers ss ++ rest)) count
@@ -71,42 +73,38 @@ module _ (p : Plan) (rs : Releases) (list : List ℕ) (room : length list ≡ 15
   fits : (run : run_check p rs ≡ Lawful) → 5 * length (run_stints p (releases_of rs)) ≤ length list
   fits run = omega (arith, few-here p rs (run_check-lawful p rs run))
 
-  pub stints-lawful : (n : ℕ) → stinted.Listed n ≡ stints_answer p rs (length list) → run_check p rs ≡ Lawful
+  pub stints-lawful : (n : ℕ) → Ok n ≡ stints_answer p rs (length list) → run_check p rs ≡ Lawful
   stints-lawful n said =
       by-checked (run_check p rs)
       (λ run. run)
       (λ f at refused. absurd (never n f at (said ∙ sym (stints-refused p rs list f at refused).0)))
     where
-      never : (n : ℕ) (f : Fault) (at : ℕ) → stinted.Listed n ≡ stinted.Refused f at → ⊥
-      never n f at e =
-          let z : ◌≡◌ {A = ℕ} 0 1 = cc in
-          omega arith
+      never : (n : ℕ) (f : Fault) (at : ℕ) → ◌≡◌ {A = Result ℕ Refusal} (Ok n) (Refused f at) → ⊥
+      never n f at e = cc
 
-  pub stints-count : (n : ℕ) → stinted.Listed n ≡ stints_answer p rs (length list) → n ≡ length (run_stints p (releases_of rs))
+  pub stints-count : (n : ℕ) → Ok n ≡ stints_answer p rs (length list) → n ≡ length (run_stints p (releases_of rs))
   stints-count n said = same n _ (said ∙ sym (stints-fit p rs list (stints-lawful n said) (fits (stints-lawful n said))).0)
     where
-      same : (i j : ℕ) → stinted.Listed i ≡ stinted.Listed j → i ≡ j
+      same : (i j : ℕ) → ◌≡◌ {A = Result ℕ Refusal} (Ok i) (Ok j) → i ≡ j
       same i j e = cc
 
-  pub stints-hold : (n : ℕ) → stinted.Listed n ≡ stints_answer p rs (length list)
+  pub stints-hold : (n : ℕ) → Ok n ≡ stints_answer p rs (length list)
       → stints_listed p rs list
       ≡ stints_numbers (run_stints p (releases_of rs)) ++ drop (length (stints_numbers (run_stints p (releases_of rs)))) list
   stints-hold n said = sym (stints-fit p rs list (stints-lawful n said) (fits (stints-lawful n said))).1
 
-  pub own-refused : (f : Fault) (at : ℕ) → stinted.Refused f at ≡ stints_answer p rs (length list) → refused_visits f at ≡ own_visits p rs
+  pub own-refused : (e : Refusal) → Err e ≡ stints_answer p rs (length list) → Err e ≡ own_visits p rs
   unfolding own_visits
-  own-refused f at said =
+  own-refused e said =
       by-checked (run_check p rs)
-      (λ run. absurd (never f at _ (said ∙ sym (stints-fit p rs list run (fits run)).0)))
-      (λ g place refused. rw refused (same f g at place (said ∙ sym (stints-refused p rs list g place refused).0)))
+      (λ run. absurd (never e _ (said ∙ sym (stints-fit p rs list run (fits run)).0)))
+      (λ g place refused. rw refused (same e g place (said ∙ sym (stints-refused p rs list g place refused).0)))
     where
-      never : (f : Fault) (at n : ℕ) → stinted.Refused f at ≡ stinted.Listed n → ⊥
-      never f at n e =
-          let z : ◌≡◌ {A = ℕ} 0 1 = cc in
-          omega arith
+      never : (e : Refusal) (n : ℕ) → ◌≡◌ {A = Result ℕ Refusal} (Err e) (Ok n) → ⊥
+      never e n h = cc
 
-      same : (f g : Fault) (i j : ℕ) → stinted.Refused f i ≡ stinted.Refused g j → refused_visits f i ≡ refused_visits g j
-      same f g i j e =
-          let fault : f ≡ g = cc in
-          let place : i ≡ j = cc in
-          rw (fault, place)
+      same : (e : Refusal) (g : Fault) (i : ℕ) → ◌≡◌ {A = Result ℕ Refusal} (Err e) (Refused g i)
+          → ◌≡◌ {A = Result OwnVisits Refusal} (Err e) (Refused g i)
+      same e g i h =
+          let is : e ≡ record { fault = g; at = i } = cc in
+          rw is

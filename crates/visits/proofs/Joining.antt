@@ -1,12 +1,13 @@
 -- The visits of stints, one stint after the other: what stands at the front of a list grows as the definition says.
 --     last_of vs             the last of vs; no visit where there is none
 --     EndedVisits vs               each has ended by day 1,000,000
-use Rattle.base.proofs.Prelude.{ℕ, zero, suc, ◌+◌, ◌-◌, ◌*◌, ◌/◌, ◌^◌, ◌≤◌, ◌<◌, ◌≡◌, refl, sym, ap, ◌∙◌, true, false, ◌&&◌, List, [], ◌∷◌, ◌++◌, map, map-append, arith, add-one, ltb, eqb, eqb-true, eq-eqb, ne_eqb, length, get_or, set, length-append, replicate}
+use Rattle.base.proofs.Prelude.{ℕ, zero, suc, ◌+◌, ◌-◌, ◌*◌, ◌/◌, ◌^◌, ◌≤◌, ◌<◌, ◌≡◌, refl, sym, ap, ◌∙◌, true, false, ◌&&◌, List, [], ◌∷◌, ◌++◌, map, map-append, arith, add-one, ltb, eqb, eqb-true, length, get_or, set, length-append, replicate}
+use Rattle.std.specs.Prelude.{Option, Some, None}
 use Rattle.base.specs.Count.{All, filled, up_from}
-use Rattle.base.proofs.{Filling.filled-set, Lists.{by_bool, and_left, and_right, and_both, true-not-false}}
+use Rattle.base.proofs.{Filling.filled-set, Lists.{by_bool, and_left, and_right, true-not-false}}
 use Rattle.rules.specs.{declared.Stint.Stint}
 use Rattle.run.specs.Numbers.{stint_at}
-use Rattle.visits.specs.{declared.Visit.Visit, declared.own.Placed.Placed, Visits.end_of_visit, Accepted.no_visit, OwnRun.{visit_of, stretch_joined, stint_ahead, stints_visits}, inner.Own.{stints_in, served_by, end_of_stint, follows, longer, visit_alone, with_stint, placed_by}}
+use Rattle.visits.specs.{declared.Visit.Visit, declared.OwnVisits.OwnVisits, Visits.end_of_visit, Accepted.no_visit, OwnRun.{visit_of, stretch_joined, stint_ahead, stints_visits, handed_out}, inner.Own.{stints_in, served_by, end_of_stint, follows, longer, visit_alone, with_stint, worked_visit, last_at, pushed}}
 
 -- ---- One stint more
 
@@ -91,11 +92,6 @@ last-read (a ∷ vs) =
     let less : suc (length vs) - 1 ≡ length vs = omega arith in
     ap (λ i. get_or (filled 3001 no_visit (a ∷ vs)) i no_visit) less ∙ last_some a vs (replicate (3001 - length (a ∷ vs)) no_visit)
 
-set_same : (xs : List Visit) (i : ℕ) → set xs i (get_or xs i no_visit) ≡ xs
-set_same [] i = refl
-set_same (x ∷ xs) zero = refl
-set_same (x ∷ xs) (suc i) = ap (λ l. x ∷ l) (set_same xs i)
-
 module _ (s : Stint) (works : eqb (served_by s) 0 ≡ false) where
   with-apart : (vs : List Visit) → follows (last_of vs) s ≡ false → with_stint vs s ≡ vs ++ (visit_alone s ∷ [])
   unfolding with_stint
@@ -114,96 +110,6 @@ module _ (s : Stint) (works : eqb (served_by s) 0 ≡ false) where
   longer-size a [] meets = rw (works, meets)
   longer-size a (b ∷ vs) meets = ap suc (longer-size b vs meets)
 
--- ---- Where it is written
-
-module _ (last : Visit) (n : ℕ) (s : Stint) (k m : ℕ) (serves : k ≡ served_by s) where
-  pub placed-idle : k ≡ 0 → m ≡ n - 1 → record { at = m; visit = last; count = n } ≡ placed_by last n s
-  unfolding placed_by
-  placed-idle none place = rw (eq-eqb (served_by s) 0 (sym serves ∙ none), place)
-
-  module _ (some : k ≡ 0 → ⊥) where
-    works : eqb (served_by s) 0 ≡ false
-    works = ne_eqb (served_by s) 0 (λ e. some (serves ∙ e))
-
-    pub placed-behind : (k ≡ last.release → s.first.0 ≡ end_of_visit last → ⊥)
-        → record { at = n; visit = visit_of k s.first.0 s.length.0; count = n + 1 } ≡ placed_by last n s
-    unfolding placed_by
-    placed-behind other =
-        by_bool (follows last s)
-        (λ meets.
-        let same = eqb-true (served_by s) last.release (and_left (eqb (served_by s) last.release) (eqb s.first.0 (end_of_visit last))
-        meets) in
-        let touch = eqb-true s.first.0 (end_of_visit last) (and_right (eqb (served_by s) last.release) (eqb s.first.0 (end_of_visit
-        last)) meets) in
-        absurd (other (serves ∙ same) touch))
-        (λ apart. rw (works, apart, serves))
-
-    pub placed-longer : k ≡ last.release → s.first.0 ≡ end_of_visit last → m ≡ n - 1
-        → record { at = m; visit = longer last s; count = n } ≡ placed_by last n s
-    unfolding placed_by
-    placed-longer same touch place =
-        let meets : follows last s ≡ true = and_both (eqb (served_by s) last.release) (eqb s.first.0 (end_of_visit last))
-        (eq-eqb (served_by s) last.release (sym serves ∙ same)) (eq-eqb s.first.0 (end_of_visit last) touch) in
-        rw (works, meets, place)
-
--- ---- What is written
-
-abbrev Written : List Visit → Stint → Placed → Type 0
-Written vs s r =
-    (set (filled 3001 no_visit vs) r.at r.visit ≡ filled 3001 no_visit (with_stint vs s)) × (r.count ≡ length (with_stint vs s))
-
-written_last : (vs : List Visit) (s : Stint) → length vs < 3001 → Written vs s (placed_by (last_of vs) (length vs) s)
-unfolding placed_by
-written_last vs s room =
-    by_bool (eqb (served_by s) 0)
-    (λ idle.
-    let read = last-read vs in
-    rw (idle, with-idle vs s idle)
-    (ap (set (filled 3001 no_visit vs) (length vs - 1)) (sym read) ∙ set_same (filled 3001 no_visit vs) (length vs - 1), refl))
-    (λ works.
-    by_bool (follows (last_of vs) s)
-    (λ meets. rw (works, meets) (grown vs works meets))
-    (λ apart.
-    let new = with-apart s works vs apart in
-    rw (works, apart, new) (filled-set 3001 no_visit (visit_alone s) vs room, sym (length-append vs (visit_alone s ∷ [])))))
-  where
-    grown : (us : List Visit) → eqb (served_by s) 0 ≡ false → follows (last_of us) s ≡ true
-        → (set (filled 3001 no_visit us) (length us - 1) (longer (last_of us) s) ≡ filled 3001 no_visit (with_stint us s))
-        × (length us ≡ length (with_stint us s))
-    grown [] works meets = absurd (true-not-false (sym (and_left (eqb (served_by s) 0) (eqb s.first.0 0) meets) ∙ works))
-    grown (a ∷ us) works meets =
-        let size = longer-size s works a us meets in
-        let less : suc (length us) - 1 ≡ length us = omega arith in (
-          ap (λ i. set (filled 3001 no_visit (a ∷ us)) i (longer (last_of (a ∷ us)) s)) less
-              ∙ with-longer s works a us (replicate (3001 - length (a ∷ us)) no_visit) meets
-              ∙ ap (λ m. with_stint (a ∷ us) s ++ replicate (3001 - m) no_visit) (sym size),
-          sym size,
-        )
-
-written_next : (vs : List Visit) (s : Stint) (last : Visit) (n : ℕ) → n ≡ length vs → n < 3001
-    → last ≡ get_or (filled 3001 no_visit vs) (n - 1) no_visit → Written vs s (placed_by last n s)
-written_next vs s last n counted room is =
-    let read : last ≡ last_of vs = is ∙ ap (λ m. get_or (filled 3001 no_visit vs) (m - 1) no_visit) counted
-    ∙ last-read vs in
-    rw (read, counted) (written_last vs s (omega (arith, counted)))
-
--- where the list holds the visits, and the stint was read
-pub written-here : (vs : List Visit) (s read : Stint) (list : List Visit) (n m : ℕ) (r : Placed) → list ≡ filled 3001 no_visit vs
-    → n ≡ length vs → n < 3001 → m ≡ n - 1 → read ≡ s → r ≡ placed_by (get_or list m no_visit) n read
-    → (set list r.at r.visit ≡ filled 3001 no_visit (with_stint vs s)) × (r.count ≡ length (with_stint vs s))
-written-here vs s read list n m r holds counted room place is said =
-    rw (said, holds, place, is) (written_next vs s (get_or (filled 3001 no_visit vs) (n - 1) no_visit) n counted room refl)
-
-pub placed-within : (last : Visit) (n : ℕ) (s : Stint) (r : Placed) → r ≡ placed_by last n s → (r.at ≤ n) × (r.count ≤ n + 1)
-unfolding placed_by
-placed-within last n s r said =
-    by_bool (eqb (served_by s) 0)
-    (λ idle. rw (said, idle) (omega arith, omega arith))
-    (λ works.
-    by_bool (follows last s)
-    (λ meets. rw (said, works, meets) (omega arith, omega arith))
-    (λ apart. rw (said, works, apart) (omega arith, omega arith)))
-
 -- ---- Days
 
 abbrev pub EndedVisits : List Visit → Type 0
@@ -214,12 +120,81 @@ last-ends [] h = omega arith
 last-ends (a ∷ []) h = h.0
 last-ends (a ∷ b ∷ vs) h = last-ends (b ∷ vs) h.1
 
-pub last_within : (vs list : List Visit) (n m : ℕ) → list ≡ filled 3001 no_visit vs → n ≡ length vs → m ≡ n - 1 → EndedVisits vs
-    → end_of_visit (get_or list m no_visit) ≤ 1000000
-last_within vs list n m holds counted place ends =
-    let read : get_or list m no_visit ≡ last_of vs = ap (λ l. get_or l m no_visit) holds
-    ∙ ap (λ i. get_or (filled 3001 no_visit vs) i no_visit) (place ∙ ap (λ k. k - 1) counted) ∙ last-read vs in
-    rw read (last-ends vs ends)
+-- ---- What is handed out
+
+pub with-few : (vs : List Visit) (s : Stint) → length (with_stint vs s) ≤ length vs + 1
+unfolding with_stint
+with-few [] s = by_bool (eqb (served_by s) 0) (λ idle. rw idle (omega arith)) (λ works. rw works (omega arith))
+with-few (a ∷ []) s =
+    by_bool (eqb (served_by s) 0)
+    (λ idle. rw idle (omega arith))
+    (λ works. by_bool (follows a s) (λ meets. rw (works, meets) (omega arith)) (λ apart. rw (works, apart) (omega arith)))
+with-few (a ∷ b ∷ vs) s = omega (arith, with-few (b ∷ vs) s)
+
+module _ (s : Stint) (works : eqb (served_by s) 0 ≡ false) where
+  pushed-longer : (vs : List Visit) → follows (last_of vs) s ≡ true
+      → record { count = length vs; list = set (filled 3001 no_visit vs) (length vs - 1) (longer (last_of vs) s) }
+      ≡ handed_out (with_stint vs s)
+  pushed-longer [] meets = absurd (true-not-false (sym (and_left (eqb (served_by s) 0) (eqb s.first.0 0) meets) ∙ works))
+  pushed-longer (a ∷ vs) meets =
+      let size = longer-size s works a vs meets in
+      let less : suc (length vs) - 1 ≡ length vs = omega arith in
+      let list : set (filled 3001 no_visit (a ∷ vs)) (length (a ∷ vs) - 1) (longer (last_of (a ∷ vs)) s)
+      ≡ filled 3001 no_visit (with_stint (a ∷ vs) s) =
+      ap (λ i. set (filled 3001 no_visit (a ∷ vs)) i (longer (last_of (a ∷ vs)) s)) less
+      ∙ with-longer s works a vs (replicate (3001 - length (a ∷ vs)) no_visit) meets
+      ∙ ap (λ m. with_stint (a ∷ vs) s ++ replicate (3001 - m) no_visit) (sym size) in
+      ap (λ l. record { count = length (a ∷ vs); list = l }) list
+      ∙ ap (λ n. record { count = n; list = filled 3001 no_visit (with_stint (a ∷ vs) s) }) (sym size)
+
+  pushed-alone : (vs : List Visit) → length vs < 3001 → pushed (handed_out vs) (visit_alone s) ≡ handed_out (with_stint vs s)
+  unfolding pushed
+  pushed-alone vs room =
+      let read = last-read vs in
+      by_bool (follows (last_of vs) s)
+      (λ meets. rw (read, meets) (pushed-longer vs meets))
+      (λ apart.
+      let new = with-apart s works vs apart in
+      let list = filled-set 3001 no_visit (visit_alone s) vs room in
+      let size = sym (length-append vs (visit_alone s ∷ [])) in
+      rw (read, apart, new)
+      (ap (λ l. record { count = length vs + 1; list = l }) list
+      ∙ ap (λ n. record { count = n; list = filled 3001 no_visit (vs ++ (visit_alone s ∷ [])) }) size))
+
+-- where the visits are handed out, and a stint comes: it is pushed, or it is idle
+pub pushed-more : (vs : List Visit) (s : Stint) (v : Visit) (own : OwnVisits) → own ≡ handed_out vs → length vs < 3001
+    → Some v ≡ worked_visit s → pushed own v ≡ handed_out (with_stint vs s)
+unfolding worked_visit
+pushed-more vs s v own is room said =
+    by_bool (eqb (served_by s) 0)
+    (λ idle.
+    let none = rw idle at said in
+    absurd (never v none))
+    (λ works.
+    let some = rw works at said in
+    rw (is, same v (visit_alone s) some) (pushed-alone s works vs room))
+  where
+    never : (v : Visit) → ◌≡◌ {A = Option Visit} (Some v) None → ⊥
+    never v e = cc
+
+    same : (v w : Visit) → ◌≡◌ {A = Option Visit} (Some v) (Some w) → v ≡ w
+    same v w e = cc
+
+pub idle-more : (vs : List Visit) (s : Stint) (own : OwnVisits) → own ≡ handed_out vs → None ≡ worked_visit s
+    → own ≡ handed_out (with_stint vs s)
+unfolding worked_visit
+idle-more vs s own is said =
+    by_bool (eqb (served_by s) 0)
+    (λ idle. is ∙ ap handed_out (sym (with-idle vs s idle)))
+    (λ works.
+    let some = rw works at said in
+    absurd (never (visit_alone s) some))
+  where
+    never : (v : Visit) → ◌≡◌ {A = Option Visit} None (Some v) → ⊥
+    never v e = cc
+
+pub pushed-room : (vs : List Visit) (own : OwnVisits) → own ≡ handed_out vs → EndedVisits vs → end_of_visit (last_at own) ≤ 1000000
+pushed-room vs own is ends = rw (is, last-read vs) (last-ends vs ends)
 
 pub ends_more : (vs : List Visit) (s : Stint) → EndedVisits vs → end_of_stint s ≤ 1000000 → EndedVisits (with_stint vs s)
 unfolding with_stint
@@ -236,6 +211,46 @@ ends_more (a ∷ []) s h last =
     rw (works, meets) (ends, tt))
     (λ apart. rw (works, apart) (h.0, (last, tt))))
 ends_more (a ∷ b ∷ vs) s h last = (h.0, ends_more (b ∷ vs) s h.1 last)
+
+pub worked-ends : (s : Stint) (v : Visit) → Some v ≡ worked_visit s → end_of_visit v ≡ end_of_stint s
+unfolding worked_visit
+worked-ends s v said =
+    by_bool (eqb (served_by s) 0)
+    (λ idle.
+    let none = rw idle at said in
+    absurd (never v none))
+    (λ works.
+    let some = rw works at said in
+    ap end_of_visit (same v (visit_alone s) some))
+  where
+    never : (v : Visit) → ◌≡◌ {A = Option Visit} (Some v) None → ⊥
+    never v e = cc
+
+    same : (v w : Visit) → ◌≡◌ {A = Option Visit} (Some v) (Some w) → v ≡ w
+    same v w e = cc
+
+-- how far the stints of a list of numbers are handed out
+pub record HandedTo (numbers : List ℕ) (i : ℕ) (own : OwnVisits) : Type 0 where
+  pub said : own ≡ handed_out (stints_visits (stints_in numbers i))
+  pub few : length (stints_visits (stints_in numbers i)) ≤ i
+  pub ends : EndedVisits (stints_visits (stints_in numbers i))
+
+pub handed-none : (numbers : List ℕ) → HandedTo numbers 0 (handed_out [])
+unfolding up_from stints_visits
+handed-none numbers = record { said = refl; few = omega arith; ends = tt }
+
+pub handed-more : (numbers : List ℕ) (i : ℕ) (own next : OwnVisits) → HandedTo numbers i own → end_of_stint (stint_at numbers i) ≤ 1000000
+    → next ≡ handed_out (with_stint (stints_visits (stints_in numbers i)) (stint_at numbers i)) → HandedTo numbers (i + 1) next
+handed-more numbers i own next h last is =
+    let vs = stints_visits (stints_in numbers i) in
+    let s = stint_at numbers i in
+    let more : stints_visits (stints_in numbers (i + 1)) ≡ with_stint vs s =
+    ap stints_visits (read_more numbers i) ∙ visits-more (stints_in numbers i) s in
+    record {
+      said = is ∙ ap handed_out (sym more);
+      few = rw more (omega (arith, with-few vs s, h.few));
+      ends = rw more (ends_more vs s h.ends last);
+    }
 
 -- ---- A release that a list of numbers names is one of them
 

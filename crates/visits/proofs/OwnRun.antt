@@ -1,11 +1,23 @@
 -- The visits of our own clean run are accepted, where all moving costs are 0 and every deadline lies within the run: each day is for a
 -- release that has joined and is not yet due, and each release has had exactly its need.
 use Rattle.base.proofs.Prelude.{ℕ, zero, suc, ◌+◌, ◌-◌, ◌*◌, ◌≤◌, ◌<◌, ◌≡◌, refl, sym, ap, ◌∙◌, subst, Bool, true, false, cond, ◌&&◌, List, [], ◌∷◌, ◌++◌, arith, ℕ_discrete, eqb, length, eqb-true, eqb-false, eq-eqb, ne_eqb, zero-mul, le_refl, min}
+use Rattle.faults.specs.Checks.{Lawful}
+use Rattle.std.specs.Prelude.{Ok}
 use Rattle.base.specs.Count.{sum_of, keep, count_of}
 use Rattle.base.proofs.{Lists.{All, by_bool, and_left, and_right, and_both, all_map, all-at}, Order.Rising}
 use Rattle.days.specs.{declared.Length.Length, Days.{day, days}}
-use Rattle.faults.specs.declared.Checked.TheVariants.{Lawful}
-use Rattle.rules.specs.{declared.Plan.Plan, declared.Release.Release, declared.Use.Use, declared.Releases.Releases, declared.Use.TheVariants.{Idle, Work, Move}, declared.Outcome.TheVariants.Clean, declared.AskedOutcome.TheVariants.Given, Plan.{strings_of, string_at, no_string}, Demand.moving_cost, Release.{releases_of, first_unlawful, released, deadline_of}, Run.{history, use_on, miss_day}, Refusal.run_answer, Stints.{release_used, days_run}}
+use Rattle.rules.specs.declared.Plan.{Plan}
+use Rattle.rules.specs.declared.Release.{Release}
+use Rattle.rules.specs.declared.Use.{Use}
+use Rattle.rules.specs.declared.Releases.{Releases}
+use Rattle.rules.specs.declared.Use.TheVariants.{Idle, Work, Move}
+use Rattle.rules.specs.declared.Outcome.TheVariants.{Clean}
+use Rattle.rules.specs.Plan.{strings_of, string_at, no_string}
+use Rattle.rules.specs.Demand.{moving_cost}
+use Rattle.rules.specs.Release.{releases_of, first_unlawful, released, deadline_of}
+use Rattle.rules.specs.Run.{history, use_on, miss_day}
+use Rattle.rules.specs.Refusal.{run_answer}
+use Rattle.rules.specs.Stints.{release_used, days_run}
 use Rattle.laws.proofs.{Lawful.LawfulPlan, History.{history-length, miss_day-none}, Releases.run_check-lawful, ReleaseList.release-lawful}
 use Rattle.sound.specs.Served.{works_for, moves_for, moving_caused, paid, Named}
 use Rattle.sound.proofs.{Clean.Punctual, CleanAnswer.answer-clean, Naming.day-named, Served.served-punctual}
@@ -251,7 +263,7 @@ free-here p rs listed free k low high =
     all-at (λ s. moving_cost p s ≡ 0) (strings_of p) no_string free ((released rs k).place - 1) (omega (arith, r.within, r.place_pos))
 
 -- all moving costs 0, every deadline inside the run, the run clean: its visits are accepted
-pub clean-run-accepted : (p : Plan) (rs : Releases) (w m i : Length) → run_answer p rs ≡ Given (Clean w m i)
+pub clean-run-accepted : (p : Plan) (rs : Releases) (w m i : Length) → run_answer p rs ≡ Ok (Clean w m i)
     → All (λ s. moving_cost p s ≡ 0) (strings_of p)
     → ((k : ℕ) → 1 ≤ k → k ≤ length (releases_of rs) → deadline_of p (released (releases_of rs) k) ≤ p.run.0)
     → visits_check p rs (run_visits p (releases_of rs)) ≡ Lawful

@@ -3,12 +3,23 @@
 --     visit_row v            its line
 --     ShortVisit v               they have at most four, six and seven digits, as those of a run have
 use Rattle.base.proofs.Prelude.{ℕ, suc, ◌+◌, ◌*◌, ◌^◌, ◌≤◌, ◌<◌, ◌≡◌, refl, sym, ap, ◌∙◌, true, ◌&&◌, List, [], ◌∷◌, ◌++◌, map, arith, eqb, get_or, length, length-append, length-take}
+use Rattle.faults.specs.Checks.{Lawful}
+use Rattle.std.specs.Prelude.{Ok}
 use mathlib.Core.List.{flat_map}
 use Rattle.base.specs.Count.{All}
 use Rattle.base.proofs.Lists.{by_bool, all-by}
 use Rattle.days.specs.declared.Length.{Length}
-use Rattle.faults.specs.declared.Checked.TheVariants.{Lawful}
-use Rattle.rules.specs.{declared.Plan.Plan, declared.Releases.Releases, declared.Stint.Stint, declared.Outcome.TheVariants.Clean, declared.AskedOutcome.TheVariants.Given, Plan.strings_of, Demand.moving_cost, Release.{releases_of, released, deadline_of}, Refusal.{run_answer}, Lines.{bytes_of, decimal, worded_in}, Text.{Line, lines_of}, Stints.{run_stints, release_used}}
+use Rattle.rules.specs.declared.Plan.{Plan}
+use Rattle.rules.specs.declared.Releases.{Releases}
+use Rattle.rules.specs.declared.Stint.{Stint}
+use Rattle.rules.specs.declared.Outcome.TheVariants.{Clean}
+use Rattle.rules.specs.Plan.{strings_of}
+use Rattle.rules.specs.Demand.{moving_cost}
+use Rattle.rules.specs.Release.{releases_of, released, deadline_of}
+use Rattle.rules.specs.Refusal.{run_answer}
+use Rattle.rules.specs.Lines.{bytes_of, decimal, worded_in}
+use Rattle.rules.specs.Text.{Line, lines_of}
+use Rattle.rules.specs.Stints.{run_stints, release_used}
 use Rattle.laws.proofs.{Releases.run_check-lawful, LineTexts.{line_bytes, text_of_lines, EndedLine, NoEnd, lines-said}}
 use Rattle.lines.specs.Visits.{visit_line}
 use Rattle.register.proofs.{Joined.commaed-tail, RowBack.{numbers_line, decimal-said, decimal-long, line-fields-said, line-formed, line-no-end}}
@@ -126,7 +137,7 @@ visits-few (s ∷ ss) =
         (λ other. rw other (omega arith))
 
 -- all moving costs 0, every deadline inside the run, the run clean: the text of its visits is accepted
-pub own-text-accepted : (p : Plan) (rs : Releases) (w m i : Length) → run_answer p rs ≡ Given (Clean w m i)
+pub own-text-accepted : (p : Plan) (rs : Releases) (w m i : Length) → run_answer p rs ≡ Ok (Clean w m i)
     → All (λ s. moving_cost p s ≡ 0) (strings_of p)
     → ((k : ℕ) → 1 ≤ k → k ≤ length (releases_of rs) → deadline_of p (released (releases_of rs) k) ≤ p.run.0)
     → visit_text_check p rs (visits_text (run_visits p (releases_of rs))) ≡ Lawful

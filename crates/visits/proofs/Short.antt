@@ -1,34 +1,42 @@
--- Laws of the first release of the book that has not had what is asked for, for the loop that looks for it.
-use Rattle.base.proofs.Prelude.{ℕ, zero, suc, ◌+◌, ◌-◌, ◌≤◌, ◌≡◌, sym, ap, ◌∙◌, ◌≢◌, not, List, arith, eq-eqb, ne_eqb, eqb, add-one}
+-- The first account that has not had what is asked for: where it stands, from 0, and the number of its release, from 1.
+use Rattle.base.proofs.Prelude.{ℕ, zero, suc, ◌+◌, ◌<◌, ◌≡◌, sym, ap, ◌∙◌, Bool, true, false, List, [], ◌∷◌, arith, leb, le-leb, lt-leb, length, get_or}
+use Rattle.std.specs.Prelude.{position}
+use Rattle.std.specs.List.{position_from}
+use Rattle.std.proofs.lemmas.Iterator.Adapters.{position_from-zero}
 use Rattle.base.specs.Count.{least_from}
-use Rattle.base.proofs.Least.{least_from-here, least_from-later}
-use Rattle.visits.specs.inner.Book.{book_at, had, asked_at, short_in}
+use Rattle.base.proofs.{Lists.by_bool}
+use Rattle.faults.specs.Checks.{refuse_if}
+use Rattle.faults.specs.declared.Fault.TheVariants.{SumDiffers}
+use Rattle.visits.specs.{declared.book.Account.Account, inner.Book.{no_account, short_of, short_check}}
 
-module _ (book : List ℕ) (k count : ℕ) where
-  -- with n releases left, and with as many as there are
-  pub short-left : (n : ℕ) → n ≡ count + 1 - k → short_in book k n ≡ short_in book k (count + 1 - k)
-  short-left n e = ap (short_in book k) e
+short-from : (f : ℕ → Bool) (i n m : ℕ) (accounts : List Account) → length accounts ≡ n → i + n ≡ m
+    → ((j : ℕ) → j < n → short_of (get_or accounts j no_account) ≡ f (suc i + j))
+    → short_check (position_from short_of i accounts) ≡ refuse_if (leb (least_from f (suc i) n) m) SumDiffers (least_from f (suc i) n)
+unfolding least_from
+short-from f i zero m [] size all agree =
+    let over : leb (suc i) m ≡ false = lt-leb (suc i) m (omega arith) in
+    rw over
+short-from f i zero m (a ∷ accounts) size all agree = absurd (omega arith)
+short-from f i (suc n) m [] size all agree = absurd (omega arith)
+short-from f i (suc n) m (a ∷ accounts) size all agree =
+    let here : suc i + 0 ≡ suc i = omega arith in
+    let this : f (suc i) ≡ short_of a = ap f (sym here) ∙ sym (agree 0 (omega arith)) in
+    let next : i + 1 ≡ suc i = omega arith in
+    let within : leb (suc i) m ≡ true = le-leb (suc i) m (omega arith) in
+    by_bool (short_of a)
+    (λ t. rw (this, t, within, next))
+    (λ e.
+    rw (this, e, next)
+    (short-from f (suc i) n m accounts (omega arith) (omega arith)
+    (λ j h.
+    let more : suc i + suc j ≡ suc (suc i) + j = omega arith in
+    agree (suc j) (omega arith) ∙ ap f more)))
 
-  pub short-here : k ≤ count → book_at book (had k) ≢ book_at book (asked_at k) → short_in book k (count + 1 - k) ≡ k
-  unfolding short_in
-  short-here h differ =
-      let more : suc (count - k) ≡ count + 1 - k = omega arith in
-      sym (short-left (suc (count - k)) more)
-      ∙ least_from-here (λ m. not (eqb (book_at book (had m)) (book_at book (asked_at m)))) k (count - k) (ap not (ne_eqb _ _ differ))
-
-  pub short-later : k ≤ count → book_at book (had k) ≡ book_at book (asked_at k)
-      → short_in book k (count + 1 - k) ≡ short_in book (k + 1) (count + 1 - (k + 1))
-  unfolding short_in
-  short-later h same =
-      let more : suc (count - k) ≡ count + 1 - k = omega arith in
-      let less : count - k ≡ count + 1 - (k + 1) = omega arith in
-      sym (short-left (suc (count - k)) more)
-      ∙ least_from-later (λ m. not (eqb (book_at book (had m)) (book_at book (asked_at m)))) k (count - k) (ap not (eq-eqb _ _ same))
-      ∙ ap (λ n. short_in book (suc k) n) less
-      ∙ ap (λ m. short_in book m (count + 1 - (k + 1))) (sym (add-one k))
-
-  pub short-end : count + 1 ≤ k → short_in book k (count + 1 - k) ≡ k
-  unfolding short_in least_from
-  short-end h =
-      let none : zero ≡ count + 1 - k = omega arith in
-      sym (short-left zero none)
+pub short-first : (f : ℕ → Bool) (n : ℕ) (accounts : List Account) → length accounts ≡ n
+    → ((j : ℕ) → j < n → short_of (get_or accounts j no_account) ≡ f (suc j))
+    → short_check (position short_of accounts) ≡ refuse_if (leb (least_from f 1 n) n) SumDiffers (least_from f 1 n)
+short-first f n accounts size agree = rw (position_from-zero short_of accounts)
+    (short-from f 0 n n accounts size (omega arith)
+    (λ j h.
+    let one : suc j ≡ 1 + j = omega arith in
+    agree j h ∙ ap f one))

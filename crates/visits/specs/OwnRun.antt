@@ -9,12 +9,11 @@
 --     stints_visits ss       the visits of stints, idle ones left out. Of a run's stints they are its visits (`stints-visits`)
 --     own_visits p rs        what is handed out: 4 to 8 as for a run; else how many visits the run has, at most 3,001, and these, first in
 --                           a list of so many places
-use Rattle.std.specs.Prelude.{ℕ, suc, ◌+◌, cond, ◌&&◌, List, [], ◌∷◌, eqb, length, replicate}
+use Rattle.std.specs.Prelude.{ℕ, suc, ◌+◌, cond, ◌&&◌, List, [], ◌∷◌, eqb, length, Result, Ok}
+use Rattle.faults.specs.Checks.{Refused, or_refused}
+use Rattle.faults.specs.declared.Refusal.{Refusal}
 use Rattle.base.specs.Count.{filled}
 use Rattle.days.specs.Days.{day, days}
-use Rattle.faults.specs.declared.Fault.{Fault}
-use Rattle.faults.specs.declared.Checked.TheVariants as checked
-use Rattle.faults.specs.Checks.{or_refused}
 use Rattle.rules.specs.declared.Plan.{Plan}
 use Rattle.rules.specs.declared.Release.{Release}
 use Rattle.rules.specs.declared.Releases.{Releases}
@@ -72,11 +71,8 @@ stints_visits (s ∷ ss) = stint_ahead s (stints_visits ss)
 
 -- ---- Handed out
 
-abbrev pub refused_visits : Fault → ℕ → OwnVisits
-refused_visits f at = record { checked = checked.Refused f at; count = 0; list = replicate 3001 no_visit }
-
 abbrev pub handed_out : List Visit → OwnVisits
-handed_out vs = record { checked = checked.Lawful; count = length vs; list = filled 3001 no_visit vs }
+handed_out vs = record { count = length vs; list = filled 3001 no_visit vs }
 
-unfoldable pub own_visits : Plan → Releases → OwnVisits
-own_visits p rs = or_refused refused_visits (run_check p rs) (handed_out (run_visits p (releases_of rs)))
+unfoldable pub own_visits : Plan → Releases → Result OwnVisits Refusal
+own_visits p rs = or_refused Refused (run_check p rs) (Ok (handed_out (run_visits p (releases_of rs))))

@@ -10,11 +10,10 @@
 --                           release
 --     visit_files_check plan text the same for a plan file: 1 to 8 as in reading it come first
 use Rattle.std.specs.Prelude.{ℕ, suc, Bool, not, ltb, length, get_or}
+use Rattle.faults.specs.Checks.{Lawful, Checked}
 use mathlib.Core.List.{List, [], ◌∷◌, map, flat_map}
 use Rattle.days.specs.Days.{day, days}
 use Rattle.base.specs.Digits.{decimal_in}
-use Rattle.faults.specs.declared.Checked.{Checked}
-use Rattle.faults.specs.declared.Checked.TheVariants.{Lawful}
 use Rattle.faults.specs.declared.Fault.TheVariants.{TextTooLong, RowMalformed}
 use Rattle.faults.specs.Checks.{refuse_if, then}
 use Rattle.rules.specs.declared.Plan.{Plan}

@@ -16,8 +16,8 @@
 --     visits_check p rs vs   4 to 8 on the plan and its releases; then 14 with the number of the record; then 15 with the release
 -- Whether a string may take the bank, its X, plays no part.
 use Rattle.std.specs.Prelude.{ℕ, suc, ◌+◌, ◌-◌, ◌*◌, Bool, not, cond, ◌&&◌, List, [], ◌∷◌, leb, ltb, eqb, length}
+use Rattle.faults.specs.Checks.{Checked}
 use Rattle.base.specs.Count.{sum_of, any, keep, least_from}
-use Rattle.faults.specs.declared.Checked.{Checked}
 use Rattle.faults.specs.declared.Fault.TheVariants.{VisitUnlawful, SumDiffers}
 use Rattle.faults.specs.Checks.{in_bounds, refuse_if, then}
 use Rattle.rules.specs.declared.Plan.{Plan}

@@ -8,7 +8,7 @@ mod texts; // texts.rt: a list as a text
 ghost use Rattle.std.specs.Prelude.{◌≡◌};
 ghost use Rattle.visits.specs.Visits.{visits_check};
 
-use book::{blank_book, judged, opened, visited};
+use book::Book;
 use days::{Day, Length};
 use faults::Checked;
 pub use own::own_visits;
@@ -23,10 +23,9 @@ pub struct Visit {
     pub length: Length,
 }
 
-// The visits of our own run: whether they were refused and, where they were not, how many there are; they stand first in the list.
+// The visits of our own run: how many there are; they stand first in the list.
 #[derive(Clone, Copy)]
 pub struct OwnVisits {
-    pub checked: Checked,
     pub count: usize,
     pub list: [Visit; 3001],
 }
@@ -36,12 +35,9 @@ pub struct OwnVisits {
 pub fn check_visits(p: Plan, rs: Releases, visits: &[Visit]) -> Checked
     ensures exact { (result ≡ visits_check p rs visits.now) × (visits.exit.now ≡ visits.entry.now) }
 {
-    let mut book = blank_book();
-    let mut standing = opened(p, rs, &mut book);
-    let mut i: usize = 0;
-    while i < visits.len() {
-        standing = visited(&mut book, standing, visits[i], i + 1);
-        i += 1;
+    let mut book = Book::opened(p, rs)?;
+    for (i, v) in visits.iter().enumerate() {
+        book.visited(*v, i + 1)?;
     }
-    judged(book, standing)
+    book.sums_checked()
 }

@@ -2,13 +2,13 @@
 ghost use Rattle.std.specs.Prelude.{◌≡◌, ◌+◌, ◌-◌, ◌≤◌, ◌<◌, ◌^◌};
 ghost use Rattle.rules.specs.Stints.{release_used};
 ghost use Rattle.visits.specs.Visits.{end_of_visit};
-ghost use Rattle.visits.specs.OwnRun.{visit_of, stints_visits, refused_visits, handed_out, own_visits};
-ghost use Rattle.visits.specs.inner.Own.{stints_in, end_of_stint, StintsEnd, placed_by};
+ghost use Rattle.visits.specs.OwnRun.{stints_visits, handed_out, own_visits};
+ghost use Rattle.visits.specs.inner.Own.{stints_in, StintsEnd, worked_visit, last_at, pushed};
 
 use super::{OwnVisits, Visit};
 use days::{Day, Length};
-use faults::{Checked, Fault};
-use rules::{Plan, Releases, Stint, Stinted, Use};
+use faults::Refusal;
+use rules::{Plan, Releases, Stint, Use};
 use run::stint_at;
 
 const NO_VISIT: Visit = Visit {
@@ -16,14 +16,6 @@ const NO_VISIT: Visit = Visit {
     first: Day(0),
     length: Length(0),
 };
-
-// Where a visit goes, the visit, and how many there are then.
-#[derive(Clone, Copy)]
-pub(crate) struct Placed {
-    pub(crate) at: usize,
-    pub(crate) visit: Visit,
-    pub(crate) count: usize,
-}
 
 // The release that a use serves; 0 for none.
 fn release_of(used: Use) -> u32
@@ -37,66 +29,43 @@ fn release_of(used: Use) -> u32
     }
 }
 
-// The place of the last of so many; the first where there is none.
-fn last_place(count: usize) -> usize
-    ensures exact { result ≡ count - 1 }
+// The visit that a stint is; an idle one is none.
+#[tactic(auto, unfolding(crate::specs::inner::Own::worked_visit))]
+fn visit_of(s: Stint) -> Option<Visit>
+    requires { release_used s.used < 2 ^ 32 }
+    ensures exact { result ≡ worked_visit s }
 {
-    if count == 0 {
-        return 0;
-    }
-    count - 1
-}
-
-// A visit behind so many.
-fn behind(count: usize, release: u32, first: u32, length: u32) -> Placed
-    requires { count < 3001 }
-    ensures exact { result ≡ record { at = count; visit = visit_of release first length; count = count + 1 } }
-{
-    Placed {
-        at: count,
-        visit: Visit {
-            release,
-            first: Day(first),
-            length: Length(length),
-        },
-        count: count + 1,
-    }
-}
-
-// A stint behind so many visits: idle, it changes nothing; touching the last one, of the same release, it makes it longer; else it is a
-// visit of its own.
-fn place_stint(last: Visit, count: usize, s: Stint) -> Placed
-    requires used_bound { release_used s.used < 2 ^ 32 }
-    requires last_bound { end_of_visit last ≤ 1000000 }
-    requires s_bound { end_of_stint s ≤ 1000000 }
-    requires count_bound { count < 3001 }
-    ensures exact { result ≡ placed_by last count s }
-{
-    let used = s.used;
-    let release = release_of(used);
-    let first = s.first.0;
-    let length = s.length.0;
+    let release = release_of(s.used);
     if release == 0 {
-        return Placed {
-            at: last_place(count),
-            visit: last,
-            count,
-        };
+        return None;
     }
-    if release != last.release {
-        return behind(count, release, first, length);
-    }
-    if first != last.first.0 + last.length.0 {
-        return behind(count, release, first, length);
-    }
-    Placed {
-        at: last_place(count),
-        visit: Visit {
-            release: last.release,
-            first: Day(last.first.0),
-            length: Length(last.length.0 + length),
-        },
-        count,
+    Some(Visit {
+        release,
+        first: s.first,
+        length: s.length,
+    })
+}
+
+impl OwnVisits {
+    // One visit more: where it touches the last one, of the same release, that one becomes longer.
+    #[tactic(auto, unfolding(crate::specs::inner::Own::pushed))]
+    fn push(&mut self, v: Visit)
+        requires count_bound { self.old.count < 3001 }
+        requires last_bound { end_of_visit (last_at self.old) ≤ 1000000 }
+        requires v_bound { end_of_visit v ≤ 1000000 }
+        ensures exact { self.new ≡ pushed self.old v }
+    {
+        let at = self.count.saturating_sub(1);
+        let last = self.list[at];
+        if v.release == last.release && v.first.0 == last.first.0 + last.length.0 {
+            self.list[at] = Visit {
+                length: Length(last.length.0 + v.length.0),
+                ..last
+            };
+        } else {
+            self.list[self.count] = v;
+            self.count += 1;
+        }
     }
 }
 
@@ -106,43 +75,23 @@ fn joined(numbers: &[u32], stints: usize) -> OwnVisits
     requires stints_end { StintsEnd numbers.now stints }
     ensures exact { result ≡ handed_out (stints_visits (stints_in numbers.now stints)) }
 {
-    let mut list = [NO_VISIT; 3001];
-    let mut count: usize = 0;
-    let mut i: usize = 0;
-    while i < stints {
-        let last = list[last_place(count)];
-        let next = place_stint(last, count, stint_at(numbers, i));
-        let at = next.at;
-        let visit = next.visit;
-        list[at] = visit;
-        count = next.count;
-        i += 1;
-    }
-    OwnVisits {
-        checked: Checked::Lawful,
-        count,
-        list,
-    }
-}
-
-fn refused(fault: Fault, at: usize) -> OwnVisits
-    ensures exact { result ≡ refused_visits fault at }
-{
-    OwnVisits {
-        checked: Checked::Refused { fault, at },
+    let mut own = OwnVisits {
         count: 0,
         list: [NO_VISIT; 3001],
+    };
+    for i in 0..stints {
+        if let Some(visit) = visit_of(stint_at(numbers, i)) {
+            own.push(visit);
+        }
     }
+    own
 }
 
 // The visits of our own run; 4 to 8 on the plan and its releases. Of a run that misses, those up to the miss.
-pub fn own_visits(p: Plan, rs: Releases) -> OwnVisits
+pub fn own_visits(p: Plan, rs: Releases) -> Result<OwnVisits, Refusal>
     ensures exact { result ≡ own_visits p rs }
 {
     let mut numbers = [0u32; 15005];
-    let stinted = run::stints(p, rs, &mut numbers);
-    match stinted {
-        Stinted::Refused { fault, at } => refused(fault, at),
-        Stinted::Listed { stints } => joined(&numbers, stints),
-    }
+    let stints = run::stints(p, rs, &mut numbers)?;
+    Ok(joined(&numbers, stints))
 }

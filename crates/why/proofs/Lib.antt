@@ -1,8 +1,7 @@
--- Shares: the numbers of a pair add up. Stretching, LongestBlock, Blockings, Tightest, Gated, Standing: laws for the loops and the lines.
+-- Shares: the numbers of a pair add up. LongestBlock, Walking, Chains, Tightest, Stretching: laws for the loops and the chains.
 pub mod Shares
 pub mod LongestBlock
-pub mod Blockings
-pub mod Tightest
 pub mod Stretching
-pub mod Gated
-pub mod Standing
+pub mod Walking
+pub mod Chains
+pub mod Tightest

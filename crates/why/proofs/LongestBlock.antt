@@ -25,23 +25,6 @@ module _ (p : Plan) (ready : Ready p) where
   at_place : (i : ℕ) → i < p.n → get_or (strings_of p) i no_string ≡ get_or p.strings i no_string
   at_place i h = get_or-take p.n p.strings i no_string h
 
-  pub leeway_min-at : (i : ℕ) → i < p.n → leeway_min p ≤ leeway (get_or p.strings i no_string)
-  unfolding leeway_min
-  leeway_min-at i h =
-      let inside : i < length (strings_of p) = omega (arith, strings-count p ready) in
-      let there = all-at (λ s. smallest leeway (strings_of p) ≤ leeway s)
-      (strings_of p) no_string (smallest-le leeway (strings_of p)) i inside in
-      rw (at_place i h) at there
-
-  pub leeway_min-above : (l : ℕ) → ((j : ℕ) → j < p.n → l < leeway (get_or p.strings j no_string)) → l < leeway_min p
-  unfolding leeway_min
-  leeway_min-above l each =
-      let count = strings-count p ready in
-      smallest-above leeway l (strings_of p) (omega (arith, ready.lawful.n_pos))
-      (all-by (λ s. l < leeway s) (strings_of p) no_string λ j h.
-      let h : j < p.n = omega arith in
-      rw (at_place j h) (each j h))
-
   -- from the largest D on nobody blocks
   none-blocks : (l : ℕ) → d_max p ≤ l → largest (blocker_hold p l) (strings_of p) ≡ 0
   unfolding d_max

@@ -1,12 +1,12 @@
 -- The walk over all pairs that keeps the first with the least to spare ends with the tightest pair.
-use Rattle.base.proofs.Prelude.{ℕ, suc, ◌+◌, ◌-◌, ◌≤◌, ◌<◌, min, zero-le, ◌≡◌, refl, sym, ap, ◌∙◌, Bool, cond, List, [], ◌∷◌, ◌++◌, some, arith, add-one, dec_le, ℕ_discrete, ltb, eqb, lt-ltb, le-ltb, eq-eqb, ne_eqb}
+use Rattle.base.proofs.Prelude.{ℕ, suc, ◌+◌, ◌-◌, ◌≤◌, ◌<◌, min, zero-le, ◌≡◌, refl, sym, ap, ◌∙◌, Bool, true, false, cond, List, [], ◌∷◌, ◌++◌, some, arith, add-one, dec_le, ℕ_discrete, ltb, eqb, lt-ltb, le-ltb, eq-eqb, ne_eqb}
 use Rattle.base.specs.Count.{smallest, smallest_with, first_of}
 use Rattle.base.proofs.{Lists.{by_bool, smallest_with-le}, FirstOf.{first_of-here, first_of-later}}
 use Rattle.rules.specs.{declared.Plan.Plan, Plan.{multiple_of, d_max}, Demand.block_limit, Verdict.{Pair, all_pairs}}
 use Rattle.demand.proofs.Pairs.{pair, row_from, rows, all_pairs-rows, rows_end, rows_step, row_from-all, row_from-step, row_from-end}
 use Rattle.verdict.specs.inner.Asked.{Ready}
 use Rattle.verdict.proofs.Onward.{d_max-pos}
-use Rattle.why.specs.{declared.rows.Spot.Spot, Named.{spare, tightest}, inner.Best.best_from}
+use Rattle.why.specs.{declared.rows.Spot.Spot, Named.{spare, tightest}, Stairs.last_interval, inner.Best.best_from}
 
 module _ (p : Plan) where
   smallest_with-min : (a b : ℕ) (qs : List Pair) → smallest_with (spare p) (min a b) qs ≡ min a (smallest_with (spare p) b qs)
@@ -67,48 +67,73 @@ module _ (p : Plan) where
 
   -- ---- The walk: intervals from l to the last, in the row of l from blocking b on
 
-  pub best-row : (q : Pair) (l last : ℕ) → l ≤ last
-      → best_from p q (rows p l (last + 1 - l)) ≡ best_from p q (row_from p l 0 ++ rows p (l + 1) (last + 1 - (l + 1)))
-  best-row q l last h =
-      let left : last + 1 - l ≡ suc (last + 1 - suc l) = omega arith in
-      rw (add-one l, left, rows_step p l (last + 1 - suc l), row_from-all p l)
-
-  pub best-next : (q : Pair) (l b : ℕ) (qs : List Pair) → b ≤ block_limit p l
+  best-next : (q : Pair) (l b : ℕ) (qs : List Pair) → b ≤ block_limit p l
       → best_from p q (row_from p l b ++ qs)
       ≡ best_from p (cond (ltb (spare p (pair l b)) (spare p q)) (pair l b) q) (row_from p l (b + 1) ++ qs)
   unfolding best_from
   best-next q l b qs h = ap (λ row. best_from p q (row ++ qs)) (row_from-step p l b h)
 
-  pub best-row-end : (q : Pair) (l b : ℕ) (qs : List Pair) → block_limit p l < b → best_from p q (row_from p l b ++ qs) ≡ best_from p q qs
-  best-row-end q l b qs h = ap (λ row. best_from p q (row ++ qs)) (row_from-end p l b h)
+  -- the pairs that are left lead from the one in hand to where all lead
+  pub record WhyBest (best : Spot) (left : List Pair) : Type 0 where
+    pub known : best.left ≡ spare p (pair best.l best.b)
+    pub leads : best_from p (pair best.l best.b) left ≡ best_from p (pair 1 0) (all_pairs p)
 
-  pub best-end : (q : Pair) (l last : ℕ) → last < l → best_from p q (rows p l (last + 1 - l)) ≡ q
-  unfolding best_from
-  best-end q l last h =
-      let left : last + 1 - l ≡ 0 = omega arith in
-      ap (λ m. best_from p q (rows p l m)) left ∙ ap (best_from p q) (rows_end p l)
+  -- the intervals that are left from l on, and the rest of the row of l with those after it
+  abbrev pub rows_left : ℕ → List Pair
+  rows_left l = rows p l (last_interval p + 1 - l)
 
-  -- ---- The pair in hand, or the next
+  abbrev pub pairs_left : ℕ → ℕ → List Pair
+  pairs_left l b = row_from p l b ++ rows p (l + 1) (last_interval p + 1 - (l + 1))
 
-  module _ (best next kept : Spot) (l b : ℕ) (known : best.left ≡ spare p (pair best.l best.b))
-      (is : next ≡ record { l = l; b = b; left = spare p (pair l b) }) (chosen : kept
-      ≡ cond (ltb next.left best.left) next best) where
-    test : ltb next.left best.left ≡ ltb (spare p (pair l b)) (spare p (pair best.l best.b))
-    test = ap (λ (s : Spot). ltb s.left best.left) is ∙ ap (ltb (spare p (pair l b))) known
+  pub best-start : (s : Spot) → s ≡ record { l = 1; b = 0; left = spare p (pair 1 0) } → WhyBest s (rows_left 1)
+  unfolding last_interval
+  best-start s is =
+      let range : d_max p + multiple_of p - 1 + 1 - 1 ≡ d_max p + multiple_of p - 1 = omega arith in
+      record {
+        known = ap (λ (s : Spot). s.left) is ∙ sym (ap (λ (s : Spot). spare p (pair s.l s.b)) is);
+        leads = ap (λ (s : Spot). best_from p (pair s.l s.b) (rows_left 1)) is
+            ∙ ap (λ m. best_from p (pair 1 0) (rows p 1 m)) range
+            ∙ ap (best_from p (pair 1 0)) (sym (all_pairs-rows p));
+      }
 
-    pub tighter-pair : pair kept.l kept.b
-        ≡ cond (ltb (spare p (pair l b)) (spare p (pair best.l best.b))) (pair l b) (pair best.l best.b)
-    tighter-pair =
-        by_bool (ltb next.left best.left)
-        (λ t. rw (sym test, t) (ap (λ (s : Spot). pair s.l s.b) (chosen ∙ ap (λ c. cond c next best) t ∙ is)))
-        (λ f. rw (sym test, f) (ap (λ (s : Spot). pair s.l s.b) (chosen ∙ ap (λ c. cond c next best) f)))
+  module _ {best : Spot} (l : ℕ) where
+    pub best-row : WhyBest best (rows_left l) → l ≤ last_interval p → WhyBest best (pairs_left l 0)
+    best-row w h =
+        let left : last_interval p + 1 - l ≡ suc (last_interval p + 1 - suc l) = omega arith in
+        let row : rows_left l ≡ pairs_left l 0 = rw (add-one l, left, rows_step p l (last_interval p + 1 - suc l), row_from-all p l) refl in
+        record { known = w.known; leads = ap (best_from p (pair best.l best.b)) (sym row) ∙ w.leads }
 
-    pub tighter-left : kept.left ≡ spare p (pair kept.l kept.b)
-    tighter-left =
-        by_bool (ltb next.left best.left)
-        (λ t.
-        let same = chosen ∙ ap (λ c. cond c next best) t ∙ is in
-        ap (λ (s : Spot). s.left) same ∙ sym (ap (λ (s : Spot). spare p (pair s.l s.b)) same))
-        (λ f.
-        let same = chosen ∙ ap (λ c. cond c next best) f in
-        ap (λ (s : Spot). s.left) same ∙ known ∙ sym (ap (λ (s : Spot). spare p (pair s.l s.b)) same))
+    pub best-row-end : (b : ℕ) → WhyBest best (pairs_left l b) → block_limit p l < b → WhyBest best (rows_left (l + 1))
+    best-row-end b w h =
+        let qs = rows p (l + 1) (last_interval p + 1 - (l + 1)) in
+        record {
+          known = w.known;
+          leads = ap (λ row. best_from p (pair best.l best.b) (row ++ qs)) (sym (row_from-end p l b h)) ∙ w.leads;
+        }
+
+    pub best-end : WhyBest best (rows_left l) → last_interval p < l → pair best.l best.b ≡ best_from p (pair 1 0) (all_pairs p)
+    unfolding best_from
+    best-end w h =
+        let left : last_interval p + 1 - l ≡ 0 = omega arith in
+        sym (ap (λ m. best_from p (pair best.l best.b) (rows p l m)) left ∙ ap (best_from p (pair best.l best.b)) (rows_end p l)) ∙ w.leads
+
+    -- the pair in hand, or the next
+    module _ (b : ℕ) {next : Spot} (w : WhyBest best (pairs_left l b)) (is : next ≡ record { l = l; b = b; left = spare p (pair l b) })
+        (held : b ≤ block_limit p l) where
+      test : ltb (spare p (pair l b)) (spare p (pair best.l best.b)) ≡ ltb next.left best.left
+      test = sym (ap (λ (s : Spot). ltb s.left best.left) is ∙ ap (ltb (spare p (pair l b))) w.known)
+
+      chosen : (t : Bool) → ltb next.left best.left ≡ t
+          → best_from p (cond t (pair l b) (pair best.l best.b)) (pairs_left l (b + 1)) ≡ best_from p (pair 1 0) (all_pairs p)
+      chosen t e =
+          ap (λ t. best_from p (cond t (pair l b) (pair best.l best.b)) (pairs_left l (b + 1))) (sym (test ∙ e))
+          ∙ sym (best-next (pair best.l best.b) l b (rows p (l + 1) (last_interval p + 1 - (l + 1))) held) ∙ w.leads
+
+      pub best-taken : next.left < best.left → WhyBest next (pairs_left l (b + 1))
+      best-taken h = record {
+        known = ap (λ (s : Spot). s.left) is ∙ sym (ap (λ (s : Spot). spare p (pair s.l s.b)) is);
+        leads = ap (λ (s : Spot). best_from p (pair s.l s.b) (pairs_left l (b + 1))) is ∙ chosen true (lt-ltb next.left best.left h);
+      }
+
+      pub best-kept : best.left ≤ next.left → WhyBest best (pairs_left l (b + 1))
+      best-kept h = record { known = w.known; leads = chosen false (le-ltb next.left best.left h) }

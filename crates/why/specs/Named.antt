@@ -4,10 +4,11 @@
 --     named_by p v           what the verdict v names: the overload, the pair of a fail; of a pass, which names none, the tightest pair
 --     why_text p             all that is written of a lawful plan
 --     named_answer p         what the entry answers: the check of the plan decides
-use Rattle.std.specs.Prelude.{ℕ, ◌-◌, List, [], eqb}
+use Rattle.std.specs.Prelude.{ℕ, ◌-◌, List, eqb, Result, Ok}
 use Rattle.std.proofs.Math.Option.{Option, none, some}
 use Rattle.days.specs.Days.{days}
-use Rattle.faults.specs.Checks.{or_refused}
+use Rattle.faults.specs.declared.Refusal.{Refusal}
+use Rattle.faults.specs.Checks.{Refused, or_refused}
 use Rattle.base.specs.Count.{smallest, first_of}
 use Rattle.rules.specs.declared.Plan.{Plan}
 use Rattle.rules.specs.declared.Verdict.{Verdict}
@@ -35,13 +36,12 @@ named_by p verdict.Overload = subject.Overload
 named_by p (verdict.Fail l b d k) = subject.At l b
 named_by p (verdict.Pass k) = pair_named (tightest p)
 
-unfoldable pub named_answer : Plan → Subject
+unfoldable pub named_answer : Plan → Result Subject Refusal
 named_answer p =
     let v = named_by p (verdict_of p) in
-    or_refused subject.Refused (plan_check p) v
+    or_refused Refused (plan_check p) (Ok v)
 
 unfoldable pub text_named : Plan → Subject → List ℕ
-text_named p (subject.Refused f at) = []
 text_named p subject.Overload = over_text p
 text_named p (subject.At l b) = pair_text p l.0 b.0
 

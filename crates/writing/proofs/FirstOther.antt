@@ -1,41 +1,57 @@
--- The first moving cost that differs, from what the code compares: the cost of each string with that of the first.
-use Rattle.base.proofs.Prelude.{ℕ, ◌+◌, ◌-◌, ◌≤◌, ◌<◌, ◌≡◌, sym, ap, ◌∙◌, subst, true, false, not, arith, eq-eqb, ne_eqb, get_or, get_or-take}
-use Rattle.base.proofs.Least.{least_from-unique, least_from-none}
+-- The first moving cost that differs: what the code finds among the strings, counted from 0, is what the definition finds by place.
+use Rattle.base.proofs.Prelude.{ℕ, suc, zero, ◌+◌, ◌-◌, ◌≤◌, ◌<◌, ◌≡◌, sym, ◌∙◌, subst, Bool, false, List, [], ◌∷◌, arith, get_or, get_or-take, length, length-take-le}
+use Rattle.base.proofs.{Least.{least_from-unique, least_from-none}, Lists.by_bool}
+use Rattle.std.specs.Prelude.{Some, None, position}
+use Rattle.std.specs.List.{position_from}
+use Rattle.std.proofs.lemmas.Iterator.Adapters.{position_from-zero}
+use Rattle.std.proofs.lemmas.List.Quantifiers.{position-Some}
 use Rattle.rules.specs.{declared.BatteryString.BatteryString, declared.Plan.Plan, Plan.{strings_of, string_at, no_string}}
-use Rattle.writing.specs.Saved.{cost_differs, first_other}
+use Rattle.writing.specs.{Saved.{cost_differs, first_other}, inner.Costs.{other_than_first}}
 
--- the moving cost of the string after i others
-abbrev pub cost_after : Plan → ℕ → ℕ
-cost_after p i = (get_or p.strings i no_string).a.0
+-- where none is found, none passes
+none-from : {A : Type 0} (f : A → Bool) (z : A) (k : ℕ) (xs : List A) → position_from f k xs ≡ None → (i : ℕ) → i < length xs
+    → f (get_or xs i z) ≡ false
+none-from f z k [] h i low = absurd (omega arith)
+none-from f z k (x ∷ xs) h zero low = by_bool (f x) (λ t. let some = rw t at h in cc) (λ e. e)
+none-from f z k (x ∷ xs) h (suc i) low =
+    by_bool (f x) (λ t. let some = rw t at h in cc) (λ e. none-from f z (k + 1) xs (rw e at h) i (omega arith))
 
-module _ (p : Plan) where
-  cost_is : (i : ℕ) → i < p.n → (string_at p (i + 1)).a.0 ≡ cost_after p i
-  cost_is i low =
+none-passes : {A : Type 0} (f : A → Bool) (z : A) (xs : List A) → position f xs ≡ None → (i : ℕ) → i < length xs → f (get_or xs i z) ≡ false
+none-passes f z xs h = none-from f z 0 xs (sym (position_from-zero f xs) ∙ h)
+
+module _ (p : Plan) (some : 1 ≤ p.n) (few : p.n ≤ length p.strings) where
+  many : length (strings_of p) ≡ p.n
+  many = length-take-le p.n p.strings few
+
+  -- the string after i others
+  abbrev after : ℕ → BatteryString
+  after i = get_or (strings_of p) i no_string
+
+  differs-after : (i : ℕ) → cost_differs p (i + 1) ≡ other_than_first p (after i)
+  differs-after i =
       let back : (i + 1) - 1 ≡ i = omega arith in
-      ap (λ k. (get_or (strings_of p) k no_string).a.0) back
-      ∙ ap (λ (s : BatteryString). s.a.0) (get_or-take p.n p.strings i no_string low)
+      let first : string_at p 1 ≡ get_or p.strings 0 no_string = get_or-take p.n p.strings 0 no_string (omega arith) in
+      rw (back, first)
 
-  differs-yes : (i : ℕ) → i < p.n → (cost_after p i ≡ cost_after p 0 → ⊥) → cost_differs p (i + 1) ≡ true
-  differs-yes i low other = ap not (ne_eqb _ _ (λ same. other (sym (cost_is i low) ∙ same ∙ cost_is 0 (omega arith))))
-
-  differs-no : (i : ℕ) → i < p.n → cost_after p i ≡ cost_after p 0 → cost_differs p (i + 1) ≡ false
-  differs-no i low same = ap not (eq-eqb _ _ (cost_is i low ∙ same ∙ sym (cost_is 0 (omega arith))))
-
-  alike-before : (m : ℕ) → m ≤ p.n → ((i : ℕ) → i < m → cost_after p i ≡ cost_after p 0) → (k : ℕ) → 1 ≤ k → k < m + 1
-      → cost_differs p k ≡ false
-  alike-before m fits same k low high =
+  alike-before : (m : ℕ) → ((i : ℕ) → i < m → other_than_first p (after i) ≡ false) → (k : ℕ) → 1 ≤ k → k < m + 1 → cost_differs p k ≡ false
+  alike-before m same k low high =
       let whole : (k - 1) + 1 ≡ k = omega arith in
-      subst (λ j. cost_differs p j ≡ false) whole (differs-no (k - 1) (omega arith) (same (k - 1) (omega arith)))
+      subst (λ j. cost_differs p j ≡ false) whole (differs-after (k - 1) ∙ same (k - 1) (omega arith))
 
-  pub other-here : (i : ℕ) → i < p.n → (cost_after p i ≡ cost_after p 0 → ⊥) → ((j : ℕ) → j < i → cost_after p j ≡ cost_after p 0)
-      → first_other p ≡ i + 1
+  pub other-at : (i : ℕ) → position (other_than_first p) (strings_of p) ≡ Some i → (first_other p ≡ i + 1) × (i < p.n)
   unfolding first_other
-  other-here i low other same =
-      least_from-unique (cost_differs p) 1 p.n (i + 1) (omega arith) (omega arith) (differs-yes i low other)
-      (alike-before i (omega arith) same)
+  other-at i found =
+      let said = position-Some (other_than_first p) (strings_of p) i no_string found in
+      let inside : i < p.n = omega (arith, many, said.0) in (
+        least_from-unique (cost_differs p) 1 p.n (i + 1) (omega arith) (omega arith) (differs-after i ∙ said.1)
+            (alike-before i said.2),
+        inside,
+      )
 
-  pub other_none : ((i : ℕ) → i < p.n → cost_after p i ≡ cost_after p 0) → first_other p ≡ p.n + 1
+  pub other_none : position (other_than_first p) (strings_of p) ≡ None → first_other p ≡ p.n + 1
   unfolding first_other
-  other_none same =
-      let none = least_from-none (cost_differs p) 1 p.n (λ k low high. alike-before p.n (omega arith) same k low (omega arith)) in
+  other_none found =
+      let said = none-passes (other_than_first p) no_string (strings_of p) found in
+      let alike = alike-before p.n (λ i h. said i (omega (arith, many))) in
+      let none = least_from-none (cost_differs p) 1 p.n (λ k low high. alike k low (omega arith)) in
       omega arith

@@ -1,7 +1,8 @@
 -- Texts written one after the other into a part of a page, and the lengths of what is written.
-use Rattle.base.proofs.Prelude.{ℕ, zero, suc, ◌+◌, ◌-◌, ◌*◌, ◌/◌, ◌%◌, ◌≤◌, ◌<◌, ◌≡◌, refl, sym, ap, ◌∙◌, List, [], ◌∷◌, ◌++◌, append_assoc, append-nil, arith, dec_le, add-one, zero-mul, suc-mul, not-suc-le-zero, le_of_suc-le-suc, length, take, drop, get_or, set, length-append, length-drop, take-append_seam, drop-drop, drop_at, length-take-le, take_all, take-suc, put_mid}
+use Rattle.base.proofs.Prelude.{ℕ, zero, suc, ◌+◌, ◌-◌, ◌*◌, ◌/◌, ◌%◌, ◌≤◌, ◌<◌, ◌≡◌, refl, sym, ap, ◌∙◌, List, [], ◌∷◌, ◌++◌, append_assoc, append-nil, arith, add-one, zero-mul, suc-mul, not-suc-le-zero, le_of_suc-le-suc, length, take, drop, get_or, set, length-append, length-drop, take-append_seam, drop-drop, take_all, take-suc, put_mid}
 use mathlib.Core.List.{flat_map}
 use lib.Seq.{drop-append_seam, drop-length}
+use Rattle.std.specs.Int.{to_be_bytes, w32}
 use borrow.Rule.Slice.PartMut.{post_of, Post-is, same_len_mid}
 use Rattle.base.specs.{Count.sum_of, Digits.places_of}
 use Rattle.base.proofs.Digits.{places-length}
@@ -93,35 +94,28 @@ cells_text-length (c ∷ cs) =
     let rest = cells_text-length cs in
     omega (arith, length-append (cell_text c) (flat_map cell_text cs), number_text-length c.size c.value)
 
--- ---- Numbers, from the last byte on
+-- ---- Numbers
 
-number_text-none : (n : ℕ) → number_text 0 n ≡ []
-unfolding number_text places_of flat_map
-number_text-none n = refl
+-- the last bytes of a number's four are the number in so many
+last_bytes : (size n : ℕ) → size ≤ 4 → drop (4 - size) (to_be_bytes w32 n) ≡ number_bytes size n
+unfolding places_of
+last_bytes zero n h = refl
+last_bytes (suc zero) n h = refl
+last_bytes (suc (suc zero)) n h = refl
+last_bytes (suc (suc (suc zero))) n h = ap (λ a. a ∷ n / 256 % 256 ∷ n % 256 ∷ []) (omega arith)
+last_bytes (suc (suc (suc (suc zero)))) n h =
+    let high : n / 16777216 ≡ n / 256 / 256 / 256 = omega arith in
+    let next : n / 65536 ≡ n / 256 / 256 = omega arith in
+    ap (λ a. a % 256 ∷ n / 65536 % 256 ∷ n / 256 % 256 ∷ n % 256 ∷ []) high
+    ∙ ap (λ a. n / 256 / 256 / 256 % 256 ∷ a % 256 ∷ n / 256 % 256 ∷ n % 256 ∷ []) next
+last_bytes (suc (suc (suc (suc (suc k))))) n h = absurd (omega arith)
 
-number_text-last : (k n : ℕ) → number_text (suc k) n ≡ number_text k (n / 256) ++ byte_text (n % 256)
-unfolding number_text places_of
-number_text-last k n =
-    flat_map-append byte_text (number_bytes k (n / 256)) (n % 256 ∷ [])
-    ∙ ap (λ rest. flat_map byte_text (number_bytes k (n / 256)) ++ rest) (flat_map-one byte_text (n % 256)
-    ∙ append-nil (byte_text (n % 256)))
-
--- no byte is still to come
-pub number-done : (i n : ℕ) (part whole : List ℕ) → i ≡ 0 → number_text i n ++ drop (i * 2) part ≡ whole → part ≡ whole
-number-done i n part whole none h = rw (none, number_text-none n) at h
-
--- one byte more, ahead of those that stand from the place 2 × (k + 1) on
-pub number_step : (k n : ℕ) (part next : List ℕ) → k * 2 + 2 ≤ length part
-    → next ≡ byte_text (n % 256) ++ drop 2 (take (length part - k * 2) (drop (k * 2) part))
-    → number_text k (n / 256) ++ drop (k * 2) (put_mid (k * 2) (length part - k * 2) part next) ≡ number_text (suc k) n ++ drop (suc k * 2)
-    part
-number_step k n part next room is =
-    let whole = lent_back (k * 2) part next (omega arith) in
-    let front : length (take (k * 2) part) ≡ k * 2 = length-take-le (k * 2) part (omega arith) in
-    let back = drop_at (take (k * 2) part) next (k * 2) front in
-    let place : k * 2 + 2 ≡ suc k * 2 = omega arith in
-    rw (whole, back, is, lent-part (k * 2) part, drop-drop 2 (k * 2) part, place, number_text-last k n)
-    (sym (append_assoc (number_text k (n / 256)) (byte_text (n % 256)) (drop (suc k * 2) part)))
+pub writing_bytes_of : (size n : ℕ) (four : List ℕ) → size ≤ 4 → four ≡ to_be_bytes w32 n
+    → take (4 - (4 - size)) (drop (4 - size) four) ≡ number_bytes size n
+writing_bytes_of size n four few is =
+    let last = last_bytes size n few in
+    let long : length (number_bytes size n) ≡ size = places-length 256 size n in
+    rw (is, last) (take_all (4 - (4 - size)) (number_bytes size n) (omega arith))
 
 -- ---- Frames, field by field
 
@@ -149,19 +143,13 @@ module _ (cs : List Cell) (z : Cell) (i : ℕ) (h : i < length cs) where
       ∙ append-nil (cell_text (get_or cs i z)))
 
 -- the size of the first cells grows with their number
-pub cells_size-within : (cs : List Cell) (z : Cell) (i k : ℕ) → i < k → k ≤ length cs
-    → cells_size (take i cs) + (get_or cs i z).size ≤ cells_size (take k cs)
-cells_size-within cs z i zero h within = absurd (not-suc-le-zero h)
-cells_size-within cs z i (suc k) h within =
-    let next : cells_size (take (suc k) cs) ≡ cells_size (take k cs) + (get_or cs k z).size =
-    ap (λ m. cells_size (take m cs)) (sym (add-one k))
-    ∙ cells_size-step cs z k (omega arith) in
-    elim (dec_le (suc i) k) [
-      | yes earlier ↦ omega (arith, cells_size-within cs z i k earlier (omega arith))
-      | no last ↦
-          let same : i ≡ k = omega arith in
-          rw same (omega arith)
-    ]
+pub cells_size-within : (cs : List Cell) (z : Cell) (i : ℕ) → i < length cs → cells_size (take i cs) + (get_or cs i z).size ≤ cells_size cs
+unfolding cells_size sum_of
+cells_size-within [] z i h = absurd (omega arith)
+cells_size-within (c ∷ cs) z zero h = omega arith
+cells_size-within (c ∷ cs) z (suc i) h =
+    let rest : cells_size (take i cs) + (get_or cs i z).size ≤ cells_size cs = cells_size-within cs z i (omega arith) in
+    omega arith
 
 -- ---- A text that stands at the head of a part
 
@@ -237,7 +225,6 @@ module _ {F : Type 0} (l : Layout F) (says : F → ℕ) where
   frame_bytes-length = omega (arith, fields-length l.fields)
 
   -- what put_frame writes for cells that say a frame
-  pub says-line : (cells : List Cell) (count : ℕ) → SaysFrame cells count l says
-      → cells_text (take count cells) ++ (0x0a ∷ []) ≡ line_text (frame_bytes l says)
+  pub says-line : (cells : List Cell) → SaysFrame cells l says → cells_text cells ++ (0x0a ∷ []) ≡ line_text (frame_bytes l says)
   unfolding line_text
-  says-line cells count s = ap (λ digits. digits ++ (0x0a ∷ [])) s.text
+  says-line cells s = ap (λ digits. digits ++ (0x0a ∷ [])) s.text

@@ -13,9 +13,11 @@
 --     save_check v p rs page at   the same, then 9 with 0 where the text does not fit
 --     saved_answer, saved_page     what is answered, and the page afterwards: a refusal keeps every byte
 use Rattle.std.specs.Prelude.{ℕ, Bool, not, ◌&&◌, ◌||◌, List, ltb, leb, eqb, length, drop}
+use Rattle.faults.specs.Checks.{Refused, Checked}
+use Rattle.faults.specs.declared.Refusal.{Refusal}
+use Rattle.std.specs.Prelude.{Ok, Result}
 use Rattle.base.specs.Count.{least_from, put_at}
 use Rattle.faults.specs.declared.Fault.TheVariants.{NoRoom, CostsDiffer}
-use Rattle.faults.specs.declared.Checked.{Checked}
 use Rattle.faults.specs.Checks.{then, refuse_if, or_refused}
 use Rattle.rules.specs.declared.Plan.{Plan}
 use Rattle.rules.specs.declared.Releases.{Releases}
@@ -23,8 +25,6 @@ use Rattle.rules.specs.Plan.{string_at}
 use Rattle.rules.specs.Release.{releases_of}
 use Rattle.rules.specs.Refusal.{run_check}
 use Rattle.rules.specs.Layout.{Version, has_field, header_frame, Common}
-use Rattle.writing.specs.declared.Saved.{Saved}
-use Rattle.writing.specs.declared.Saved.TheVariants.{Refused, Text}
 use Rattle.writing.specs.Written.{plan_text}
 
 unfoldable pub no_room : List ℕ → ℕ → List ℕ → Bool
@@ -38,8 +38,8 @@ fit_check c text page at =
     let room = refuse_if (no_room page at text) NoRoom 0 in
     then c room
 
-abbrev pub text_answer : Checked → List ℕ → Saved
-text_answer c text = or_refused Refused c (Text (length text))
+abbrev pub text_answer : Checked → List ℕ → Result ℕ Refusal
+text_answer c text = or_refused Refused c (Ok (length text))
 
 abbrev pub text_page : Checked → List ℕ → List ℕ → ℕ → List ℕ
 text_page c text page at = on_page c page (put_at at text page)
@@ -67,7 +67,7 @@ module _ (v : Version) where
   unfoldable pub save_check : Plan → Releases → List ℕ → ℕ → Checked
   save_check p rs page at = fit_check (writable_check p rs) (saved_text p rs) page at
 
-  unfoldable pub saved_answer : Plan → Releases → List ℕ → ℕ → Saved
+  unfoldable pub saved_answer : Plan → Releases → List ℕ → ℕ → Result ℕ Refusal
   saved_answer p rs page at = text_answer (save_check p rs page at) (saved_text p rs)
 
   unfoldable pub saved_page : Plan → Releases → List ℕ → ℕ → List ℕ

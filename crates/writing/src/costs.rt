@@ -1,58 +1,45 @@
 // Whether a version can say a plan: version 01 has one moving cost for all strings.
-ghost use Rattle.std.specs.Prelude.{◌≡◌, ◌≤◌};
-ghost use Rattle.layouts.specs.inner.Versions.{meant_by, Known};
-ghost use Rattle.writing.specs.Saved.{first_other, alike_check, writable_check};
+ghost use Rattle.std.specs.Prelude.{◌≡◌, ◌≤◌, not, eqb, get_or, position, IfSome, ◌<◌};
+ghost use Rattle.rules.specs.Plan.{strings_of};
+ghost use Rattle.layouts.specs.inner.Versions.{meant_by};
+ghost use Rattle.writing.specs.Saved.{alike_check, first_other, writable_check};
+ghost use Rattle.writing.specs.inner.Costs.{other_than_first};
 
-use faults::{Checked, Fault};
+use faults::{Checked, Fault, Refusal};
 use layouts::Version;
 use rules::{Plan, Releases};
 
-// The first place whose moving cost is another than that of place 1; the place after the last where none is.
-fn first_other(p: Plan) -> usize
-    requires { (1 ≤ p.n) × (p.n ≤ 10) }
-    ensures exact { result ≡ first_other p }
+// Where the first string stands, counted from 0, that has another moving cost than the string at place 1.
+fn first_other(p: Plan) -> Option<usize>
+    ensures exact { result ≡ position (other_than_first p) (strings_of p) }
+    ensures within { IfSome result (λ i. i < p.n) }
 {
-    let n = p.n;
-    let strings = p.strings;
-    let first = strings[0];
-    let mut i: usize = 0;
-    while i < n {
-        let s = strings[i];
-        if s.a.0 != first.a.0 {
-            return i + 1;
-        }
-        i += 1;
-    }
-    n + 1
+    let first = p.strings[0].a;
+    p.strings.iter().take(p.n).position(|s| s.a != first)
 }
 
-// 12 with that place, where the header says one moving cost for all strings.
+// 12 with its place, where the header says one moving cost for all strings.
 fn alike_check(p: Plan, version: Version) -> Checked
-    requires known { Known version }
-    requires le_n { (1 ≤ p.n) × (p.n ≤ 10) }
+    requires { (1 ≤ p.n) × (p.n ≤ 10) }
     ensures exact { result ≡ alike_check (meant_by version) (first_other p) p }
 {
-    if version.common.size == 0 {
-        return Checked::Lawful;
+    if version.layouts().common.size == 0 {
+        return Ok(());
     }
-    let other = first_other(p);
-    if p.n < other {
-        return Checked::Lawful;
-    }
-    Checked::Refused {
-        fault: Fault::CostsDiffer,
-        at: other,
+    match first_other(p) {
+        Some(i) => Err(Refusal {
+            fault: Fault::CostsDiffer,
+            at: i + 1,
+        }),
+        None => Ok(()),
     }
 }
 
 // 4 to 8 as for numbers, then 12.
+#[tactic(auto, unfolding(crate::specs::Saved::writable_check))]
 pub(crate) fn writable_check(p: Plan, rs: Releases, version: Version) -> Checked
-    requires { Known version }
     ensures exact { result ≡ writable_check (meant_by version) p rs }
 {
-    let checked = bounds::run_check(p, rs);
-    match checked {
-        Checked::Lawful => alike_check(p, version),
-        Checked::Refused { fault, at } => Checked::Refused { fault, at },
-    }
+    bounds::run_check(p, rs)?;
+    alike_check(p, version)
 }

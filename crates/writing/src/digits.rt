@@ -3,37 +3,32 @@ ghost use Rattle.std.specs.Prelude.{◌≡◌, [], ◌∷◌, ◌++◌, ◌*◌,
 ghost use Rattle.writing.specs.Written.{digit_text, byte_text};
 ghost use Rattle.writing.specs.inner.Cells.{number_text};
 
-fn digit(v: u32) -> u8
+#[tactic(auto, unfolding(crate::specs::Written::digit_text))]
+fn digit(v: u8) -> u8
     requires { v < 16 }
     ensures exact { result ≡ digit_text v }
 {
-    if v < 10 {
-        return (48 + v) as u8;
-    }
-    (87 + v) as u8
+    if v < 10 { b'0' + v } else { b'a' + (v - 10) }
 }
 
 // Two digits for a byte.
-pub(crate) fn put_byte(part: &mut [u8], b: u32)
-    requires in_bounds { 2 ≤ length part.old }
-    requires b_bound { b < 256 }
+pub(crate) fn put_byte(part: &mut [u8], b: u8)
+    requires { 2 ≤ length part.old }
     ensures exact { part.new ≡ byte_text b ++ drop 2 part.old }
 {
     part[0] = digit(b / 16);
     part[1] = digit(b % 16);
 }
 
-// A number in `size` bytes, high byte first: the last byte is written first.
+// A number in `size` bytes, high byte first.
 pub(crate) fn put_number(part: &mut [u8], size: usize, n: u32)
-    requires { size * 2 ≤ length part.old }
+    requires few { size ≤ 4 }
+    requires room { size * 2 ≤ length part.old }
     ensures exact { part.new ≡ number_text size n ++ drop (size * 2) part.old }
 {
-    let mut i = size;
-    let mut rest = n;
-    while 0 < i {
-        i -= 1;
-        put_byte(&mut part[i * 2..], rest % 256);
-        rest = rest / 256;
+    let bytes = n.to_be_bytes();
+    for (i, b) in bytes[4 - size..].iter().enumerate() {
+        put_byte(&mut part[i * 2..], *b);
     }
 }
 
@@ -42,5 +37,5 @@ pub(crate) fn put_end(part: &mut [u8])
     requires { 1 ≤ length part.old }
     ensures exact { part.new ≡ (0x0a ∷ []) ++ drop 1 part.old }
 {
-    part[0] = 10;
+    part[0] = b'\n';
 }

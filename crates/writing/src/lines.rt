@@ -4,7 +4,7 @@ ghost use mathlib.Core.List.{◌++◌, flat_map};
 ghost use Rattle.rules.specs.Plan.{strings_of};
 ghost use Rattle.rules.specs.Release.{releases_of};
 ghost use Rattle.rules.specs.Layout.{line_size, string_frame, release_frame};
-ghost use Rattle.layouts.specs.inner.Versions.{meant_by, Known};
+ghost use Rattle.layouts.specs.inner.Versions.{meant_by};
 ghost use Rattle.writing.specs.Written.{string_text, release_text, plan_text};
 ghost use Rattle.writing.specs.inner.Cells.{StringsFit, ReleasesFit, PlanFits};
 
@@ -13,52 +13,41 @@ use super::says::{header_cells, release_cells, string_cells};
 use layouts::Version;
 use rules::{Plan, Releases};
 
-// A line for each string.
+// A line for each string. The releases' lines are put by a loop of their own: one for both would take a closure, whose contract says more
+// than the loop.
 fn put_strings(part: &mut [u8], p: Plan, version: Version)
-    requires known { Known version }
-    requires strings_fit { StringsFit (meant_by version) p (length part.old) }
+    requires { StringsFit (meant_by version) p (length part.old) }
     ensures exact { part.new ≡ flat_map (string_text (meant_by version)) (strings_of p)
         ++ drop (length (strings_of p) * line_size (string_frame (meant_by version))) part.old }
 {
-    let n = p.n;
-    let strings = p.strings;
-    let line = version.string.line;
-    let mut i: usize = 0;
-    while i < n {
-        let s = strings[i];
-        put_frame(&mut part[i * line..], string_cells(s, version), 7);
-        i += 1;
+    let line = version.layouts().string.line;
+    for (i, s) in p.strings[..p.n].iter().enumerate() {
+        put_frame(&mut part[i * line..], &string_cells(*s, version));
     }
 }
 
 // A line for each release.
 fn put_releases(part: &mut [u8], rs: Releases, version: Version)
-    requires known { Known version }
-    requires releases_fit { ReleasesFit (meant_by version) rs (length part.old) }
+    requires { ReleasesFit (meant_by version) rs (length part.old) }
     ensures exact { part.new ≡ flat_map (release_text (meant_by version)) (releases_of rs)
         ++ drop (length (releases_of rs) * line_size (release_frame (meant_by version))) part.old }
 {
-    let count = rs.count;
-    let list = rs.list;
-    let line = version.release.line;
-    let mut i: usize = 0;
-    while i < count {
-        let r = list[i];
-        put_frame(&mut part[i * line..], release_cells(r, version), 5);
-        i += 1;
+    let line = version.layouts().release.line;
+    for (i, r) in rs.list[..rs.count].iter().enumerate() {
+        put_frame(&mut part[i * line..], &release_cells(*r, version));
     }
 }
 
 // The whole text: header, strings, releases.
 pub(crate) fn put_plan(part: &mut [u8], p: Plan, rs: Releases, version: Version)
-    requires known { Known version }
-    requires plan_fits { PlanFits (meant_by version) p rs (length part.old) }
+    requires { PlanFits (meant_by version) p rs (length part.old) }
     ensures exact { part.new ≡ plan_text (meant_by version) p (releases_of rs)
         ++ drop (length (plan_text (meant_by version) p (releases_of rs))) part.old }
 {
-    let header = version.header.line;
-    let strings = p.n * version.string.line;
-    put_frame(part, header_cells(p, version), 5);
-    put_strings(&mut part[header..], p, version);
-    put_releases(&mut part[header + strings..], rs, version);
+    let layouts = version.layouts();
+    let strings = layouts.header.line;
+    let releases = strings + p.n * layouts.string.line;
+    put_frame(part, &header_cells(p, version));
+    put_strings(&mut part[strings..], p, version);
+    put_releases(&mut part[releases..], rs, version);
 }

@@ -7,9 +7,16 @@
 --     SheetOf p rs s list   the sheet s and the list say the run of p over rs: what the bank did, how many days it goes, the day on which
 --                           it ends, and its columns
 --     left_now p i going t r us k     the k-th release, r, is drawn on day t for the string at place i, and has work to come
+--     missed_column m        the column of a miss on the day m, if there is one; MissEnds m: it ends within a run
+--     SheetGiven p rs r list    what comes of a sheet: that of a lawful run, or why the run is refused
 --     cells_of p rs us n i d the bars of the string at place i in the columns of d
-use Rattle.std.specs.Prelude.{ℕ, ◌+◌, ◌≤◌, ◌<◌, ◌≡◌, Bool, ◌&&◌, List, map, ltb, length, take, get_or}
+use Rattle.std.specs.Prelude.{ℕ, ◌+◌, ◌≤◌, ◌<◌, ◌≡◌, Bool, ◌&&◌, List, [], ◌∷◌, Option, Some, None, Result, Ok, Err, map, ltb, length, take, get_or}
 use Rattle.base.specs.Count.{count_of}
+use Rattle.faults.specs.Checks.{Lawful}
+use Rattle.faults.specs.declared.Refusal.{Refusal}
+use Rattle.rules.specs.declared.Releases.{Releases}
+use Rattle.rules.specs.Release.{releases_of}
+use Rattle.rules.specs.Refusal.{run_check}
 use Rattle.rules.specs.declared.Plan.{Plan}
 use Rattle.rules.specs.declared.Release.{Release}
 use Rattle.rules.specs.declared.Use.{Use}
@@ -21,7 +28,7 @@ use Rattle.visits.specs.inner.Own.{stints_in}
 use Rattle.bars.specs.declared.Column.{Column}
 use Rattle.bars.specs.declared.columns.Drawn.{Drawn}
 use Rattle.bars.specs.declared.sheet.Sheet.{Sheet}
-use Rattle.bars.specs.Bars.{no_column, drawn_on, bar_in, drawn, end_day}
+use Rattle.bars.specs.Bars.{column, no_column, drawn_on, bar_in, drawn, end_day}
 
 abbrev pub uses_told : List ℕ → ℕ → List Use
 uses_told list n = spelled (stints_in list n)
@@ -54,3 +61,19 @@ left_now p i going t r us k = drawn_on p i going t r && ltb (count_of (works_for
 
 abbrev pub cells_of : Plan → List Release → List Use → ℕ → ℕ → Drawn → List ℕ
 cells_of p rs us n i d = map (λ (c : Column). bar_in p rs us n i c.first) (cols_of d)
+
+-- ---- What is asked and answered
+
+-- the column of a miss
+abbrev pub missed_column : Option ℕ → List Column
+missed_column (Some t) = column t 1 ∷ []
+missed_column None = []
+
+abbrev pub MissEnds : Option ℕ → Type 0
+MissEnds (Some t) = t ≤ 1000000
+MissEnds None = Unit {0}
+
+-- the sheet of a lawful run, or why the run is refused
+abbrev pub SheetGiven : Plan → Releases → Result Sheet Refusal → List ℕ → Type 0
+SheetGiven p rs (Ok s) list = (run_check p rs ≡ Lawful) × SheetOf p (releases_of rs) s list
+SheetGiven p rs (Err e) list = run_check p rs ≡ Err e

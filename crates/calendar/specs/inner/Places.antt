@@ -1,15 +1,18 @@
 -- Where a day lies, for inner use: no promise to a caller speaks of these.
 --     InYear day k rest       day lies in year 2000 + k, `rest` days after its first
 --     InMonth f day m rest    day, counted in its year from 0, lies in month m, `rest` days after its first; f days in February
---     fall_days fall           the day on which a test falls in a year, or none
+--     fall_of ed t a e k       the day of year 2000 + k on which the test t falls, if it lies from day a to day e
 --     at_front days list      the days at the front of a list, whose later places stay
---     digits_number text       the number that digits write; one past the last day for a larger one, and where another character stands
-use Rattle.std.specs.Prelude.{ℕ, ◌+◌, ◌-◌, ◌≤◌, ◌<◌, min, ◌≡◌, List, [], ◌∷◌, ◌++◌, length, take, drop, get_or, cond}
+--     digits_number text       the day that digits write; none for one past the last, and where another character stands
+use Rattle.std.specs.Prelude.{ℕ, ◌+◌, ◌-◌, ◌≤◌, ◌<◌, leb, ◌&&◌, ◌≡◌, List, ◌++◌, length, take, drop, get_or, cond}
+use Rattle.std.specs.Prelude.{Some, None, Option}
 use Rattle.base.specs.Count.{sum_of, every}
-use Rattle.calendar.specs.declared.listing.Fall.{Fall}
-use Rattle.calendar.specs.declared.listing.Fall.TheVariants.{On, Never}
 use Rattle.calendar.specs.Years.{year_length, months_with}
-use Rattle.calendar.specs.Numbers.{days_before_year, last_day}
+use Rattle.faults.specs.Checks.{in_bounds}
+use Rattle.calendar.specs.declared.YearlyDate.{YearlyDate}
+use Rattle.calendar.specs.Dates.{date_exists}
+use Rattle.calendar.specs.Numbers.{days_before_year, day_number, last_day}
+use Rattle.calendar.specs.Yearly.{in_year}
 use Rattle.calendar.specs.Texts.{fits_at, number}
 
 pub record InYear (day k rest : ℕ) : Type 0 where
@@ -23,12 +26,13 @@ pub record InMonth (f day m rest : ℕ) : Type 0 where
   pub january : 1 ≤ m
   pub december : m ≤ 12
 
-abbrev pub fall_days : Fall → List ℕ
-fall_days (On k) = k ∷ []
-fall_days Never = []
+unfoldable pub fall_of : ℕ → YearlyDate → ℕ → ℕ → ℕ → Option ℕ
+fall_of ed t a e k =
+    let d = in_year ed t (2000 + k) in
+    cond (date_exists d && in_bounds a (day_number d) e) (Some (day_number d)) None
 
 abbrev pub at_front : List ℕ → List ℕ → List ℕ
 at_front days list = days ++ drop (length days) list
 
-unfoldable pub digits_number : List ℕ → ℕ
-digits_number text = cond (every (fits_at 0x30) text) (min (number text) (last_day + 1)) (last_day + 1)
+unfoldable pub digits_number : List ℕ → Option ℕ
+digits_number text = cond (every (fits_at 0x30) text && leb (number text) last_day) (Some (number text)) None

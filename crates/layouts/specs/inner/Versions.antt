@@ -1,8 +1,7 @@
 -- For the proofs of the reader and the writer: the code's layouts, and the definitions' that they stand for.
 --     offset_in l f, size_in l f   the bytes that stand ahead of the field f in a frame of the layout l, and its own
---     code_of v              the version v as the code holds it
---     meant_by version       the version that one of the code stands for: the one with its number
---     Known version         a version of the code that is as the definitions have it
+--     layouts_for v          the layouts of the version v as the code holds them
+--     meant_by version       the version that one of the code stands for
 --     Sound v               what the proofs ask of a version: the fields that all versions have are of one size, one frame says the moving
 --                           cost, late days and due days take a number's bytes or none, and the lines are short enough for a text of
 --                           65,536 bytes
@@ -12,7 +11,9 @@ use Rattle.rules.specs.Layout.{frame_size, line_size, header_frame, string_frame
 use Rattle.rules.specs.Layout.{Number, Count, Common, Run, X, T, C, D, Own, Late, Place, Day, Need, Due}
 use Rattle.layouts.specs.declared.Field.{Field}
 use Rattle.layouts.specs.declared.Layout.{Layout}
+use Rattle.layouts.specs.declared.Layouts.{Layouts}
 use Rattle.layouts.specs.declared.Version.{Version}
+use Rattle.layouts.specs.declared.Version.TheVariants.{First, Second, Third}
 
 module _ {F : Type 0} (l : rule.Layout F) where
   -- ---- Where a field stands
@@ -39,8 +40,8 @@ module _ {F : Type 0} (l : rule.Layout F) where
   abbrev pub layout_for : Layout
   layout_for = record { kind = l.kind; size = frame_size l; line = line_size l }
 
-abbrev pub code_of : rule.Version → Version
-code_of v =
+abbrev pub layouts_for : rule.Version → Layouts
+layouts_for v =
     record {
       number = v.number;
       header = layout_for (header_frame v);
@@ -53,11 +54,13 @@ code_of v =
       due = field_for (release_frame v) Due;
     }
 
-abbrev pub meant_by : Version → rule.Version
-meant_by version = held_to version.number
+abbrev pub layouts_number_of : Version → ℕ
+layouts_number_of First = 1
+layouts_number_of Second = 2
+layouts_number_of Third = 3
 
-abbrev pub Known : Version → Type 0
-Known version = version ≡ code_of (meant_by version)
+abbrev pub meant_by : Version → rule.Version
+meant_by version = held_to (layouts_number_of version)
 
 -- ---- What is asked of every version
 

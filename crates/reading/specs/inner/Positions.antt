@@ -1,4 +1,5 @@
 -- For the proofs inside this crate: a text by positions, as the code walks it. `at` is a position, from 0.
+--     is_digit b             b is a hexadecimal digit
 --     digits_ahead bytes     how many hexadecimal digits stand at the head
 --     lines_from text at     the lines from `at` on
 --     line_at text at        the first of them; an empty line without its 0a where the text has ended
@@ -10,29 +11,32 @@
 --     frames_in l k room lines    of lines from number k on, how many are frames of the layout l, up to room, and the fault that ends them
 --     strings_at v, releases_at v  where the string lines and the release lines of a plan of n strings start
 --     HeaderRead v text, StringsRead v text p    what is known once the header, once the strings of the plan p have been read
---     body_reading v text, rest_reading v text p, list_reading v text p    what reading gives from the strings, from H, from the
---                           releases on
-use Rattle.std.specs.Prelude.{ℕ, zero, suc, ◌+◌, ◌*◌, ◌≤◌, ◌<◌, ◌≡◌, false, cond, List, [], ◌∷◌, map, ltb, length, get_or, take, drop}
+--     said_of v c lines      what is answered where c is what the lines are refused for
+--     body_said v text, rest_said v text p, list_said v text p    what is answered from the strings, from H, from the releases on
+use Rattle.std.specs.Prelude.{ℕ, zero, suc, ◌+◌, ◌*◌, ◌≤◌, ◌<◌, ◌≡◌, Result, Ok, Bool, false, cond, List, [], ◌∷◌, map, ltb, length, get_or, take, drop}
+use Rattle.faults.specs.Checks.{Refused, Lawful, Checked}
 use Rattle.faults.specs.declared.Fault.TheVariants.{ReleaseTooMany}
-use Rattle.faults.specs.declared.Checked.{Checked}
-use Rattle.faults.specs.declared.Checked.TheVariants.{Lawful, Refused}
 use Rattle.faults.specs.Checks.{then, or_refused}
 use Rattle.base.specs.Count.{filled}
 use Rattle.rules.specs.declared.Plan.{Plan}
 use Rattle.rules.specs.declared.Releases.{Releases}
-use Rattle.rules.specs.declared.Reading.{Reading}
+use Rattle.rules.specs.declared.PlanFile.{PlanFile}
+use Rattle.faults.specs.declared.Refusal.{Refusal}
 use Rattle.rules.specs.Release.{no_release}
 use Rattle.rules.specs.Refusal.{head_check, cost_check, multiple_check}
 use Rattle.rules.specs.Layout.{Layout, Version, frame_size, line_length, number_of, line_size, header_frame, string_frame, release_frame}
-use Rattle.rules.specs.Text.{Line, lines_of, digit_of, hex_bytes, n_in, a_in, run_in, release_of, plan_in, version_check, layout_check}
-use Rattle.rules.specs.Text.{string_lines_check, release_lines_check, body_check, lawful_reading}
+use Rattle.rules.specs.Text.{Line, lines_of, digit_of, hex_bytes, n_in, a_in, run_in, release_of, plan_in, list_in, version_check, layout_check}
+use Rattle.rules.specs.Text.{string_lines_check, release_lines_check, body_check}
 use Rattle.reading.specs.declared.Framed.{Framed}
 
 -- ---- Lines
 
+abbrev pub is_digit : ℕ → Bool
+is_digit b = ltb (digit_of b) 16
+
 unfoldable pub digits_ahead : List ℕ → ℕ
 digits_ahead [] = 0
-digits_ahead (b ∷ bs) = cond (ltb (digit_of b) 16) (suc (digits_ahead bs)) 0
+digits_ahead (b ∷ bs) = cond (is_digit b) (suc (digits_ahead bs)) 0
 
 abbrev pub head_line : List Line → Line
 head_line [] = record { bytes = []; ended = false }
@@ -108,18 +112,20 @@ module _ (v : Version) where
     pub plan : p ≡ plan_in v (lines_of text)
     pub strings : string_lines_check v (line_at text 0) 2 p.n (lines_from text strings_at) ≡ Lawful
 
-  unfoldable pub body_reading : List ℕ → Reading
-  body_reading text =
-      lawful_reading v (body_check v (line_at text 0) (plan_in v (lines_of text)) (lines_from text strings_at)) (lines_of text)
+  abbrev pub said_of : Checked → List Line → Result PlanFile Refusal
+  said_of c lines = then c (Ok (record { plan = plan_in v lines; releases = list_in v lines }))
+
+  unfoldable pub body_said : List ℕ → Result PlanFile Refusal
+  body_said text = said_of (body_check v (line_at text 0) (plan_in v (lines_of text)) (lines_from text strings_at)) (lines_of text)
 
   unfoldable pub list_check : List ℕ → Plan → Checked
   list_check text p = release_lines_check v p (p.n + 2) 1 [] (lines_from text (releases_at p.n))
 
-  unfoldable pub list_reading : List ℕ → Plan → Reading
-  list_reading text p = lawful_reading v (list_check text p) (lines_of text)
+  unfoldable pub list_said : List ℕ → Plan → Result PlanFile Refusal
+  list_said text p = said_of (list_check text p) (lines_of text)
 
-  unfoldable pub rest_reading : List ℕ → Plan → Reading
-  rest_reading text p = lawful_reading v (then (multiple_check (p.n + 1) p) (list_check text p)) (lines_of text)
+  unfoldable pub rest_said : List ℕ → Plan → Result PlanFile Refusal
+  rest_said text p = then (multiple_check (p.n + 1) p) (list_said text p)
 
   -- the releases that n lines from `at` on write, as the code stores them
   unfoldable pub release_list : List ℕ → ℕ → ℕ → Releases

@@ -2,8 +2,8 @@
 --     Affords p ss                  whichever job of ss pays, what it then has of moving fits the code's word
 --     Event ss t until e            e is a day after t, at the latest `until`, and no deadline after t of a job with something left lies
 --                                   before it
---     EndedBy n slots t until e     the evening e is what step 5 makes of the first n slots on the days from t to the next event
-use Rattle.std.specs.Prelude.{ℕ, ◌+◌, ◌≤◌, ◌<◌, ◌^◌, max, ◌≡◌, List, take, get_or}
+--     EndedBy slots later t until s     step 5 on the days from t to the next event, which are the stint s, makes of the slots those later
+use Rattle.std.specs.Prelude.{ℕ, ◌+◌, ◌≤◌, ◌<◌, ◌^◌, max, ◌≡◌, List, get_or}
 use Rattle.rules.specs.declared.Plan.{Plan}
 use Rattle.rules.specs.declared.Slot.{Slot}
 use Rattle.rules.specs.Demand.{moving_cost}
@@ -11,7 +11,8 @@ use Rattle.rules.specs.Run.{left, no_slot, slot_at, holder, use_of}
 use Rattle.base.proofs.Lists.{All}
 use Rattle.laws.proofs.JobParts.{moving_of}
 use Rattle.stretch.specs.Stretch.{part_days, days_off}
-use Rattle.run.specs.declared.day.Evening.{Evening}
+use Rattle.days.specs.declared.Day.{Day}
+use Rattle.rules.specs.declared.Stint.{Stint}
 
 abbrev pub Affords : Plan → List Slot → Type 0
 Affords p ss = All (λ s. moving_of s.job + moving_cost p s.string < 2 ^ 32) ss
@@ -26,11 +27,11 @@ pub record Event (ss : List Slot) (t until e : ℕ) : Type 0 where
   pub latest : e ≤ until
   pub none-due : NoneDue ss t e
 
-pub record EndedBy (n : ℕ) (slots : List Slot) (t until : ℕ) (e : Evening) : Type 0 where
-  pub used : e.used ≡ use_of (take n slots)
-  pub after : take n e.slots ≡ days_off e.length.0 (take n slots)
-  pub some : 1 ≤ e.length.0
-  pub part : (holder (take n slots) ≡ 0 → ⊥)
-      → e.length.0 ≤ max 1 (part_days (slot_at (take n slots) (holder (take n slots))).job)
-  pub latest : t + e.length.0 ≤ until
-  pub none-due : NoneDue (take n slots) t (t + e.length.0)
+pub record EndedBy (slots later : List Slot) (today : Day) (until : ℕ) (s : Stint) : Type 0 where
+  pub first : s.first ≡ today
+  pub used : s.used ≡ use_of slots
+  pub after : later ≡ days_off s.length.0 slots
+  pub some : 1 ≤ s.length.0
+  pub part : (holder slots ≡ 0 → ⊥) → s.length.0 ≤ max 1 (part_days (slot_at slots (holder slots)).job)
+  pub latest : today.0 + s.length.0 ≤ until
+  pub none-due : NoneDue slots today.0 (today.0 + s.length.0)

@@ -5,9 +5,9 @@
 --     lawful_values p i x    the lawful ones, the hardest first
 --     HoldsValues p i x count list     the first `count` places of `list` hold them
 use Rattle.std.specs.Prelude.{ℕ, ◌≤◌, ◌≡◌, Bool, true, false, List, length, take}
+use Rattle.faults.specs.Checks.{Checked}
+use Rattle.std.specs.Prelude.{Ok, Err}
 use Rattle.base.specs.Count.{keep}
-use Rattle.faults.specs.declared.Checked.{Checked}
-use Rattle.faults.specs.declared.Checked.TheVariants.{Lawful, Refused}
 use Rattle.rules.specs.declared.Plan.{Plan}
 use Rattle.rules.specs.Refusal.{plan_check}
 use Rattle.slack.specs.declared.Letter.{Letter}
@@ -28,8 +28,8 @@ leaves_multiple letter.A = true
 leaves_multiple letter.J = true
 
 abbrev pub finds_nothing : Checked → Bool
-finds_nothing Lawful = true
-finds_nothing (Refused f at) = false
+finds_nothing (Ok _) = true
+finds_nothing (Err e) = false
 
 unfoldable pub lawful_with : Plan → ℕ → Letter → ℕ → Bool
 lawful_with p i x v = finds_nothing (plan_check (plan_with p i x v))

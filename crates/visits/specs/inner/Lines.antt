@@ -1,7 +1,7 @@
 -- For the proofs inside this crate: a visit text as the code takes it, line by line.
 --     lines_answer p rs lines    what is answered for the lines of a text that is not too long
 use Rattle.std.specs.Prelude.{List, map}
-use Rattle.faults.specs.declared.Checked.{Checked}
+use Rattle.faults.specs.Checks.{Checked}
 use Rattle.faults.specs.Checks.{then}
 use Rattle.rules.specs.declared.Plan.{Plan}
 use Rattle.rules.specs.declared.Releases.{Releases}

@@ -4,15 +4,18 @@
 --     follows a s           the stint s serves the release of the visit a, and starts on the day on which a has ended
 --     longer a s            the visit a with the stint s behind it
 --     with_stint vs s        the visits vs with the stint s behind them
---     placed_by last n s     where the stint s goes behind n visits, the last of which is `last`, what is written there, and how many there
---                           are then; an idle one writes what stands there
-use Rattle.std.specs.Prelude.{ℕ, ◌+◌, ◌-◌, ◌≤◌, ◌<◌, Bool, cond, ◌&&◌, List, [], ◌∷◌, map, eqb}
+--     worked_visit s         the visit that the stint s is
+--     last_at own            the last of the visits that are handed out
+--     pushed own v           the same with the visit v behind them, joined to the last where it touches it
+use Rattle.std.specs.Prelude.{ℕ, ◌+◌, ◌-◌, ◌≤◌, ◌<◌, Bool, cond, ◌&&◌, List, [], ◌∷◌, map, eqb, get_or, set, Option, Some, None}
 use Rattle.base.specs.Count.{up_from}
 use Rattle.rules.specs.declared.Stint.{Stint}
 use Rattle.rules.specs.Stints.{release_used}
 use Rattle.run.specs.Numbers.{stint_at}
 use Rattle.visits.specs.declared.Visit.{Visit}
-use Rattle.visits.specs.declared.own.Placed.{Placed}
+use Rattle.visits.specs.declared.OwnVisits.{OwnVisits}
+use Rattle.visits.specs.Visits.{end_of_visit}
+use Rattle.visits.specs.Accepted.{no_visit}
 use Rattle.visits.specs.OwnRun.{visit_of}
 
 abbrev pub stints_in : List ℕ → ℕ → List Stint
@@ -41,10 +44,18 @@ with_stint [] s = cond (eqb (served_by s) 0) [] (visit_alone s ∷ [])
 with_stint (a ∷ []) s = cond (eqb (served_by s) 0) (a ∷ []) (cond (follows a s) (longer a s ∷ []) (a ∷ visit_alone s ∷ []))
 with_stint (a ∷ b ∷ vs) s = a ∷ with_stint (b ∷ vs) s
 
-unfoldable pub placed_by : Visit → ℕ → Stint → Placed
-placed_by last n s =
-    cond (eqb (served_by s) 0)
-    (record { at = n - 1; visit = last; count = n })
-    (cond (follows last s)
-    (record { at = n - 1; visit = longer last s; count = n })
-    (record { at = n; visit = visit_alone s; count = n + 1 }))
+-- ---- Handed out
+
+-- the visit that a stint is; an idle one is none
+unfoldable pub worked_visit : Stint → Option Visit
+worked_visit s = cond (eqb (served_by s) 0) None (Some (visit_alone s))
+
+abbrev pub last_at : OwnVisits → Visit
+last_at own = get_or own.list (own.count - 1) no_visit
+
+unfoldable pub pushed : OwnVisits → Visit → OwnVisits
+pushed own v =
+    let last = last_at own in
+    cond (eqb v.release last.release && eqb v.first.0 (end_of_visit last))
+    (record { count = own.count; list = set own.list (own.count - 1) (visit_of last.release last.first.0 (last.length.0 + v.length.0)) })
+    (record { count = own.count + 1; list = set own.list own.count v })

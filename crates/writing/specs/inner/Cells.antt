@@ -3,11 +3,12 @@
 --     cell_text c            the digits of a cell
 --     cells_size cs          the bytes of the cells' numbers
 --     cells_text cs          the digits of the cells, one after the other
---     Room cells count k    so many cells there are, and k bytes of the page hold their line
---     SaysFrame cells count l says    the first count of seven cells write the frame of the layout l that says so
+--     WritingSmall cells            each cell has at most the four bytes of a number
+--     Room cells k           k bytes of the page hold the cells' line
+--     SaysFrame cells l says    the cells write the frame of the layout l that says so
 --     StringsFit v p k, ReleasesFit v rs k, PlanFits v p rs k    k bytes of the page hold their lines, and each number is one that a
 --                           cell holds
-use Rattle.std.specs.Prelude.{ℕ, ◌+◌, ◌*◌, ◌≤◌, ◌≡◌, length, take}
+use Rattle.std.specs.Prelude.{ℕ, ◌+◌, ◌*◌, ◌≤◌, ◌≡◌, length}
 use mathlib.Core.List.{List, flat_map}
 use Rattle.base.specs.Count.{All, sum_of}
 use Rattle.rules.specs.declared.Plan.{Plan}
@@ -29,16 +30,18 @@ cells_size cs = sum_of (λ c. c.size) cs
 unfoldable pub cells_text : List Cell → List ℕ
 cells_text cs = flat_map cell_text cs
 
-pub record Room (cells : List Cell) (count k : ℕ) : Type 0 where
-  pub few : count ≤ 7
-  pub there : count ≤ length cells
-  pub bytes : cells_size (take count cells) * 2 + 1 ≤ k
+abbrev pub WritingSmall : List Cell → Type 0
+WritingSmall cells = All (λ c. c.size ≤ 4) cells
+
+pub record Room (cells : List Cell) (k : ℕ) : Type 0 where
+  pub small : WritingSmall cells
+  pub bytes : cells_size cells * 2 + 1 ≤ k
 
 module _ {F : Type 0} where
-  pub record SaysFrame (cells : List Cell) (count : ℕ) (l : Layout F) (says : F → ℕ) : Type 0 where
-    pub seven : length cells ≡ 7
-    pub size : cells_size (take count cells) ≡ frame_size l
-    pub text : cells_text (take count cells) ≡ flat_map byte_text (frame_bytes l says)
+  pub record SaysFrame (cells : List Cell) (l : Layout F) (says : F → ℕ) : Type 0 where
+    pub small : WritingSmall cells
+    pub size : cells_size cells ≡ frame_size l
+    pub text : cells_text cells ≡ flat_map byte_text (frame_bytes l says)
 
 pub record StringsFit (v : Version) (p : Plan) (k : ℕ) : Type 0 where
   pub some : 1 ≤ p.n

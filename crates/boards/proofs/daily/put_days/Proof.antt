@@ -4,7 +4,7 @@ use mathlib.Core.Path.{ap₂}
 use Rattle.base.specs.Count.{keep, put_at}
 use Rattle.calendar.specs.Numbers.{date_of, last_day}
 use Rattle.lines.specs.{Pages.text_of, Board.used_line}
-use Rattle.lines.proofs.Growing.{text-is}
+use Rattle.lines.proofs.Growing.{text-is, within}
 use Rattle.boards.specs.{declared.Test.Test, Board.tests_of, Paging.{fitted, days_fitted}, inner.Daily.{head_with, falls_by, day_text, day_by, run_text, run_days}}
 use Rattle.boards.proofs.{InPlace.{put_at-length, put_at-next, put_at-none}, Days.{head-long, day-long}, Fitting.{run_more, run-days, run-full, run_none, run-fitted}, daily.put_days.Statement.statement}
 use Rattle.boards.proofs.daily.put_days.Tie as tie
@@ -53,7 +53,7 @@ module _ (o : tie.At-loop-passed invariant-loop decreases-loop) where
   -- the line's tail is that of the use
   tail-is : tail ≡ used_line start.args.used
   unfolding text_of
-  tail-is = text-is o.used_line-line.result (used_line start.args.used) o.used_line-line.ensures.0
+  tail-is = text-is o.used_line-line.result (used_line start.args.used) o.used_line-line.ensures
 
   -- what was written, once no more is
   module _ (none : run_text (day_by tail tests) (length page₀ - o.loop-passed.place) k (start.args.count - o.loop-passed.passed) ≡ [])
@@ -99,8 +99,8 @@ loop-holds c =
     record {
       upto = omega arith;
       days-there = s.requires.1;
-      short = omega (arith, c.used_line-line.ensures.1);
-      tail = c.used_line-line.ensures.1;
+      short = omega (arith, within c.used_line-line.result (used_line s.args.used) c.used_line-line.ensures);
+      tail = within c.used_line-line.result (used_line s.args.used) c.used_line-line.ensures;
       text = [];
       room = omega (arith, s.requires.0);
       front = rw (none, all);

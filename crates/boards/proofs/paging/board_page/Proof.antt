@@ -142,12 +142,12 @@ module _ (p : tie.After-put_days-filled invariant-loop decreases-loop) where
   stint-is : p.stint_at-stint.result ≡ found
   stint-is = p.stint_at-stint.ensures.0
 
-  left_is : p.less-left.result ≡ stay
-  left_is = p.less-left.ensures ∙ ap (λ (f : Stint). f.length.0 - at.loop-i.skip) stint-is
+  left_is : p.saturating_sub-left.result ≡ stay
+  left_is = p.saturating_sub-left.ensures ∙ ap (λ (f : Stint). f.length.0 - at.loop-i.skip) stint-is
 
-  asked : replicate p.smaller.result p.stint_at-stint.result.used ≡ run
+  asked : replicate p.min.result p.stint_at-stint.result.used ≡ run
   asked =
-      ap₂ replicate (p.smaller.ensures ∙ ap (λ n. min n (last_day + 1 - at.loop-i.day)) left_is)
+      ap₂ replicate (p.min.ensures ∙ ap (λ n. min n (last_day + 1 - at.loop-i.day)) left_is)
       (ap (λ (f : Stint). f.used) stint-is)
 
   days-said : p.put_days-filled.result.days ≡ days_fitted room at.loop-i.day (tests s) run
@@ -156,7 +156,7 @@ module _ (p : tie.After-put_days-filled invariant-loop decreases-loop) where
       ∙ ap₂ (λ n us. days_fitted (n - at.loop-i.at) at.loop-i.day (tests s) us) (size at) asked
 
   text-said : fitted (length at.loop-i.page - at.loop-i.at) at.loop-i.day (tests s)
-      (replicate p.smaller.result p.stint_at-stint.result.used)
+      (replicate p.min.result p.stint_at-stint.result.used)
       ≡ fitted room at.loop-i.day (tests s) run
   text-said = ap₂ (λ n us. fitted (n - at.loop-i.at) at.loop-i.day (tests s) us) (size at) asked
 
@@ -200,7 +200,7 @@ module _ (p : tie.After-put_days-filled invariant-loop decreases-loop) where
   ahead = in_calendar at.loop-i.day (drop at.loop-i.skip (left at))
 
   -- not all of its days were put
-  module _ (less : p.put_days-filled.result.days < p.less-left.result) where
+  module _ (less : p.put_days-filled.result.days < p.saturating_sub-left.result) where
     some : (fitted room at.loop-i.day (tests s) ahead ≡ text)
         × (days_fitted room at.loop-i.day (tests s) ahead ≡ p.put_days-filled.result.days)
     some =
@@ -220,11 +220,11 @@ module _ (p : tie.After-put_days-filled invariant-loop decreases-loop) where
         (omega (arith, some.1, at.loop-i.invariant.so_far)) long-next put
 
   -- all were
-  module _ (all : p.less-left.result ≤ p.put_days-filled.result.days) where
+  module _ (all : p.saturating_sub-left.result ≤ p.put_days-filled.result.days) where
     every-day : stay ≤ days_fitted room at.loop-i.day (tests s) run
     every-day = omega (arith, days-said, all, left_is)
 
-    still : at.loop-i.day + p.less-left.result ≤ last_day + 1
+    still : at.loop-i.day + p.saturating_sub-left.result ≤ last_day + 1
     still =
         omega (
           arith,
@@ -247,22 +247,22 @@ standing a = a.before.before.before.before.before
 ready : tie.Need-put_days-filled-requires invariant-loop decreases-loop
 ready c κs =
     let o = standing c.before in
-    (omega (arith, size o, o.loop-i.invariant.room, o.loop-i.invariant.next), omega (arith, c.smaller.ensures, o.loop-i.invariant.there))
+    (omega (arith, size o, o.loop-i.invariant.room, o.loop-i.invariant.next), omega (arith, c.min.ensures, o.loop-i.invariant.there))
 
 loop-again : tie.Need-loop-i-preserved invariant-loop decreases-loop
 loop-again c =
     let p = c.before.before.before.before.before.before.before in
     let o = at p in
-    let all : p.less-left.result ≤ p.put_days-filled.result.days = omega (arith, c.if-filled-left.false) in
+    let all : p.saturating_sub-left.result ≤ p.put_days-filled.result.days = omega (arith, c.if-filled-left.false) in
     let onward = stint-passed (tests (s p)) (room p) o.loop-i.day (stay p) (used p) (rest p) o.loop-i.invariant.there (every-day p all) in
     let so = o.loop-i.invariant.text in
     let new = (at p).loop-i.at + p.put_days-filled.result.length in
-    let day = o.loop-i.day + p.less-left.result in
+    let day = o.loop-i.day + p.saturating_sub-left.result in
     let day-is : o.loop-i.day + stay p ≡ day = omega (arith, left_is p) in
     let room-is : room p - length (text p) ≡ length (page₀ (s p)) - new = omega (arith, long-said p) in
-    let skip_is : o.loop-i.skip - long p ≡ c.less-skip.result =
-    sym (c.less-skip.ensures ∙ ap (λ (f : Stint). o.loop-i.skip - f.length.0) (stint-is p)) in
-    let after = in_calendar day (drop c.less-skip.result (uses_in (list (s p)) (i p + 1) ((s p).args.b.stints - (i p + 1)))) in
+    let skip_is : o.loop-i.skip - long p ≡ c.saturating_sub-skip.result =
+    sym (c.saturating_sub-skip.ensures ∙ ap (λ (f : Stint). o.loop-i.skip - f.length.0) (stint-is p)) in
+    let after = in_calendar day (drop c.saturating_sub-skip.result (uses_in (list (s p)) (i p + 1) ((s p).args.b.stints - (i p + 1)))) in
     let left = length (page₀ (s p)) - new in
     let text-more : fitted (room p) o.loop-i.day (tests (s p)) (ahead p) ≡ text p ++ fitted left day (tests (s p)) after =
     ap (λ us. fitted (room p) o.loop-i.day (tests (s p)) (in_calendar o.loop-i.day us)) (here p) ∙ onward.0

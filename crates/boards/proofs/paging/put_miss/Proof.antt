@@ -4,7 +4,7 @@ use mathlib.Core.Path.{ap₂}
 use Rattle.base.specs.Count.{put_at}
 use Rattle.calendar.specs.Numbers.{last_day}
 use Rattle.lines.specs.{Pages.text_of, Board.missed_line}
-use Rattle.lines.proofs.Growing.{text-is, len_is}
+use Rattle.lines.proofs.Growing.{text-is, len_is, within}
 use Rattle.boards.specs.inner.Daily.{head_with}
 use Rattle.boards.proofs.{Ending.{miss_line, miss_line-long, end-late, end_short, end-put}, paging.put_miss.Statement.statement}
 use Rattle.boards.proofs.paging.put_miss.Tie as tie
@@ -27,12 +27,12 @@ module _ (b : tie.After-bytes-1) where
   there = omega (arith, made.if-start-day.false, made.if-start-gt-LAST_DAY.false)
 
   long : made.missed_line-line.result.len ≡ length (missed_line start.args.place)
-  long = len_is made.missed_line-line.result (missed_line start.args.place) made.missed_line-line.ensures.0
+  long = len_is made.missed_line-line.result (missed_line start.args.place) made.missed_line-line.ensures
 
   short : made.missed_line-line.result.len ≤ 256
   short =
       let bytes : length made.missed_line-line.result.bytes ≡ 256 = made.missed_line-line.type_inv.1.1.1.0.1.0.1 in
-      omega (arith, made.missed_line-line.ensures.1)
+      omega (arith, within made.missed_line-line.result (missed_line start.args.place) made.missed_line-line.ensures)
 
 -- and its head
 module _ (c : tie.After-bytes-2-1) where
@@ -50,7 +50,7 @@ module _ (c : tie.After-bytes-2-1) where
   is =
       let on = k at + (start at).args.day.0 in
       ap₂ (λ h t. h ++ t) (c.head.ensures ∙ ap (λ d. head_with d on) c.date_on.ensures)
-      (text-is (made at).missed_line-line.result (missed_line (start at).args.place) (made at).missed_line-line.ensures.0)
+      (text-is (made at).missed_line-line.result (missed_line (start at).args.place) (made at).missed_line-line.ensures)
 
   room : 15 + length (missed_line (start at).args.place) ≤ length (page at)
   room = omega (arith, long at, c.if-page-len.false)
@@ -78,4 +78,6 @@ put_miss_spec =
     (λ c. search rules) (λ c κs. search rules) (λ c. omega (arith, short c))
     (λ c. end_short _ _ _ _ (there c.before) (omega (arith, c.if-page-len.true, long c.before)))
     (λ c κs. search rules) (λ c κs. search rules) (λ c. search rules)
-    (λ c. sym (length-take-le _ _ (made (at c)).missed_line-line.ensures.1)) (λ c κs. fits c) (λ c. search rules) returns-4)
+    (λ c. sym (length-take-le _ _
+    (within (made (at c)).missed_line-line.result (missed_line (start (at c)).args.place) (made (at c)).missed_line-line.ensures)))
+    (λ c κs. fits c) (λ c. search rules) returns-4)

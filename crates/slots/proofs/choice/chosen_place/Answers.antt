@@ -1,53 +1,71 @@
--- `slots::choice::chosen_place` meets its contract: one slot more is looked at as the choice says.
-use Rattle.base.proofs.Prelude.{suc, ◌≡◌, refl, sym, ap, ◌∙◌, arith, add-one, length, take, length-take}
-use Rattle.rules.specs.Run.{chosen}
-use Rattle.slots.specs.inner.Question.{ok_of, ahead_of, chosen_for}
-use Rattle.laws.proofs.Choice.{chosen-not, chosen-first, chosen-ahead, chosen-behind, chosen-le, chosen-all}
+-- one slot more is looked at as the choice says
+use Rattle.std.proofs.Common.{ℕ, ◌+◌, ◌≡◌, ◌≤◌, sym, ap, ◌∙◌, suc, add-one, refl, arith, unwrap_or, IfSome}
+use Rattle.std.specs.Prelude.{Option, None, Some}
+use Rattle.rules.specs.Run.{chosen, slot_at}
+use Rattle.laws.proofs.Slots.{at}
+use Rattle.laws.proofs.Choice.{chosen-not, chosen-first, chosen-ahead, chosen-behind}
 use Rattle.slots.proofs.choice.chosen_place.Goals as goal
-use Rattle.slots.proofs.choice.chosen_place.Goals.{then-passes+then-best-eq0, then-passes+else-best-eq0+then-is_ahead, then-passes+else-best-eq0+else-is_ahead, else-passes}
+use Rattle.slots.proofs.choice.chosen_place.Goals.{in-None, in-Some, then-leads+then-passes, else-leads, else-leads-via-then-leads+else-passes, else-leads-via-else-leads}
 
-pub loop-k-init : goal.loop-k-init
+within_more : (best : Option ℕ) (k : ℕ) → IfSome best (λ place. (1 ≤ place) × (place ≤ k))
+    → IfSome best (λ place. (1 ≤ place) × (place ≤ k + 1))
+within_more None k h = tt
+within_more (Some place) k h = (h.0, omega arith)
+
+pub loop-i-init : goal.loop-i-init
 unfolding chosen
-loop-k-init c = record { within = omega arith; few = omega (arith, c.counted-end.ensures.exact); best = refl }
+loop-i-init g c = record { so_far = λ ok first asked compared. refl; within = tt }
 
-pub offset_bounds-slots-best : goal.offset_bounds-slots-best
-offset_bounds-slots-best c =
-    omega (arith, c.loop-k.invariant.best, chosen-le (ok_of c.args.q) (ahead_of c.args.q) c.args.slots c.loop-k.k)
-
-pub bounds-slots-best : goal.bounds-slots-best
-bounds-slots-best c = omega (arith, c.loop-k.invariant.best, chosen-le (ok_of c.args.q) (ahead_of c.args.q) c.args.slots c.loop-k.k)
-
-pub loop-k-preserved : goal.loop-k-preserved
-loop-k-preserved c =
-    let ok = ok_of c.args.q in
-    let ahead = ahead_of c.args.q in
-    let ss = c.args.slots in
-    let k = c.loop-k.k in
-    let was = c.loop-k.invariant.best in
-    let passed = c.passes.ensures.exact in
-    let next : c.if-passes.best ≡ chosen ok ahead ss (suc k) =
-    elim c.if-passes.branch [
-      | then-passes+then-best-eq0 w ↦
-          w.best-is ∙ add-one _ ∙ sym (chosen-first ok ahead ss k (sym passed ∙ w.if-passes.true) (sym was ∙ w.if-best-eq0.true))
-      | then-passes+else-best-eq0+then-is_ahead w ↦
-          w.best-is ∙ add-one _
-          ∙ sym (chosen-ahead ok ahead ss k (sym passed ∙ w.if-passes.true)
-          (rw (← was) (sym w.is_ahead.ensures.exact ∙ w.if-is_ahead.true)))
-      | then-passes+else-best-eq0+else-is_ahead w ↦
-          w.best-is ∙ was
-          ∙ sym (chosen-behind ok ahead ss k (λ z. w.if-best-eq0.false (was ∙ z))
-          (rw (← was) (sym w.is_ahead.ensures.exact ∙ w.if-is_ahead.false)))
-      | else-passes w ↦ w.best-is ∙ was ∙ sym (chosen-not ok ahead ss k (sym passed ∙ w.if-passes.false))
-    ] in
-    record { within = omega arith; few = c.loop-k.invariant.few; best = rw add-one next }
-
-pub returns : goal.returns
-unfolding chosen_for
-returns c =
-    let ok = ok_of c.args.q in
-    let ahead = ahead_of c.args.q in
-    let ss = c.args.slots in
-    let n = c.args.n in
-    let ten : length ss ≡ 10 = c.well_formed.1.0.1.0.1 in
-    let all : c.loop-k.k ≡ length (take n ss) = omega (arith, c.counted-end.ensures.exact, length-take n ss) in
-    record { exact = c.loop-k.invariant.best ∙ ap (chosen ok ahead ss) all ∙ sym (chosen-all ok ahead ss n) }
+pub loop-i-preserved : goal.loop-i-preserved
+loop-i-preserved g c = record {
+  so_far = λ ok first asked compared.
+      let k = c.loop-i.i in
+      let ss = c.args.slots.now in
+      let was = c.loop-i.invariant.so_far ok first asked compared in
+      let next : unwrap_or c.if-leads.best 0 ≡ chosen ok first ss (suc k) =
+      elim c.match-best.branch [
+        | in-None m ↦
+            let none : chosen ok first ss k ≡ 0 = sym was ∙ ap (λ o. unwrap_or o 0) m.in-None.is in
+            elim c.if-leads.branch [
+              | then-leads+then-passes w ↦
+                  ap (λ o. unwrap_or o 0) w.best-is ∙ add-one k
+                  ∙ sym (chosen-first ok first ss k (sym (asked _ _ w.passes.ensures) ∙ w.if-passes.true) none)
+              | else-leads w ↦
+                  elim w.else-leads.branch [
+                    | else-leads-via-then-leads+else-passes v ↦
+                        ap (λ o. unwrap_or o 0) (w.best-is ∙ m.best-is) ∙ was
+                        ∙ sym (chosen-not ok first ss k (sym (asked _ _ v.passes.ensures) ∙ v.if-passes.false))
+                    | else-leads-via-else-leads v ↦ absurd (cc)
+                  ]
+            ]
+        | in-Some m ↦
+            let some : chosen ok first ss k ≡ m.in-Some.place = sym was ∙ ap (λ o. unwrap_or o 0) m.in-Some.is in
+            let within = rw m.in-Some.is at c.loop-i.invariant.within in
+            let ahead = ap (λ i. first (at ss k) (slot_at ss i)) some ∙ sym (compared _ _ _ m.is_ahead-leads.ensures) ∙ sym m.leads-is in
+            elim c.if-leads.branch [
+              | then-leads+then-passes w ↦
+                  ap (λ o. unwrap_or o 0) w.best-is ∙ add-one k
+                  ∙ sym (chosen-ahead ok first ss k (sym (asked _ _ w.passes.ensures) ∙ w.if-passes.true) (ahead ∙ w.if-leads.true))
+              | else-leads w ↦
+                  elim w.else-leads.branch [
+                    | else-leads-via-then-leads+else-passes v ↦
+                        ap (λ o. unwrap_or o 0) (w.best-is ∙ m.best-is) ∙ sym some
+                        ∙ sym (chosen-not ok first ss k (sym (asked _ _ v.passes.ensures) ∙ v.if-passes.false))
+                    | else-leads-via-else-leads v ↦
+                        ap (λ o. unwrap_or o 0) (w.best-is ∙ m.best-is) ∙ sym some
+                        ∙ sym (chosen-behind ok first ss k (λ z. omega arith) (ahead ∙ v.if-leads.false))
+                  ]
+            ]
+      ] in
+      rw add-one next;
+  within =
+      elim c.if-leads.branch [
+        | then-leads+then-passes w ↦ rw w.best-is (omega arith, omega arith)
+        | else-leads w ↦
+            elim c.match-best.branch [
+              | in-None m ↦ rw (w.best-is, m.best-is, m.in-None.is) tt
+              | in-Some m ↦ rw (w.best-is, m.best-is)
+                  (within_more (Some m.in-Some.place) c.loop-i.i (rw m.in-Some.is at c.loop-i.invariant.within))
+            ]
+      ];
+}

@@ -1,0 +1,7 @@
+use Rattle.rules.specs.Lines.{bytes_of}
+use Rattle.lines.specs.Why.{over_line}
+use Rattle.lines.proofs.why.over_line.Goals as goal
+
+pub returns : goal.returns
+unfolding bytes_of over_line
+returns c = record { exact = rw c.saturating_sub.ensures at c.lone_line.ensures.exact }

@@ -1,0 +1,11 @@
+-- Cell by cell it is the release's layout in every version.
+use Rattle.writing.proofs.CellsSaid.{release-says}
+use Rattle.writing.proofs.says.release_cells.Goals as goal
+
+pub returns : goal.returns
+returns c =
+    record {
+      exact =
+          rw (c.of.ensures.exact, c.of-2.ensures.exact, c.of-3.ensures.exact, c.of-4.ensures.exact, c.of-5.ensures.exact)
+          (release-says c.args.version c.layouts-layouts.result c.layouts-layouts.ensures.exact c.args.r);
+    }
