@@ -2,17 +2,20 @@
 // cannot be read is named on standard error and gets no board.
 #![tactic(auto)]
 
+mod outside;
+
 ghost use Rattle.std.specs.Prelude.{◌≤◌};
 
 use boards::Board;
 use days::Day;
-use doors::{Stop, asked_for_status, complain, fill, fill_by, status, unread, word_count, write};
+use doors::{Stop, complain, status, unread};
 use faults::Fault;
 use lines::Page;
+use outside::{asked_for_status, fill, fill_by, word_count, write};
 use std::process::ExitCode;
 use std::rt::Env;
 
-const BOARD: &[u8] = b"board";
+const BOARD: &[u8] = b"board: ";
 
 // The last day of the calendar.
 const LAST: u32 = 146_096;

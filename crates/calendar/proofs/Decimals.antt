@@ -4,7 +4,9 @@ use Rattle.base.proofs.Prelude.{ℕ, ◌+◌, ◌-◌, ◌*◌, ◌≤◌, ◌<�
 use Rattle.std.specs.Prelude.{Some, None, Option}
 use Rattle.base.specs.{Count.every, Digits.{number_on, decimal_on}}
 use Rattle.base.proofs.Lists.{by_bool}
-use Rattle.calendar.specs.{Numbers.last_day, Texts.fits_at, inner.Places.digits_number}
+use Rattle.faults.specs.Checks.{Refused}
+use Rattle.faults.specs.declared.Fault.TheVariants.{NoSuchDate}
+use Rattle.calendar.specs.{Numbers.last_day, Texts.{fits_at, no_number, day_reading}, inner.Places.digits_number}
 
 unfoldable pub digits_after : ℕ → List ℕ → Option ℕ
 digits_after n text = cond (every (fits_at 0x30) text && leb (decimal_on n text) last_day) (Some (decimal_on n text)) None
@@ -40,3 +42,9 @@ module _ (n : ℕ) (text : List ℕ) (i : ℕ) (h : i < length text) where
 pub digits_after-end : (n : ℕ) (text : List ℕ) (i : ℕ) → length text ≤ i → n ≤ last_day → digits_after n (drop i text) ≡ Some n
 unfolding digits_after every number_on
 digits_after-end n text i over within = rw (drop_of_length-le text over, le-leb n last_day within)
+
+-- ---- Reading
+
+pub day_reading-none : (text : List ℕ) → no_number text ≡ true → day_reading text ≡ Refused NoSuchDate 0
+unfolding day_reading
+day_reading-none text none = by_bool (every (fits_at 0x30) text) (λ t. rw (t, none)) (λ f. rw f)

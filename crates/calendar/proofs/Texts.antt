@@ -6,7 +6,7 @@ use Rattle.std.specs.List.{zip, HoldsAt}
 use Rattle.base.specs.Digits.{number_on}
 use Rattle.base.proofs.Lists.{All, by_bool, and_right}
 use Rattle.faults.specs.declared.Fault.TheVariants.{NoSuchDate, NoSuchEdition}
-use Rattle.calendar.specs.{declared.Date.Date, Dates.{date, date_exists}, Yearly.{no_edition, in_no_year}, Texts.{fits_at, fits, number, date_form, yearly_form, date_in, yearly_in, date_reading, yearly_reading, edition_form, edition_reading, date_text, date_writing}}
+use Rattle.calendar.specs.{declared.Date.Date, declared.YearlyDate.YearlyDate, Dates.{date, date_exists}, Yearly.{no_edition, in_no_year}, Texts.{fits_at, fits, number, date_form, yearly_form, date_in, yearly_in, date_reading, yearly_reading, edition_form, edition_reading, date_text, yearly_text, date_writing, yearly_writing}}
 
 -- ---- Forms
 
@@ -125,3 +125,15 @@ yearly_in-pairs text m d month day = rw (month, day)
 pub date_writing-is : (d : Date) → date_exists d ≡ true → date_writing d ≡ Ok (date_text d)
 unfolding date_writing
 date_writing-is d h = rw h
+
+pub date_writing-refused : (d : Date) → date_exists d ≡ false → date_writing d ≡ Refused NoSuchDate 0
+unfolding date_writing
+date_writing-refused d h = rw h
+
+pub yearly_writing-is : (t : YearlyDate) → in_no_year t ≡ false → yearly_writing t ≡ Ok (yearly_text t)
+unfolding yearly_writing
+yearly_writing-is t h = rw h
+
+pub yearly_writing-refused : (t : YearlyDate) → in_no_year t ≡ true → yearly_writing t ≡ Refused NoSuchDate 0
+unfolding yearly_writing
+yearly_writing-refused t h = rw h

@@ -1,5 +1,5 @@
 -- Laws of yearly lists: year by year, and which years can be left out.
-use Rattle.base.proofs.Prelude.{ℕ, zero, suc, ◌+◌, ◌-◌, ◌≤◌, ◌<◌, ◌≡◌, refl, sym, ap, ◌∙◌, true, false, List, [], ◌∷◌, ◌++◌, arith, append_assoc, append-nil}
+use Rattle.base.proofs.Prelude.{ℕ, zero, suc, ◌+◌, ◌-◌, ◌≤◌, ◌<◌, ◌≡◌, refl, sym, ap, ◌∙◌, true, false, List, [], ◌∷◌, ◌++◌, arith, length, length-append, append_assoc, append-nil}
 use Rattle.std.specs.Prelude.{Some, None, Option}
 use Rattle.std.specs.List.{filter_map, range_with_len, cons_option}
 use Rattle.base.specs.Count.{keep, up_from}
@@ -44,6 +44,13 @@ module _ (ed : ℕ) (t : YearlyDate) (a e : ℕ) where
   unfolding keep
   days_in-outside y h out = days_in-there y h ∙ rw out
 
+  days_in-one : (y : ℕ) → length (days_in ed t a e (y ∷ [])) ≤ 1
+  unfolding days_in dates_in keep
+  days_in-one y =
+      by_bool (date_exists (in_year ed t y))
+      (λ h. by_bool (in_bounds a (day_number (in_year ed t y)) e) (λ g. rw (h, g) (omega arith)) (λ g. rw (h, g) (omega arith)))
+      (λ h. rw h (omega arith))
+
   -- ---- Year by year
 
   days_in-cons : (y : ℕ) (ys : List ℕ) → days_in ed t a e (y ∷ ys) ≡ days_in ed t a e (y ∷ []) ++ days_in ed t a e ys
@@ -56,6 +63,16 @@ module _ (ed : ℕ) (t : YearlyDate) (a e : ℕ) where
   days_in-nil : days_in ed t a e [] ≡ []
   unfolding days_in dates_in keep
   days_in-nil = refl
+
+  -- at most one day a year
+  pub days_in-few : (y n : ℕ) → length (days_in ed t a e (up_from y n)) ≤ n
+  unfolding up_from
+  days_in-few y zero = omega (arith, ap length days_in-nil)
+  days_in-few y (suc n) =
+      let rest = days_in-few (suc y) n in
+      let first = days_in-one y in
+      let parts = length-append (days_in ed t a e (y ∷ [])) (days_in ed t a e (up_from (suc y) n)) in
+      omega (arith, ap length (days_in-cons y (up_from (suc y) n)))
 
   -- ---- Years that end before the first day, and that begin after the last
 

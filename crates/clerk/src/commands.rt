@@ -1,7 +1,7 @@
 // A command is its words, each ended by a byte 0: the words of a start, or those of a line in a list of commands.
 ghost use Rattle.std.specs.Counts.{IsPrefixLen};
 
-use doors::word_count;
+use super::outside::word_count;
 use std::rt::Env;
 
 #[derive(Clone, Copy)]

@@ -67,10 +67,11 @@ pub(crate) fn yearly_days(rt: &HostRuntime, command: Command) -> Result<(), Stop
     if count == 0 {
         return none(rt, asked);
     }
+    let mut ended = Ok(());
     for day in list.iter().take(count) {
-        say::page(rt, lines::day_line(Day(*day)))?;
+        ended = say::more(rt, ended, lines::day_line(Day(*day)));
     }
-    Ok(())
+    ended
 }
 
 // The test falls on no day from the first to the last: why, or when it falls next.

@@ -11,14 +11,14 @@ const COLUMNS: usize = 70;
 
 pub(crate) fn draw(rt: &HostRuntime, command: Command) -> Result<(), Stop> {
     let PlanFile { plan, releases } = open_plan(rt, command, b"bars [FILE]")?;
-    say::page(rt, bars::head_shown(plan, releases))?;
+    let mut ended = say::page(rt, bars::head_shown(plan, releases));
     for place in 1..=plan.n {
-        say::page(rt, bars::row_shown(plan, releases, place))?;
+        ended = say::more(rt, ended, bars::row_shown(plan, releases, place));
     }
-    say::page(rt, lines::marks_line())?;
+    ended = say::more(rt, ended, lines::marks_line());
     // which idle days share a column
     for column in 1..=COLUMNS {
-        say::page(rt, bars::idle_shown(plan, releases, column))?;
+        ended = say::more(rt, ended, bars::idle_shown(plan, releases, column));
     }
-    say::page(rt, bars::cut_shown(plan, releases))
+    say::more(rt, ended, bars::cut_shown(plan, releases))
 }

@@ -3,10 +3,11 @@ ghost use Rattle.std.specs.Prelude.{◌≤◌};
 
 use super::commands::Command;
 use super::files::read_by;
+use super::outside::write;
 use super::plans::name_in;
 use super::say;
 use super::words::answer;
-use doors::{Stop, worse, write};
+use doors::{Stop, worse};
 
 pub(crate) fn each(rt: &HostRuntime, command: Command) -> Result<(), Stop> {
     let mut text = [0u8; 65537];

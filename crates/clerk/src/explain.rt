@@ -18,43 +18,46 @@ pub(crate) fn why(rt: &HostRuntime, command: Command) -> Result<(), Stop> {
 }
 
 fn say_pair(rt: &HostRuntime, plan: Plan, interval: Length, blocking: Length) -> Result<(), Stop> {
-    say::page(rt, lines::pair_line(interval, blocking))?;
-    say::page(rt, why::blocker_shown(plan, interval, blocking))?;
-    say::page(rt, lines::blocking_line(blocking))?;
-    say_shares(rt, plan, interval, blocking)?;
-    say::page(rt, why::demand_shown(plan, interval, blocking))
+    let mut ended = say::page(rt, lines::pair_line(interval, blocking));
+    ended = say::more(rt, ended, why::blocker_shown(plan, interval, blocking));
+    ended = say::more(rt, ended, lines::blocking_line(blocking));
+    ended = say_shares(rt, ended, plan, interval, blocking);
+    say::more(rt, ended, why::demand_shown(plan, interval, blocking))
 }
 
-// By place.
+// By place, behind lines that ended so.
 fn say_shares(
     rt: &HostRuntime,
+    before: Result<(), Stop>,
     plan: Plan,
     interval: Length,
     blocking: Length,
 ) -> Result<(), Stop> {
+    let mut ended = before;
     for place in 1..=plan.n {
-        say::page(rt, why::share_shown(plan, interval, blocking, place))?;
+        ended = say::more(rt, ended, why::share_shown(plan, interval, blocking, place));
     }
-    Ok(())
+    ended
 }
 
 // Over H days with no blocking each string asks for its part of the load.
 fn say_overload(rt: &HostRuntime, plan: Plan) -> Result<(), Stop> {
     let found = verdict::figures(plan).map_err(|refusal| say::refused(rt, refusal))?;
-    say::page(rt, lines::multiple_line(found.multiple))?;
-    say_shares(rt, plan, Length(found.multiple), Length(0))?;
-    say::page(rt, lines::over_line(found.load, found.multiple))
+    let mut ended = say::page(rt, lines::multiple_line(found.multiple));
+    ended = say_shares(rt, ended, plan, Length(found.multiple), Length(0));
+    say::more(rt, ended, lines::over_line(found.load, found.multiple))
 }
 
 pub(crate) fn demand(rt: &HostRuntime, command: Command) -> Result<(), Stop> {
     let plan = open_plan(rt, command, b"demand [FILE]")?.plan;
     let last = why::last_interval(plan);
     // the intervals at which some demand grows, and those that break the rule, one after the other
+    let mut ended = Ok(());
     for l in 1..=last {
-        say::page(rt, why::stair_shown(plan, Length(l)))?;
+        ended = say::more(rt, ended, why::stair_shown(plan, Length(l)));
     }
     for l in 1..=last {
-        say::page(rt, why::stretch_shown(plan, Length(l)))?;
+        ended = say::more(rt, ended, why::stretch_shown(plan, Length(l)));
     }
-    say::page(rt, why::nowhere_shown(plan))
+    say::more(rt, ended, why::nowhere_shown(plan))
 }

@@ -1,9 +1,9 @@
 // Files by name, and standard input.
 ghost use Rattle.std.specs.Prelude.{◌≤◌, IfOk, length};
 
-use doors::{Stop, fill, fill_by, unread};
-
-const CLERK: &[u8] = b"clerk";
+use super::outside::{fill, fill_by};
+use super::say::CLERK;
+use doors::{Stop, unread};
 
 // The bytes of the file of this name, as many as there is room for; of standard input where that is `-`. What cannot be read is named.
 pub(crate) fn read_by(rt: &HostRuntime, name: &[u8], room: &mut [u8]) -> Result<usize, Stop>

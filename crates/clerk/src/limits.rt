@@ -6,9 +6,9 @@ use doors::Stop;
 
 pub(crate) fn show_slack(rt: &HostRuntime, command: Command) -> Result<(), Stop> {
     let plan = open_plan(rt, command, b"slack [FILE]")?.plan;
-    say::page(rt, lines::verdict_written(verdict::verdict(plan)))?;
+    let mut ended = say::page(rt, lines::verdict_written(verdict::verdict(plan)));
     for place in 1..=plan.n {
-        say::page(rt, slack::limits_shown(plan, place))?;
+        ended = say::more(rt, ended, slack::limits_shown(plan, place));
     }
-    Ok(())
+    ended
 }

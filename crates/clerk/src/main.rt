@@ -12,6 +12,7 @@ mod files;
 mod limits;
 mod miss;
 mod orders;
+mod outside;
 mod plans;
 mod quick;
 mod runs;
@@ -24,8 +25,9 @@ mod whiteboard;
 mod words;
 
 use commands::{Command, taken};
-use doors::{Stop, asked_for_status, status, word_count};
+use doors::{Stop, status};
 use each::each;
+use outside::{asked_for_status, word_count};
 use say::complain;
 use std::process::ExitCode;
 use words::answer;

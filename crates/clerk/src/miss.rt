@@ -1,9 +1,10 @@
 // `miss [FILE]`: the plan in a file with releases over which it misses a deadline, as a plan file; nothing where there is none to write.
 use super::commands::{Command, first};
 use super::files::read_by;
+use super::outside::write;
 use super::plans::name_in;
 use super::say;
-use doors::{Stop, write};
+use doors::Stop;
 use missed::Missed;
 
 pub(crate) fn miss(rt: &HostRuntime, command: Command) -> Result<(), Stop> {

@@ -12,8 +12,9 @@ pub(crate) fn show_run(rt: &HostRuntime, command: Command) -> Result<(), Stop> {
     let stints = run::stints(plan, releases, &mut list).map_err(|refusal| say::refused(
         rt, refusal,
     ))?;
+    let mut ended = Ok(());
     for k in 0..stints {
-        say::page(rt, lines::stint_line(run::stint_at(&list, k)))?;
+        ended = say::more(rt, ended, lines::stint_line(run::stint_at(&list, k)));
     }
-    say::page(rt, lines::run_written(run::run(plan, releases)))
+    say::more(rt, ended, lines::run_written(run::run(plan, releases)))
 }

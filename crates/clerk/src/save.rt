@@ -1,9 +1,10 @@
 // `save [FILE]`: the plan in a file, written back. `save FILE SIZE PLACE`: the same into a page of SIZE bytes, from PLACE on.
 // `table [FILE]`, `table FILE SIZE PLACE`: its strings alone, as rows of the asset register's table.
 use super::commands::{Command, decimal, first};
+use super::outside::write;
 use super::plans::{open_by, open_plan};
 use super::say;
-use doors::{Stop, write};
+use doors::Stop;
 use faults::Refusal;
 use rules::{Plan, PlanFile, Releases};
 

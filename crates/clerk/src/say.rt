@@ -1,15 +1,21 @@
 // What the clerk writes: a refusal is an answer, on standard output; a complaint is one line on standard error. Where an answer
 // stops short, the function says why.
+use super::outside::write;
 use days::Day;
-use doors::{Stop, write};
+use doors::{Stop, worse};
 use faults::Refusal;
 use lines::Page;
 use std::io::Print;
 
-const CLERK: &[u8] = b"clerk";
+pub(crate) const CLERK: &[u8] = b"clerk: ";
 
 pub(crate) fn page(rt: &HostRuntime, page: Page) -> Result<(), Stop> {
     write(rt, &page.bytes[..page.len])
+}
+
+// A line behind others that ended so: it is tried whatever became of them.
+pub(crate) fn more(rt: &HostRuntime, ended: Result<(), Stop>, line: Page) -> Result<(), Stop> {
+    worse(ended, page(rt, line))
 }
 
 // The refusal's line.

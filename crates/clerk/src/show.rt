@@ -7,13 +7,13 @@ use rules::PlanFile;
 
 pub(crate) fn show(rt: &HostRuntime, command: Command) -> Result<(), Stop> {
     let PlanFile { plan, releases } = open_plan(rt, command, b"show [FILE]")?;
-    say::page(rt, showing::plan_shown(plan))?;
+    let mut ended = say::page(rt, showing::plan_shown(plan));
     for place in 1..=plan.n {
-        say::page(rt, showing::string_shown(plan, place))?;
+        ended = say::more(rt, ended, showing::string_shown(plan, place));
     }
-    say::page(rt, showing::load_shown(plan))?;
+    ended = say::more(rt, ended, showing::load_shown(plan));
     for place in 1..=releases.count {
-        say::page(rt, showing::release_shown(releases, place))?;
+        ended = say::more(rt, ended, showing::release_shown(releases, place));
     }
-    Ok(())
+    ended
 }

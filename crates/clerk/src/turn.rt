@@ -1,9 +1,10 @@
 // `to-02 [FILE]`, `to-01 [FILE]`: a plan file of version 01 as version 02, and of version 02 as version 01.
 use super::commands::{Command, first};
 use super::files::read_by;
+use super::outside::write;
 use super::plans::name_in;
 use super::say;
-use doors::{Stop, write};
+use doors::Stop;
 use faults::Refusal;
 
 // `turned` turns the text; `wanted` is how the command is to be said.

@@ -2,25 +2,25 @@
 // it.
 use super::commands::Command;
 use super::files::read_by;
+use super::outside::write;
 use super::plans::open_plan;
 use super::say;
-use doors::{Stop, write};
+use doors::Stop;
 use rules::{Outcome, PlanFile};
 
 pub(crate) fn own_visits(rt: &HostRuntime, command: Command) -> Result<(), Stop> {
     let PlanFile { plan, releases } = open_plan(rt, command, b"visits [FILE]")?;
     let own = visits::own_visits(plan, releases).map_err(|refusal| say::refused(rt, refusal))?;
+    let mut ended = Ok(());
     for visit in own.list.iter().take(own.count) {
-        say::page(
-            rt,
-            lines::visit_line(visit.release, visit.first, visit.length),
-        )?;
+        let line = lines::visit_line(visit.release, visit.first, visit.length);
+        ended = say::more(rt, ended, line);
     }
     // a run that misses ends there, and its visits with it
     if let Ok(Outcome::Miss { day, .. }) = run::run(plan, releases) {
         say::up_to(rt, day);
     }
-    Ok(())
+    ended
 }
 
 // One byte more than the longest text is enough to refuse a longer one, of either file.

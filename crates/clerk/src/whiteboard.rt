@@ -2,9 +2,10 @@
 // search's order, with its verdict.
 use super::commands::{Command, first};
 use super::files::read_by;
+use super::outside::write;
 use super::plans::{name_in, open_plan};
 use super::say;
-use doors::{Stop, write};
+use doors::Stop;
 
 pub(crate) fn assign(rt: &HostRuntime, command: Command) -> Result<(), Stop> {
     let mut room = [0u8; 65537];
@@ -22,12 +23,16 @@ pub(crate) fn assign(rt: &HostRuntime, command: Command) -> Result<(), Stop> {
 pub(crate) fn list_sets(rt: &HostRuntime, command: Command) -> Result<(), Stop> {
     let plan = open_plan(rt, command, b"sets [FILE]")?.plan;
     let found = verdict::search(plan).map_err(|refusal| say::refused(rt, refusal))?;
+    let mut ended = Ok(());
     for k in 1..=1024 {
         let line = sets::set_shown(plan, found, k);
         if line.len == 0 {
             break;
         }
-        say::page(rt, line)?;
+        ended = say::more(rt, ended, line);
+        if ended == Err(Stop::Gone) {
+            break;
+        }
     }
-    Ok(())
+    ended
 }

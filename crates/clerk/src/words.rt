@@ -7,6 +7,7 @@ use super::export::register_file;
 use super::limits::show_slack;
 use super::miss::miss;
 use super::orders::same_strings;
+use super::outside::write;
 use super::quick::quick_verdict;
 use super::runs::show_run;
 use super::save::save;
@@ -15,7 +16,7 @@ use super::show::show;
 use super::turn::turn;
 use super::visiting::{check_visits, own_visits};
 use super::whiteboard::{assign, list_sets};
-use doors::{Stop, write};
+use doors::{Stop, worse};
 
 pub(crate) fn answer(rt: &HostRuntime, command: Command) -> Result<(), Stop> {
     match command.word(0) {
@@ -50,10 +51,19 @@ pub(crate) fn answer(rt: &HostRuntime, command: Command) -> Result<(), Stop> {
         b"date" => date(rt, command),
         b"day" => day(rt, command),
         b"yearly" => yearly_days(rt, command),
-        b"help" => write(rt, HELP),
+        b"help" => help(rt),
         b"each" => Err(say::complain(rt, b"each stands in no list of commands")),
         other => Err(say::complain_of(rt, b"no word ", other, b"; clerk help lists them")),
     }
+}
+
+// A line a write.
+fn help(rt: &HostRuntime) -> Result<(), Stop> {
+    let mut ended = Ok(());
+    for line in HELP.split_inclusive(|b| *b == b'\n') {
+        ended = worse(ended, write(rt, line));
+    }
+    ended
 }
 
 const HELP: &[u8] = b"\

@@ -55,17 +55,17 @@ module _ (κs : Lfts 0) (p q : Plan) (order : InAnotherOrder p q) where
         → AsManyTakers r s
     search-any-order e f r s h k = rw (h, k) (same-search-answer p q ((reordered-exactly p q).0 order) ok also)
 
-    pub figures-any-order : (e f : _) (r s : Figures) → figures.Learnt κs (p, tt) (Ok r) e → figures.Learnt κs (q, tt) (Ok s) f
-        → (s.multiple ≡ r.multiple) × (s.load ≡ r.load)
+    pub figures-any-order : (e f : _) (r s : Result Figures Refusal) → figures.Learnt κs (p, tt) r e → figures.Learnt κs (q, tt) s f
+        → (x : Figures) × (y : Figures) × (r ≡ Ok x) × (s ≡ Ok y) × (y.multiple ≡ x.multiple) × (y.load ≡ x.load)
     unfolding figures_of
     figures-any-order e f r s h k =
-        let said = h ∙ figures-lawful p ok in
-        let told = k ∙ figures-lawful q also in
-        let there : r ≡ figures_of p = cc in
-        let here : s ≡ figures_of q = cc in
         let moved = (reordered-exactly p q).0 order in (
-          ap (λ (g : Figures). g.multiple) here ∙ same-multiple p q moved ∙ sym (ap (λ (g : Figures). g.multiple) there),
-          ap (λ (g : Figures). g.load) here ∙ same_load p q moved ∙ sym (ap (λ (g : Figures). g.load) there),
+          figures_of p,
+          figures_of q,
+          h ∙ figures-lawful p ok,
+          k ∙ figures-lawful q also,
+          same-multiple p q moved,
+          same_load p q moved,
         )
 
   -- both are refused, by one number, or neither is

@@ -1,9 +1,11 @@
--- Every public function allows one result: two results that meet its own contract are equal, and so is what it leaves of lent memory.
--- `Learnt` is what
--- the `ensures` clauses of a function say of its result, so a clause that is weakened or gone is refused here. The test command asks for a
--- line to each.
+-- Every public function allows one result: two results that meet its own contract are equal, and so is what it leaves of lent memory, but
+-- for the five places of slots, which only read the slots that they are lent. `Learnt` is what the `ensures` clauses of a function say of
+-- its result, taken from the function, over a lent slice of structs too, so a clause that is weakened or gone is refused here: tried with
+-- each of the five, `exact` gone or `1 ≤ place` gone from `within`. Three of register are written out, as is said there. The test command
+-- asks for a line to each; beside these stand a refusal of `read`, the order that is derived for days and lengths, and `u32::from` of a
+-- fault.
 --     κs the lifetimes of what is lent; a the arguments; e, f what holds at the return; r, s two results
-use Rattle.base.proofs.Prelude.{◌≡◌, ◌≤◌, refl, sym, ap, ◌∙◌, Bool, ◌&&◌, ℕ, List, arith, ltb, length}
+use Rattle.base.proofs.Prelude.{◌≡◌, ◌≤◌, refl, sym, ap, ◌∙◌, Bool, ℕ, List, arith, length}
 use Rattle.rules.specs.declared.Outcome.{Outcome}
 use Rattle.rules.specs.declared.Verdict.{Verdict}
 use Rattle.days.specs.declared.Day.{Day}
@@ -11,7 +13,9 @@ use Rattle.calendar.specs.declared.Weekday.{Weekday}
 use Rattle.calendar.specs.declared.YearlyDate.{YearlyDate}
 use Rattle.faults.specs.Checks.{Checked}
 use Rattle.faults.specs.declared.Refusal.{Refusal}
-use Rattle.std.specs.Prelude.{Result, Option, Some, None, unwrap_or, IfSome}
+use Rattle.std.specs.Prelude.{Result, Ok, Err, Option, Some, None, unwrap_or, IfSome, cond, eqb}
+use Rattle.std.specs.declared.process.ExitCode.{ExitCode}
+use Rattle.std.proofs.Common.{Ordering}
 use Rattle.rules.specs.declared.Answers.{Answers}
 use Rattle.rules.specs.Found.{FirstBroken, Assign}
 use Rattle.lines.specs.Limits.{Limit}
@@ -20,11 +24,9 @@ use Rattle.rules.specs.declared.PlanFile.{PlanFile}
 use Rattle.rules.specs.declared.Figures.{Figures}
 use Rattle.rules.specs.declared.Job.{Job}
 use Rattle.rules.specs.declared.Slot.{Slot}
-use Rattle.rules.specs.Run.{late_at, holder, chosen, may_take, due_before, next_up, left}
 use Rattle.rules.specs.declared.Use.{Use}
 use Rattle.rules.specs.declared.Stint.{Stint}
 use Rattle.rules.specs.declared.Plan.{Plan}
-use Rattle.rules.specs.declared.Releases.{Releases}
 use Rattle.lines.specs.declared.Page.{Page}
 use Rattle.calendar.specs.declared.Date.{Date}
 use Rattle.missed.specs.declared.Missed.{Missed}
@@ -35,6 +37,9 @@ use Rattle.register.specs.{declared.Row.Row, declared.Export.Export, Reader.row_
 use denote.Ref.{Bor}
 use Rattle.days.proofs.Day.plus.Reads as Day-plus
 use Rattle.days.proofs.Day.since.Reads as Day-since
+use Rattle.days.proofs.DayPartialOrd.partial_cmp.Reads as Day-before
+use Rattle.days.proofs.LengthPartialOrd.partial_cmp.Reads as Length-shorter
+use Rattle.faults.proofs.U32FromFault.from.Reads as fault-number
 use Rattle.calendar.proofs.Date.first.Reads as Date-first
 use Rattle.calendar.proofs.Date.from_day.Reads as Date-from-day
 use Rattle.calendar.proofs.Date.day_number.Reads as Date-day-number
@@ -57,7 +62,8 @@ use Rattle.slack.proofs.limit_at.Reads as limit-at
 use Rattle.slack.proofs.limits_shown.Reads as limits-shown
 use Rattle.register.specs.declared.LineRead.{LineRead}
 use Rattle.register.proofs.three_at.Reads as three-at
-use Rattle.visits.specs.{declared.Visit.Visit, declared.OwnVisits.OwnVisits, Visits.visits_check}
+use Rattle.visits.specs.declared.OwnVisits.{OwnVisits}
+use Rattle.visits.proofs.check_visits.Reads as check-visits
 use Rattle.visits.proofs.own_visits.Reads as own-visits
 use Rattle.visits.proofs.check_visit_text.Reads as check-visit-text
 use Rattle.visits.proofs.check_visit_files.Reads as check-visit-files
@@ -69,6 +75,11 @@ use Rattle.boards.proofs.board_end.Reads as board-end
 use Rattle.rules.proofs.Plan.moving_cost.Reads as Plan-moving-cost
 use Rattle.rules.proofs.Plan.with_run.Reads as Plan-with-run
 use Rattle.rules.proofs.Verdict.passes.Reads as Verdict-passes
+use Rattle.slots.proofs.late_place.Reads as late-place
+use Rattle.slots.proofs.holder_place.Reads as holder-place
+use Rattle.slots.proofs.taker_place.Reads as taker-place
+use Rattle.slots.proofs.next_place.Reads as next-place
+use Rattle.slots.proofs.due_place.Reads as due-place
 use Rattle.slots.proofs.stopped_job.Reads as stopped-job
 use Rattle.slots.proofs.seated_job.Reads as seated-job
 use Rattle.slots.proofs.part_left.Reads as part_left
@@ -183,6 +194,13 @@ use Rattle.entries.proofs.desk_check_visits.Reads as desk-check-visits
 use Rattle.entries.proofs.desk_answer.Reads as desk-answer
 use Rattle.entries.proofs.desk_date.Reads as desk-date
 use Rattle.entries.proofs.desk_day.Reads as desk-day
+use Rattle.doors.specs.declared.Stop.{Stop}
+use Rattle.doors.specs.declared.Stop.TheVariants.{Refused, Failed, Unwritten, Gone}
+use Rattle.doors.specs.Stops.{rank_of}
+use Rattle.doors.proofs.status.Reads as status
+use Rattle.doors.proofs.worse.Reads as worse
+use Rattle.doors.proofs.complain.Reads as complain
+use Rattle.doors.proofs.unread.Reads as unread
 use contract.Lifetimes.{Lfts}
 
 -- days
@@ -191,6 +209,19 @@ one-Day-plus κs a e f r s h k = h ∙ sym k
 
 pub one-Day-since : (κs : Lfts 0) (a : _) (e f : _) (r s : Option Length) → Day-since.Learnt κs a r e → Day-since.Learnt κs a s f → r ≡ s
 one-Day-since κs a e f r s h k = h ∙ sym k
+
+-- whether a day is before another, a length shorter: the order that is derived for them, through which `<` and its like go
+pub one-Day-before : (κs : Lfts 2) (a : _) (e f : _) (r s : Option Ordering) → Day-before.Learnt κs a r e → Day-before.Learnt κs a s f
+    → r ≡ s
+one-Day-before κs a e f r s h k = h ∙ sym k
+
+pub one-Length-shorter : (κs : Lfts 2) (a : _) (e f : _) (r s : Option Ordering) → Length-shorter.Learnt κs a r e
+    → Length-shorter.Learnt κs a s f → r ≡ s
+one-Length-shorter κs a e f r s h k = h ∙ sym k
+
+-- faults: `u32::from` of a fault
+pub one-fault-number : (κs : Lfts 0) (a : _) (e f : _) (r s : ℕ) → fault-number.Learnt κs a r e → fault-number.Learnt κs a s f → r ≡ s
+one-fault-number κs a e f r s h k = h ∙ sym k
 
 -- calendar
 pub one-Date-first : (κs : Lfts 0) (a : _) (e f : _) (r s : Date) → Date-first.Learnt κs a r e → Date-first.Learnt κs a s f → r ≡ s
@@ -267,8 +298,7 @@ place-one n (Some a) (Some b) h k = ap Some (h.0 ∙ sym k.0)
 place-one n None (Some b) h k = absurd (omega (arith, h.0, k.0, k.1))
 place-one n (Some a) None h k = absurd (omega (arith, h.0, k.0, h.1))
 
--- the places that a day asks for: each function is lent a slice of slots, of which the kit exports no contract to cite; its clauses are
--- written out (slots/src/choice.rt). A place of n, 0 for none, is an option in one way only
+-- the places that a day asks for: a place of n, 0 for none, is an option in one way only
 abbrev Placed : ℕ → List Slot → Option ℕ → Type 0
 Placed n slots r = (unwrap_or r 0 ≡ n) × IfSome r (λ place. (1 ≤ place) × (place ≤ length slots))
 
@@ -279,25 +309,22 @@ from-one slots (Some k) h = h.0
 placed-one : (n : ℕ) (slots : List Slot) (r s : Option ℕ) → Placed n slots r → Placed n slots s → r ≡ s
 placed-one n slots r s h k = place-one n r s (h.0, from-one slots r h.1) (k.0, from-one slots s k.1)
 
-pub one-late-place : (day : ℕ) (slots : List Slot) (r s : Option ℕ) → Placed (late_at day slots) slots r
-    → Placed (late_at day slots) slots s → r ≡ s
-one-late-place day slots r s h k = placed-one _ slots r s h k
+pub one-late-place : (κs : Lfts 1) (a : _) (e f : _) (r s : Option ℕ) → late-place.Learnt κs a r e → late-place.Learnt κs a s f → r ≡ s
+one-late-place κs a e f r s h k = placed-one _ _ r s h k
 
-pub one-holder-place : (slots : List Slot) (r s : Option ℕ) → Placed (holder slots) slots r → Placed (holder slots) slots s → r ≡ s
-one-holder-place slots r s h k = placed-one _ slots r s h k
+pub one-holder-place : (κs : Lfts 1) (a : _) (e f : _) (r s : Option ℕ) → holder-place.Learnt κs a r e → holder-place.Learnt κs a s f
+    → r ≡ s
+one-holder-place κs a e f r s h k = placed-one _ _ r s h k
 
-pub one-taker-place : (day due : ℕ) (slots : List Slot) (r s : Option ℕ)
-    → Placed (chosen (may_take day due) due_before slots (length slots)) slots r
-    → Placed (chosen (may_take day due) due_before slots (length slots)) slots s → r ≡ s
-one-taker-place day due slots r s h k = placed-one _ slots r s h k
+pub one-taker-place : (κs : Lfts 1) (a : _) (e f : _) (r s : Option ℕ) → taker-place.Learnt κs a r e → taker-place.Learnt κs a s f
+    → r ≡ s
+one-taker-place κs a e f r s h k = placed-one _ _ r s h k
 
-pub one-next-place : (slots : List Slot) (r s : Option ℕ) → Placed (next_up slots) slots r → Placed (next_up slots) slots s → r ≡ s
-one-next-place slots r s h k = placed-one _ slots r s h k
+pub one-next-place : (κs : Lfts 1) (a : _) (e f : _) (r s : Option ℕ) → next-place.Learnt κs a r e → next-place.Learnt κs a s f → r ≡ s
+one-next-place κs a e f r s h k = placed-one _ _ r s h k
 
-pub one-due-place : (after : ℕ) (slots : List Slot) (r s : Option ℕ)
-    → Placed (chosen (λ t. ltb after t.deadline.0 && ltb 0 (left t.job)) due_before slots (length slots)) slots r
-    → Placed (chosen (λ t. ltb after t.deadline.0 && ltb 0 (left t.job)) due_before slots (length slots)) slots s → r ≡ s
-one-due-place after slots r s h k = placed-one _ slots r s h k
+pub one-due-place : (κs : Lfts 1) (a : _) (e f : _) (r s : Option ℕ) → due-place.Learnt κs a r e → due-place.Learnt κs a s f → r ≡ s
+one-due-place κs a e f r s h k = placed-one _ _ r s h k
 
 pub one-stopped-job : (κs : Lfts 0) (a : _) (e f : _) (r s : Job) → stopped-job.Learnt κs a r e → stopped-job.Learnt κs a s f → r ≡ s
 one-stopped-job κs a e f r s h k = h ∙ sym k
@@ -348,6 +375,14 @@ pub one-run-check : (κs : Lfts 0) (a : _) (e f : _) (r s : Checked) → run-che
 one-run-check κs a e f r s h k = h ∙ sym k
 
 -- reading
+-- of one text one refusal
+refusal-one : (r s : Refusal) → ◌≡◌ {A = Result PlanFile Refusal} (Err r) (Err s) → r ≡ s
+refusal-one r s h = cc
+
+pub one-refused-reading : (κs : Lfts 1) (a : _) (e f : _) (r s : Refusal) → read.Learnt κs a (Err r) e → read.Learnt κs a (Err s) f
+    → (r ≡ s) × (e.0.now ≡ f.0.now)
+one-refused-reading κs a e f r s h k = (refusal-one r s (h.0 ∙ sym k.0), h.1 ∙ sym k.1)
+
 pub one-read : (κs : Lfts 1) (a : _) (e f : _) (r s : Result PlanFile Refusal) → read.Learnt κs a r e → read.Learnt κs a s f
     → (r ≡ s) × (e.0.now ≡ f.0.now)
 one-read κs a e f r s h k = (h.0 ∙ sym k.0, h.1 ∙ sym k.1)
@@ -680,11 +715,10 @@ pub one-three-at : (κs : Lfts 1) (a : _) (e f : _) (r s : LineRead (List ℕ)) 
     → (r ≡ s) × (e.0.now ≡ f.0.now)
 one-three-at κs a e f r s h k = (h.0 ∙ sym k.0, h.1 ∙ sym k.1)
 
--- visits: `check_visits` is lent a slice of structs, of which the kit exports no contract to cite: its clause is written out
--- (visits/src/lib.rt); xs and ys are the records of the list at the two returns
-pub one-check-visits : (p : Plan) (rs : Releases) (vs xs ys : List Visit) (r s : Checked) → (r ≡ visits_check p rs vs) × (xs ≡ vs)
-    → (s ≡ visits_check p rs vs) × (ys ≡ vs) → (r ≡ s) × (xs ≡ ys)
-one-check-visits p rs vs xs ys r s h k = (h.0 ∙ sym k.0, h.1 ∙ sym k.1)
+-- visits
+pub one-check-visits : (κs : Lfts 1) (a : _) (e f : _) (r s : Checked) → check-visits.Learnt κs a r e → check-visits.Learnt κs a s f
+    → (r ≡ s) × (e.1.1.0.now ≡ f.1.1.0.now)
+one-check-visits κs a e f r s h k = (h.0 ∙ sym k.0, h.1 ∙ sym k.1)
 
 pub one-own-visits : (κs : Lfts 0) (a : _) (e f : _) (r s : Result OwnVisits Refusal) → own-visits.Learnt κs a r e
     → own-visits.Learnt κs a s f → r ≡ s
@@ -715,6 +749,37 @@ one-board-page κs a e f r s h k = (h.0 ∙ sym k.0, h.1.0 ∙ sym k.1.0, h.1.1 
 pub one-board-end : (κs : Lfts 1) (a : _) (e f : _) (r s : ℕ) → board-end.Learnt κs a r e → board-end.Learnt κs a s f
     → (r ≡ s) × (e.1.0.now ≡ f.1.0.now)
 one-board-end κs a e f r s h k = (h.0 ∙ sym k.0, h.1 ∙ sym k.1)
+
+-- doors: a status is a number, and of two ends no two have one rank
+same-status : (r s : ExitCode) → r.status ≡ s.status → r ≡ s
+same-status r s h = rw h
+
+pub one-status : (κs : Lfts 0) (a : _) (e f : _) (r s : ExitCode) → status.Learnt κs a r e → status.Learnt κs a s f → r ≡ s
+one-status κs a e f r s h k = same-status r s (h ∙ sym k)
+
+end_of : ℕ → Result (Unit {0}) Stop
+end_of k =
+    cond (eqb k 0) (Ok tt) (cond (eqb k 1) (Err Refused) (cond (eqb k 2) (Err Failed) (cond (eqb k 3) (Err Unwritten) (Err Gone))))
+
+ranked : (r : Result (Unit {0}) Stop) → end_of (rank_of r) ≡ r
+unfolding end_of
+ranked (Ok _) = refl
+ranked (Err Refused) = refl
+ranked (Err Failed) = refl
+ranked (Err Unwritten) = refl
+ranked (Err Gone) = refl
+
+pub one-worse : (κs : Lfts 0) (a : _) (e f : _) (r s : Result (Unit {0}) Stop) → worse.Learnt κs a r e → worse.Learnt κs a s f → r ≡ s
+one-worse κs a e f r s h k = sym (ranked r) ∙ ap end_of (h ∙ sym k) ∙ ranked s
+
+pub one-complain : (κs : Lfts 5) (a : _) (e f : _) (r s : Stop) → complain.Learnt κs a r e → complain.Learnt κs a s f
+    → (r ≡ s) × (e.1.0.now ≡ f.1.0.now) × (e.1.1.0.now ≡ f.1.1.0.now) × (e.1.1.1.0.now ≡ f.1.1.1.0.now)
+    × (e.1.1.1.1.0.now ≡ f.1.1.1.1.0.now)
+one-complain κs a e f r s h k = (h.0 ∙ sym k.0, h.1.0 ∙ sym k.1.0, h.1.1 ∙ sym k.1.1, h.1.2 ∙ sym k.1.2, h.1.3 ∙ sym k.1.3)
+
+pub one-unread : (κs : Lfts 4) (a : _) (e f : _) (r s : Stop) → unread.Learnt κs a r e → unread.Learnt κs a s f
+    → (r ≡ s) × (e.1.0.now ≡ f.1.0.now) × (e.1.1.0.now ≡ f.1.1.0.now)
+one-unread κs a e f r s h k = (h.0 ∙ sym k.0, h.1.0 ∙ sym k.1.0, h.1.1 ∙ sym k.1.1)
 
 -- entries: what is read and what is written to is lent
 pub one-desk-check : (κs : Lfts 2) (a : _) (e f : _) (r s : ℕ) → desk-check.Learnt κs a r e → desk-check.Learnt κs a s f

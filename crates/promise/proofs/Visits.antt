@@ -1,11 +1,12 @@
 -- The contractor's visit list (document 02, W-211), of what `check_visits` answered: accepted exactly if the six rules hold; 14 and 15
 -- exactly where the page gives them, 4 to 8 before both; and our own clean run is accepted where moving is free and every deadline lies
 -- within it, as records and as a text.
--- What the kit learns of a contract it does not learn of functions over a slice of structs, so the clause of `check_visits` is written out
--- (visits/src/lib.rt): r is its answer for the plan p, the releases rs and a lent list whose records are vs.
+-- The clause of `check_visits` is written out: r is its answer for the plan p, the releases rs and a lent list whose records are vs. That
+-- it is the function's own is `visits-answered`.
 use Rattle.base.proofs.Prelude.{ℕ, ◌≤◌, ◌≡◌, refl, sym, ◌∙◌, subst, ◌↔◌, arith, leb, ltb, lt-ltb, le-leb, leb-true, ltb-true, ap, length, take, take_at}
 use Rattle.faults.specs.Checks.{Lawful, Checked}
-use Rattle.std.specs.Prelude.{Ok}
+use Rattle.faults.specs.declared.Refusal.{Refusal}
+use Rattle.std.specs.Prelude.{Ok, Result}
 use Rattle.base.proofs.Lists.{All}
 use Rattle.days.specs.declared.Length.{Length}
 use Rattle.faults.specs.declared.Fault.TheVariants.{VisitUnlawful, SumDiffers}
@@ -23,11 +24,16 @@ use Rattle.laws.proofs.RefusedBy.{Never, run_check-numbers, never-above, if-says
 use Rattle.visits.specs.{declared.Visit.Visit, declared.OwnVisits.OwnVisits, Visits.{first_breaking, first_short, visit_list_check, visits_check}, Accepted.Accepted, OwnRun.{run_visits, handed_out, own_visits}, Texts.{visits_text, visit_text_check}}
 use Rattle.visits.proofs.{AcceptedExactly.accepted-exactly, OwnRun.clean-run-accepted, OwnText.own-text-accepted}
 use Rattle.sound.proofs.CleanAnswer.{answer-clean}
+use Rattle.visits.proofs.check_visits.Reads as check-visits
 use Rattle.visits.proofs.own_visits.Reads as own-visits
 use Rattle.visits.proofs.check_visit_text.Reads as check-visit-text
 use Rattle.run.proofs.run.Reads as run
 use contract.Lifetimes.{Lfts}
 use mathlib.Core.List.{List}
+
+-- a is the plan, the releases and the lent list
+pub visits-answered : (κs : Lfts 1) (a : _) (e : _) (r : Checked) → check-visits.Learnt κs a r e → r ≡ visits_check a.0 a.1.0 a.1.1.0.now
+visits-answered κs a e r h = h.0
 
 module _ (p : Plan) (rs : Releases) (vs : List Visit) (r : Checked) (answered : r ≡ visits_check p rs vs) where
   -- the records, then the sums
@@ -113,29 +119,32 @@ pub own-run-visits : (κs : Lfts 0) (a : _) (e : _) (w m i : Length) (r : Checke
 own-run-visits κs a e w m i r ran answered free inside =
     answered ∙ clean-run-accepted a.0 a.1.0 w m i (sym ran) free inside
 
--- The same of a text: what `check_visit_text` answered for the lines of the visits that `own_visits` gave. Its arguments are the plan, the
--- releases and the text.
-module _ (κs κt : Lfts 0) (a : _) (e f : _) (w m i : Length) (own : OwnVisits)
+-- The same of a text: what `check_visit_text` answered for the lines of the visits that `own_visits` gave; it gave some, of such a run.
+-- Its arguments are the plan, the releases and the text.
+module _ (κs κt : Lfts 0) (a : _) (e f : _) (w m i : Length) (given : Result OwnVisits Refusal)
     (ran : run.Learnt κs a (Ok (Clean w m i)) e)
-    (gave : own-visits.Learnt κt a (Ok own) f)
+    (gave : own-visits.Learnt κt a given f)
   where
-    own-are : take own.count own.list ≡ run_visits a.0 (releases_of a.1.0)
+    own-are : given ≡ Ok (handed_out (run_visits a.0 (releases_of a.1.0)))
     unfolding own_visits
     own-are =
-        let vs = run_visits a.0 (releases_of a.1.0) in
         let good = (answer-clean a.0 w m i a.1.0 (sym ran)).0 in
-        let said : Ok own ≡ Ok (handed_out vs) = gave ∙ rw good in
-        let is : own ≡ handed_out vs = cc in
-        ap (λ (o : OwnVisits). take o.count o.list) is ∙ take_at vs _ (length vs) refl
+        gave ∙ rw good
 
-    pub own-text-visits : (κu : Lfts 1) (b : _) (g : _) (r : Checked) → check-visit-text.Learnt κu b r g → b.0 ≡ a.0 → b.1.0 ≡ a.1.0
+    pub own-text-visits : (own : OwnVisits) × (given ≡ Ok own)
+        × ((κu : Lfts 1) (b : _) (g : _) (r : Checked) → check-visit-text.Learnt κu b r g → b.0 ≡ a.0 → b.1.0 ≡ a.1.0
         → b.1.1.0.now ≡ visits_text (take own.count own.list)
         → All (λ s. moving_cost a.0 s ≡ 0) (strings_of a.0)
         → ((k : ℕ) → 1 ≤ k → k ≤ length (releases_of a.1.0) → deadline_of a.0 (released (releases_of a.1.0) k) ≤ a.0.run.0)
-        → r ≡ Lawful
-    own-text-visits κu b g r answered plan list text free inside =
-        answered.0
-        ∙ ap (λ p. visit_text_check p b.1.0 b.1.1.0.now) plan
-        ∙ ap (λ rs. visit_text_check a.0 rs b.1.1.0.now) list
-        ∙ ap (visit_text_check a.0 a.1.0) (text ∙ ap visits_text own-are)
-        ∙ own-text-accepted a.0 a.1.0 w m i (sym ran) free inside
+        → r ≡ Lawful)
+    own-text-visits =
+        let vs = run_visits a.0 (releases_of a.1.0) in (
+          handed_out vs,
+          own-are,
+          λ κu b g r answered plan list text free inside.
+              answered.0
+              ∙ ap (λ p. visit_text_check p b.1.0 b.1.1.0.now) plan
+              ∙ ap (λ rs. visit_text_check a.0 rs b.1.1.0.now) list
+              ∙ ap (visit_text_check a.0 a.1.0) (text ∙ ap visits_text (take_at vs _ (length vs) refl))
+              ∙ own-text-accepted a.0 a.1.0 w m i (sym ran) free inside,
+        )

@@ -1,6 +1,6 @@
 -- Where a verdict comes from: the lines that the code gave, put together, are the whole text; what is named is what the verdict names; and
 -- the numbers add up.
-use Rattle.base.proofs.Prelude.{ℕ, ◌+◌, ◌≡◌, refl, sym, ap, List, [], ◌∷◌, ◌++◌}
+use Rattle.base.proofs.Prelude.{ℕ, ◌+◌, ◌≡◌, refl, sym, ap, ◌∙◌, List, [], ◌∷◌, ◌++◌}
 use Rattle.std.specs.Prelude.{Result, Ok}
 use Rattle.faults.specs.declared.Refusal.{Refusal}
 use Rattle.faults.specs.Checks.{Lawful}
@@ -98,6 +98,11 @@ module _ (κs : Lfts 0) (p : Plan) (lawful : plan_check p ≡ Lawful) where
       let is = rw lawful at h in
       let same : subject.Overload ≡ named_by p (verdict_of p) = cc in
       ap (text_named p) (sym same)
+
+  -- the figures are given, whatever is answered
+  pub over-figured : (r : Result Figures Refusal) (e : _) → figures.Learnt κs (p, tt) r e → (found : Figures) × (r ≡ Ok found)
+  unfolding figures_answer
+  over-figured r e h = (figures_of p, h ∙ rw lawful)
 
   -- the pages of an overload, in the order in which the clerk writes them
   module _ (found : Figures) (head sum : Page) (strings : ℕ → Page) (d e f : _) (h : ℕ → _)

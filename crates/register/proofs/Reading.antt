@@ -1,10 +1,11 @@
 -- The whole table: its parts, read one after the other, decide as the definition does.
-use Rattle.base.proofs.Prelude.{ℕ, ◌≤◌, ◌≡◌, refl, ap, List, [], ◌∷◌, arith, le-ltb, ne_eqb, length}
+use Rattle.base.proofs.Prelude.{ℕ, ◌≤◌, ◌<◌, ◌≡◌, refl, ap, List, [], ◌∷◌, arith, lt-ltb, le-ltb, ne_eqb, length}
 use Rattle.faults.specs.Checks.{Refused, Lawful, Checked, or_refused}
 use Rattle.faults.specs.declared.Refusal.{Refusal}
 use Rattle.std.specs.Prelude.{Ok, Err, Result}
-use Rattle.faults.specs.declared.Fault.TheVariants.{StringCount}
-use Rattle.rules.specs.{declared.Plan.Plan, Refusal.{count_check, head_check, multiple_check}, Text.{Line, lines_of, no_releases, said_in}}
+use Rattle.faults.specs.declared.Fault.{Fault}
+use Rattle.faults.specs.declared.Fault.TheVariants.{TextTooLong, StringCount}
+use Rattle.rules.specs.{declared.Plan.Plan, Refusal.{count_check, head_check, multiple_check}, Text.{Line, lines_of, no_releases, refused_reading, said_in}}
 use Rattle.register.specs.{Table.{rows_check, table_plan, row_lines_check, table_check, table_reading}, inner.Strings.rows_in}
 use Rattle.register.proofs.Splitting.{lines-some}
 
@@ -34,6 +35,16 @@ module _ (run : ℕ) (lines : List Line) where
       each (Err e) h = absurd (let other : ◌≡◌ {A = Result Plan Refusal} (Err e) (Ok p) = h in cc)
 
 -- ---- The text
+
+module _ (run : ℕ) (text : List ℕ) where
+  pub table-long : 65536 < length text → refused_reading TextTooLong 0 ≡ table_reading run text
+  unfolding table_reading table_check
+  table-long h = rw (lt-ltb 65536 (length text) h)
+
+  module _ (short : length text ≤ 65536) where
+    pub table-run : (f : Fault) (at : ℕ) → head_check 0 1 run ≡ Refused f at → refused_reading f at ≡ table_reading run text
+    unfolding table_reading table_check count_check
+    table-run f at h = rw (le-ltb 65536 (length text) short, h)
 
 module _ (run : ℕ) (text : List ℕ) (short : length text ≤ 65536) (head : head_check 0 1 run ≡ Lawful) where
   pub table-empty : length text ≡ 0 → Refused StringCount 0 ≡ said_in (table_reading run text)

@@ -1,5 +1,6 @@
 // Steps 3 to 5 of a day, and of the days after it up to the next event.
-ghost use Rattle.std.specs.Prelude.{◌≡◌, false, ◌<◌};
+ghost use Rattle.std.specs.Prelude.{◌≡◌, ◌-◌, false, ◌<◌};
+ghost use Rattle.days.specs.Days.{days};
 ghost use Rattle.rules.specs.Run.{taken, given};
 ghost use Rattle.run.specs.inner.Day.{Affords, Event, EndedBy};
 
@@ -62,22 +63,30 @@ fn next_event(slots: &[Slot], today: Day, until: Day) -> Day
     }
 }
 
+// How long `later` lies after `earlier`; nothing where it does not.
+#[tactic(auto, unfolding(days::specs::Days::gap_of))]
+fn days_to(later: Day, earlier: Day) -> Length
+    ensures exact { result ≡ days (later.0 - earlier.0) }
+{
+    later.since(earlier).unwrap_or(Length(0))
+}
+
 // Step 5, day after day: the job on the bank uses the day, or the day is idle, up to the next event, which is `until` at the latest. The
 // stretch ends, too, with what the job is at: its moving, or its work.
 pub(crate) fn use_days(slots: &mut [Slot], today: Day, until: Day) -> Stint
     requires { today.0 < until.0 }
     ensures exact { EndedBy slots.old slots.new today until.0 result }
 {
-    let gap = next_event(slots, today, until).0 - today.0;
+    let gap = days_to(next_event(slots, today, until), today);
     let Some(holder) = holder_place(slots) else {
         return Stint {
             first: today,
-            length: Length(gap),
+            length: gap,
             used: Use::Idle,
         };
     };
     let held = slots[holder - 1];
-    let length = Length(part_left(held.job).0.min(gap).max(1));
+    let length = Length(part_left(held.job).0.min(gap.0).max(1));
     slots[holder - 1].job = spent_by(held.job, length);
     Stint {
         first: today,

@@ -10,11 +10,12 @@ use days::{Day, Length};
 use rules::{Job, Plan, Release, Slot};
 
 // The day that lies `length` after `from`, where the code's numbers can say it.
+#[tactic(auto, unfolding(days::specs::Days::later_of))]
 pub(crate) fn day_after(from: Day, length: Length) -> Day
     requires { from.0 + length.0 < 2 ^ 32 }
     ensures exact { result ≡ day (from.0 + length.0) }
 {
-    Day(from.0 + length.0)
+    from.plus(length).unwrap_or(from)
 }
 
 // The release r, which stands at place `serves` of its list, comes into the slot of its string.

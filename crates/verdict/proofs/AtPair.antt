@@ -1,7 +1,8 @@
 -- A pair at which the rule breaks: when it does, and that the plan does not pass then.
 use Rattle.base.proofs.Prelude.{ℕ, ◌≤◌, ◌<◌, ◌≡◌, sym, true, false, ◌&&◌, arith, leb, ltb, leb-true, ltb-true, le-leb, lt-leb}
 use Rattle.base.proofs.Lists.{by_bool, true-not-false, and_left, and_right}
-use Rattle.faults.specs.Checks.{in_bounds}
+use Rattle.faults.specs.Checks.{Refused, Lawful, in_bounds}
+use Rattle.faults.specs.declared.Fault.{Fault}
 use Rattle.faults.proofs.Checks.{or_refused-lawful, in_bounds-low, in_bounds-yes, in_bounds-not}
 use Rattle.rules.specs.{declared.Plan.Plan, Demand.{block_limit, demand, Passes}, Verdict.{verdict_of, is_pass}, Refusal.plan_check}
 use Rattle.laws.proofs.Lawful.{LawfulPlan}
@@ -46,6 +47,14 @@ module _ (p : Plan) (l b : ℕ) where
       by_bool (is_pass (verdict_of p)) (λ pass. absurd (breaks-no-rule h (passes-of-pass p ok pass))) (λ e. e)
 
   -- ---- What is answered
+
+  pub breaks-lawful : plan_check p ≡ Lawful → breaks_answer p l b ≡ breaks_at p l b
+  unfolding breaks_answer
+  breaks-lawful h = rw h
+
+  pub breaks-refused : (f : Fault) (at : ℕ) → plan_check p ≡ Refused f at → breaks_answer p l b ≡ false
+  unfolding breaks_answer
+  breaks-refused f at h = rw h
 
   -- a plan that breaks the rule at a pair does not pass
   pub answer-no-rule : breaks_answer p l b ≡ true → Passes p → ⊥

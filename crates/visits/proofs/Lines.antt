@@ -11,7 +11,7 @@ use Rattle.rules.specs.{declared.Plan.Plan, declared.Releases.Releases, Refusal.
 use Rattle.visits.specs.{declared.Visit.Visit, declared.book.Book.Book, Visits.visits_check, Texts.{visit_said, visit_formed, visit_in, visit_lines_check, visit_text_check, visit_files_check}, inner.{Book.{kept_check, book_after, sums_by, Fit, BeforeFirst}, Lines.lines_answer}}
 use Rattle.register.specs.{declared.LineRead.LineRead, Reader.{line_long, line_read_at}}
 use Rattle.register.proofs.Walk.{first_line, first_some, next-within, next-lines, read-formed, read-unformed}
-use Rattle.visits.proofs.Reached.{Reached, going, far-start, reached-next, reached-broken, reached-fit, reached-end, reached-refused}
+use Rattle.visits.proofs.Reached.{Reached, going, far-start, reached-next, reached-broken, reached-fit, reached-lawful, reached-refused}
 
 -- ---- Line by line
 
@@ -161,7 +161,7 @@ module _ (p : Plan) (rs : Releases) (text : List ℕ) where
       at-end = subst (λ ls. Reached p rs (map visit_in lines) line (map visit_in ls) broken book) none-left w.reached
 
       pub walked-kept : broken ≡ Lawful → sums_by book ≡ lines_answer p rs lines
-      walked-kept none = reached-end p rs (map visit_in lines) line broken book none at-end ∙ all-formed
+      walked-kept none = reached-lawful p rs (map visit_in lines) line broken book none at-end ∙ all-formed
 
       pub walked-broken : (e : Refusal) → broken ≡ Err e → Err e ≡ lines_answer p rs lines
       walked-broken e some = reached-refused p rs (map visit_in lines) line [] broken book e some at-end ∙ all-formed

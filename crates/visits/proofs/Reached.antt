@@ -5,10 +5,10 @@
 --     Going ..              nothing was refused so far; the records of `rest` are to come
 --     Far ..                the same, whatever was seen
 --     Reached ..            that, or the refusal is known
-use Rattle.base.proofs.Prelude.{ℕ, suc, ◌+◌, ◌-◌, ◌*◌, ◌≤◌, ◌<◌, ◌^◌, ◌≡◌, refl, sym, ap, ◌∙◌, ◌≢◌, subst, true, false, not, List, [], ◌∷◌, arith, ℕ_discrete, eqb, length, get_or, take, drop, drop-cons, drop_of_length-le, get_or-take, eqb-true, eq-eqb, ne_eqb, lt-ltb, add-one, mul-le-mul, mul-zero, length-set, get_or-set_same, get_or-set_other, length-take-le}
+use Rattle.base.proofs.Prelude.{ℕ, suc, ◌+◌, ◌-◌, ◌*◌, ◌≤◌, ◌<◌, ◌^◌, ◌≡◌, refl, sym, ap, ◌∙◌, ◌≢◌, subst, true, false, not, cond, List, [], ◌∷◌, arith, ℕ_discrete, eqb, length, get_or, take, drop, drop-cons, drop_of_length-le, get_or-take, eqb-true, eq-eqb, ne_eqb, lt-ltb, add-one, mul-le-mul, mul-zero, length-set, get_or-set_same, get_or-set_other, length-take-le}
 use Rattle.std.specs.Prelude.{Err}
 use Rattle.std.specs.Result.{is_ok}
-use Rattle.faults.specs.Checks.{Refused, Lawful, Checked}
+use Rattle.faults.specs.Checks.{Refused, Lawful, Checked, then}
 use Rattle.faults.specs.declared.Refusal.{Refusal}
 use lib.ListN.{length-take}
 use native.Mathlib.Nat.{mul-suc}
@@ -460,6 +460,12 @@ module _ (p : Plan) (rs : Releases) (vs : List Visit) where
     reached-broken broken ill (going is g) = absurd (true-not-false (sym (ap is_ok is) ∙ ill))
     reached-broken broken ill (ended e is said) = ended e is said
 
+    -- the whole: what was refused stays, and so does the book
+    pub reached-after : (broken : Checked) → Reached p rs vs i (v ∷ rest) broken book
+        → Reached p rs vs (i + 1) rest (then broken (kept_check book v (i + 1))) (cond (is_ok broken) (book_after book v) book)
+    reached-after broken (going is g) = rw is (far-next g)
+    reached-after broken (ended e is said) = rw is (ended e refl said)
+
   -- at the end
   pub far-end : (i : ℕ) (book : Book) → Far p rs vs i [] book → sums_by book ≡ visits_check p rs vs
   unfolding sums_by visits_check visit_list_check breaking_from first_short
@@ -497,10 +503,10 @@ module _ (p : Plan) (rs : Releases) (vs : List Visit) where
   reached-fit i rest broken book ok (going is g) = far-fit p rs vs i rest book g
   reached-fit i rest broken book ok (ended e is said) = absurd (true-not-false (sym ok ∙ ap is_ok is))
 
-  pub reached-end : (i : ℕ) (broken : Checked) (book : Book) → broken ≡ Lawful → Reached p rs vs i [] broken book
+  pub reached-lawful : (i : ℕ) (broken : Checked) (book : Book) → broken ≡ Lawful → Reached p rs vs i [] broken book
       → sums_by book ≡ visits_check p rs vs
-  reached-end i broken book none (going is g) = far-end i book g
-  reached-end i broken book none (ended e is said) =
+  reached-lawful i broken book none (going is g) = far-end i book g
+  reached-lawful i broken book none (ended e is said) =
       let both : ◌≡◌ {A = Checked} Lawful (Err e) = sym none ∙ is in
       absurd (cc)
 
@@ -510,6 +516,12 @@ module _ (p : Plan) (rs : Releases) (vs : List Visit) where
       let both : ◌≡◌ {A = Checked} Lawful (Err e) = sym is ∙ some in
       absurd (cc)
   reached-refused i rest broken book e some (ended d is said) = sym some ∙ is ∙ sym said
+
+  -- the whole: what was refused, or what the sums say
+  pub reached-end : (i : ℕ) (broken : Checked) (book : Book) → Reached p rs vs i [] broken book
+      → then broken (sums_by book) ≡ visits_check p rs vs
+  reached-end i broken book (going is g) = rw is (far-end i book g)
+  reached-end i broken book (ended e is said) = rw is (sym said)
 
 -- ---- Record by record
 

@@ -1,5 +1,6 @@
 // An interval with all its blockings, and the tightest pair of all.
 ghost use Rattle.std.specs.Prelude.{◌≡◌};
+ghost use Rattle.std.specs.Bool.{then_some};
 ghost use Rattle.rules.specs.Verdict.{all_pairs};
 ghost use Rattle.lines.specs.Pages.{page_of};
 ghost use Rattle.demand.proofs.Pairs.{pair};
@@ -30,12 +31,20 @@ impl CheckedPlan {
             .unwrap_or(0)
     }
 
-    // Whether some demand is larger than a day before.
-    fn grows_in(&self, l: u32) -> bool
-        ensures exact { result ≡ grows_in self.now.plan l }
+    // The largest demand of an interval where some demand is larger than a day before; one walk finds both.
+    fn top_grown(&self, l: u32) -> Option<u64>
+        ensures exact { result ≡ then_some (grows_in self.now.plan l) (top_demand self.now.plan l) }
     {
-        (0..self.limit_at(l) + 1).any(|b| self.demand_at(l.saturating_sub(1), b)
-            < self.demand_at(l, b))
+        let before = l.saturating_sub(1);
+        let mut top = 0;
+        let mut grows = false;
+        for b in 0..self.limit_at(l) + 1 {
+            let demand = self.demand_at(l, b);
+            // asked of each blocking: a walk with no branch is quicker
+            grows |= self.demand_at(before, b) < demand;
+            top = demand.max(top);
+        }
+        grows.then_some(top)
     }
 
     // The line of an interval at which some demand grows; none at any other.
@@ -43,10 +52,12 @@ impl CheckedPlan {
     pub(crate) fn stair(&self, l: u32) -> Page
         ensures exact { result ≡ page_of (stair_text self.now.plan l) }
     {
-        if (1..=self.last_interval()).contains(&l) && self.grows_in(l) {
-            stair_line(Length(l), self.top_demand(l))
-        } else {
-            blank()
+        if !(1..=self.last_interval()).contains(&l) {
+            return blank();
+        }
+        match self.top_grown(l) {
+            Some(top) => stair_line(Length(l), top),
+            None => blank(),
         }
     }
 

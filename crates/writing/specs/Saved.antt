@@ -1,5 +1,6 @@
 -- Writing into the caller's page (document 02, W-201). A text goes there where a check finds nothing:
---     no_room page at text   the page has fewer bytes from the place at on than the text needs, or at lies beyond its end
+--     lacks_room page at k   the page has fewer than k bytes from the place at on, or at lies beyond its end
+--     no_room page at text   it has fewer than the text needs
 --     fit_check c text page at    what the check c finds, then 9 with 0 where the text does not fit
 --     text_answer c text     the refusal of the check c, or the length of the text
 --     text_page c text page at    the page afterwards: a refusal keeps every byte
@@ -26,6 +27,9 @@ use Rattle.rules.specs.Release.{releases_of}
 use Rattle.rules.specs.Refusal.{run_check}
 use Rattle.rules.specs.Layout.{Version, has_field, header_frame, Common}
 use Rattle.writing.specs.Written.{plan_text}
+
+abbrev pub lacks_room : List ℕ → ℕ → ℕ → Bool
+lacks_room page at k = ltb (length (drop at page)) k || ltb (length page) at
 
 unfoldable pub no_room : List ℕ → ℕ → List ℕ → Bool
 no_room page at text = ltb (length (drop at page)) (length text) || ltb (length page) at

@@ -2,4 +2,3 @@
 -- speaks of it.
 pub mod Cells
 pub mod Costs
-pub mod Room

@@ -2,7 +2,7 @@
 ghost use Rattle.std.specs.Prelude.{◌≡◌};
 ghost use Rattle.faults.specs.Checks.{refuse_if};
 ghost use Rattle.faults.specs.declared.Fault.TheVariants.{NoRoom};
-ghost use Rattle.writing.specs.inner.Room.{lacks_room};
+ghost use Rattle.writing.specs.Saved.{lacks_room};
 
 use faults::{Checked, Fault, Refusal};
 

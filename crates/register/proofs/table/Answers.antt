@@ -2,7 +2,7 @@
 use Rattle.base.proofs.Prelude.{◌∙◌, sym, rules}
 use Rattle.laws.proofs.Releases.{run_check-lawful}
 use Rattle.writing.specs.Saved.{no_room}
-use Rattle.writing.proofs.Saving.{fit_written}
+use Rattle.writing.proofs.Saving.{fit-checked}
 use Rattle.rules.specs.Refusal.{run_check}
 use Rattle.register.specs.Export.{table_text, export_check, export_answer, export_page}
 use Rattle.register.proofs.table.Goals as goal
@@ -32,5 +32,5 @@ unfolding export_page export_check
 returns-clause-page c =
     let lawful = sym c.run_check.ensures.exact ∙ c.in_ok-run_check.was in
     let room = sym c.room_check.ensures.exact ∙ c.in_ok-room_check.was in
-    sym (fit_written (run_check c.args.p c.args.rs) (table_text c.args.p) c.args.page.now c.args.at lawful
+    sym (fit-checked (run_check c.args.p c.args.rs) (table_text c.args.p) c.args.page.now c.args.at lawful
     (rw c.rows_length-length.ensures.exact at room) _ c.put_rows.ensures.exact).1

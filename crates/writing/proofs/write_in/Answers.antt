@@ -2,7 +2,7 @@
 use Rattle.base.proofs.Prelude.{◌∙◌, sym, rules}
 use Rattle.layouts.specs.inner.Versions.{meant_by}
 use Rattle.writing.specs.Saved.{no_room, writable_check, saved_text, save_check, saved_answer, saved_page}
-use Rattle.writing.proofs.Saving.{writable-run, room-there, plan-fits, fit_written}
+use Rattle.writing.proofs.Saving.{writable-run, room-there, plan-fits, fit-checked}
 use Rattle.writing.proofs.write_in.Goals as goal
 
 pub text_length-length-requires : goal.text_length-length-requires
@@ -24,7 +24,7 @@ returns-clause-page c =
     let v = meant_by c.args.version in
     let lawful = sym c.writable_check.ensures.exact ∙ c.in_ok-writable_check.was in
     let room = sym c.room_check.ensures.exact ∙ c.in_ok-room_check.was in
-    sym (fit_written (writable_check v c.args.p c.args.rs) (saved_text v c.args.p c.args.rs) c.args.page.now c.args.at lawful
+    sym (fit-checked (writable_check v c.args.p c.args.rs) (saved_text v c.args.p c.args.rs) c.args.page.now c.args.at lawful
     (rw c.text_length-length.ensures.exact at room) _ c.put_plan.ensures.exact).1
 
 pub returns-in_err-room_check-clause-exact : goal.returns-in_err-room_check-clause-exact

@@ -1,6 +1,6 @@
 use Rattle.std.proofs.Common.{◌≤◌, length, take}
 use Rattle.std.specs.Io.KnownBytes.{Consumes}
-use Rattle.doors.proofs.fill.Given as goal
+use Rattle.clerk.proofs.outside.fill.Given as goal
 
 abbrev pub invariant-loop : goal.invariant-loop
 invariant-loop g l = (l.count ≤ length l.room) × (l.counter ≤ l.count)
