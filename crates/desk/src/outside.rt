@@ -1,6 +1,6 @@
 // What the program reads and writes outside. What lies there gives and takes what it likes, so that a contract here speaks of the room and
-// of the kind of an end, and of no byte that comes or goes. Each program has these functions of its own: what they give follows from no
-// argument, and a public function of a crate allows one result.
+// of the kind of an end, and of no byte that comes or goes. Each program has these functions of its own, private, since what they give
+// follows from no argument; crate `doors` has the same for whoever else opens and writes so.
 ghost use Rattle.std.specs.Prelude.{◌≡◌, ◌<◌, ◌≤◌, IfOk, IfErr, length, take};
 ghost use Rattle.std.specs.Io.KnownBytes.{Consumes, IsAtEnd};
 ghost use Rattle.doors.specs.Stops.{IsUnwritten};

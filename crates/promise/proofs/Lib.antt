@@ -9,7 +9,8 @@
 -- the days of a run on the crew's board. TwoEnds: everybody permitted, and nobody.
 -- Whiteboard: where a verdict comes from, string by string and interval by interval.
 -- EverySet: the plan with the set that the search finds, and every set. RunAsBars: the days of a run, drawn.
--- ToldPrograms: demand 3 of what a C program is told. ShutOut, OnlyOne: what the contracts rule out.
+-- ToldPrograms: demand 3 of what a C program is told. ShutOut, OnlyOne: what the contracts rule out. Outside: what two answers
+-- from outside share.
 pub mod Given
 pub mod UserWords
 pub mod QuickAgrees
@@ -32,6 +33,7 @@ pub mod Missed
 pub mod ShutOut
 pub mod Dates
 pub mod ToldPrograms
+pub mod Outside
 pub mod OnlyOne
 pub mod Whiteboard
 pub mod EverySet

@@ -1,11 +1,12 @@
--- Every public function allows one result: two results that meet its own contract are equal, and so is what it leaves of lent memory, but
--- for the five places of slots, which only read the slots that they are lent. `Learnt` is what the `ensures` clauses of a function say of
--- its result, taken from the function, over a lent slice of structs too, so a clause that is weakened or gone is refused here: tried with
--- each of the five, `exact` gone or `1 ≤ place` gone from `within`. Three of register are written out, as is said there. The test command
--- asks for a line to each; beside these stand a refusal of `read`, the order that is derived for days and lengths, and `u32::from` of a
--- fault.
+-- Every public function but five of doors allows one result: two results that meet its own contract are equal, and so is what it leaves
+-- of lent memory, but for the five places of slots, which only read the slots that they are lent. `Learnt` is what the `ensures` clauses of
+-- a function say of its result, taken from the function, over a lent slice of structs too, so a clause that is weakened or gone is refused
+-- here: tried with each of the five places, `exact` gone or `1 ≤ place` gone from `within`. Three of register are written out, as is said
+-- there. The test command asks for a line to each; beside these stand a refusal of `read`, the order that is derived for days and lengths,
+-- and `u32::from` of a fault. Five of doors ask what lies outside, which gives and takes what it likes: of those the last part of doors
+-- says how far two results are one.
 --     κs the lifetimes of what is lent; a the arguments; e, f what holds at the return; r, s two results
-use Rattle.base.proofs.Prelude.{◌≡◌, ◌≤◌, refl, sym, ap, ◌∙◌, Bool, ℕ, List, arith, length}
+use Rattle.base.proofs.Prelude.{◌≡◌, ◌≤◌, refl, sym, ap, ◌∙◌, subst, Bool, ℕ, List, arith, length, take}
 use Rattle.rules.specs.declared.Outcome.{Outcome}
 use Rattle.rules.specs.declared.Verdict.{Verdict}
 use Rattle.days.specs.declared.Day.{Day}
@@ -13,7 +14,7 @@ use Rattle.calendar.specs.declared.Weekday.{Weekday}
 use Rattle.calendar.specs.declared.YearlyDate.{YearlyDate}
 use Rattle.faults.specs.Checks.{Checked}
 use Rattle.faults.specs.declared.Refusal.{Refusal}
-use Rattle.std.specs.Prelude.{Result, Ok, Err, Option, Some, None, unwrap_or, IfSome, cond, eqb}
+use Rattle.std.specs.Prelude.{Result, Ok, Err, Option, Some, None, unwrap_or, IfSome, cond, eqb, is_ok, IsUtf8}
 use Rattle.std.specs.declared.process.ExitCode.{ExitCode}
 use Rattle.std.proofs.Common.{Ordering}
 use Rattle.rules.specs.declared.Answers.{Answers}
@@ -196,11 +197,23 @@ use Rattle.entries.proofs.desk_date.Reads as desk-date
 use Rattle.entries.proofs.desk_day.Reads as desk-day
 use Rattle.doors.specs.declared.Stop.{Stop}
 use Rattle.doors.specs.declared.Stop.TheVariants.{Refused, Failed, Unwritten, Gone}
-use Rattle.doors.specs.Stops.{rank_of}
+use Rattle.doors.specs.Stops.{rank_of, status_of}
 use Rattle.doors.proofs.status.Reads as status
 use Rattle.doors.proofs.worse.Reads as worse
 use Rattle.doors.proofs.complain.Reads as complain
 use Rattle.doors.proofs.unread.Reads as unread
+use Rattle.doors.proofs.fill.Reads as fill
+use Rattle.doors.proofs.fill_by.Reads as fill-by
+use Rattle.doors.proofs.write.Reads as doors-write
+use Rattle.doors.proofs.asked_for_status.Reads as asked-for-status
+use Rattle.doors.proofs.word_count.Reads as word-count
+use Rattle.promise.proofs.Outside.{part-one, written-status, error_said, unnamed-kind}
+use Rattle.std.specs.Io.KnownBytes.{Consumes}
+use Rattle.std.specs.declared.io.traits.Read.{Ghosts}
+use Rattle.std.specs.declared.io.Error.{Error}
+use Rattle.std.specs.declared.io.ErrorKind.{ErrorKind}
+use denote.RattleType.{RattleType}
+use denote.Param.Laws.{Laws}
 use contract.Lifetimes.{Lfts}
 
 -- days
@@ -299,14 +312,14 @@ place-one n None (Some b) h k = absurd (omega (arith, h.0, k.0, k.1))
 place-one n (Some a) None h k = absurd (omega (arith, h.0, k.0, h.1))
 
 -- the places that a day asks for: a place of n, 0 for none, is an option in one way only
-abbrev Placed : ℕ → List Slot → Option ℕ → Type 0
-Placed n slots r = (unwrap_or r 0 ≡ n) × IfSome r (λ place. (1 ≤ place) × (place ≤ length slots))
+abbrev pub SaysPlace : ℕ → List Slot → Option ℕ → Type 0
+SaysPlace n slots r = (unwrap_or r 0 ≡ n) × IfSome r (λ place. (1 ≤ place) × (place ≤ length slots))
 
 from-one : (slots : List Slot) (r : Option ℕ) → IfSome r (λ place. (1 ≤ place) × (place ≤ length slots)) → IfSome r (λ k. 1 ≤ k)
 from-one slots None h = tt
 from-one slots (Some k) h = h.0
 
-placed-one : (n : ℕ) (slots : List Slot) (r s : Option ℕ) → Placed n slots r → Placed n slots s → r ≡ s
+pub placed-one : (n : ℕ) (slots : List Slot) (r s : Option ℕ) → SaysPlace n slots r → SaysPlace n slots s → r ≡ s
 placed-one n slots r s h k = place-one n r s (h.0, from-one slots r h.1) (k.0, from-one slots s k.1)
 
 pub one-late-place : (κs : Lfts 1) (a : _) (e f : _) (r s : Option ℕ) → late-place.Learnt κs a r e → late-place.Learnt κs a s f → r ≡ s
@@ -780,6 +793,40 @@ one-complain κs a e f r s h k = (h.0 ∙ sym k.0, h.1.0 ∙ sym k.1.0, h.1.1 �
 pub one-unread : (κs : Lfts 4) (a : _) (e f : _) (r s : Stop) → unread.Learnt κs a r e → unread.Learnt κs a s f
     → (r ≡ s) × (e.1.0.now ≡ f.1.0.now) × (e.1.1.0.now ≡ f.1.1.0.now)
 one-unread κs a e f r s h k = (h.0 ∙ sym k.0, h.1.0 ∙ sym k.1.0, h.1.1 ∙ sym k.1.1)
+
+-- doors, what lies outside. Of a reader R whose bytes xs are known two counts are one, and so are the bytes that came and those that are
+-- left; whether a read fails is the reader's
+pub one-fill : (R : RattleType) (L : Laws R) (G : Ghosts R.Denot) (d : _) (κs : Lfts 3) (a : _) (e f : _) (n m : ℕ) (xs : List ℕ)
+    → fill.Learnt R L G d κs a (Ok n) e → fill.Learnt R L G d κs a (Ok m) f → G.remaining a.0.now ≡ Some xs
+    → (n ≡ m) × (take n e.1.0.now ≡ take m f.1.0.now) × (G.remaining e.0.now ≡ G.remaining f.0.now)
+one-fill R L G d κs a e f n m xs h k known =
+    part-one n m e.1.0.now f.1.0.now xs (G.remaining e.0.now) (G.remaining f.0.now) (h.1.1.1 ∙ sym k.1.1.1) h.0 k.0
+    (subst (λ o. Consumes o (G.remaining e.0.now) (take n e.1.0.now)) known h.1.0)
+    (subst (λ o. Consumes o (G.remaining f.0.now) (take m f.1.0.now)) known k.1.0) h.1.1.0 k.1.1.0
+
+-- of a name that is no text two answers are errors of one kind; what a file holds, and whether it can be read, is the system's. The name
+-- is one, and so is the length of the room
+pub one-fill-by : (κs : Lfts 3) (a : _) (e f : _) (r s : Result ℕ Error) → fill-by.Learnt κs a r e → fill-by.Learnt κs a s f
+    → ((IsUtf8 a.1.0.now → ⊥) → (error_said r ≡ Some ErrorKind.InvalidFilename) × (error_said s ≡ Some ErrorKind.InvalidFilename))
+    × (e.1.0.now ≡ f.1.0.now) × (length e.1.1.0.now ≡ length f.1.1.0.now)
+one-fill-by κs a e f r s h k =
+    (λ no. (unnamed-kind r (h.1.0 no), unnamed-kind s (k.1.0 no)), h.1.1.1 ∙ sym k.1.1.1, h.1.1.0 ∙ sym k.1.1.0)
+
+-- two writes that both went through, or neither, have one status; the text is one
+pub one-doors-write : (κs : Lfts 2) (a : _) (e f : _) (r s : Result (Unit {0}) Stop) → doors-write.Learnt κs a r e
+    → doors-write.Learnt κs a s f → (is_ok r ≡ is_ok s → status_of r ≡ status_of s) × (e.1.0.now ≡ f.1.0.now)
+one-doors-write κs a e f r s h k =
+    (λ same. written-status r h.0 ∙ ap (λ b. cond b 0 2) same ∙ sym (written-status s k.0), h.1 ∙ sym k.1)
+
+-- what a program is started with is the system's: the runtime that is lent is one. It has no content, so that these two say nothing of the
+-- results; they stand so that each public function has its line
+pub one-asked-for-status : (κs : Lfts 1) (a : _) (e f : _) (r s : Bool) → asked-for-status.Learnt κs a r e
+    → asked-for-status.Learnt κs a s f → e.0.now ≡ f.0.now
+one-asked-for-status κs a e f r s h k = h ∙ sym k
+
+pub one-word-count : (κs : Lfts 1) (a : _) (e f : _) (r s : ℕ) → word-count.Learnt κs a r e → word-count.Learnt κs a s f
+    → e.0.now ≡ f.0.now
+one-word-count κs a e f r s h k = h ∙ sym k
 
 -- entries: what is read and what is written to is lent
 pub one-desk-check : (κs : Lfts 2) (a : _) (e f : _) (r s : ℕ) → desk-check.Learnt κs a r e → desk-check.Learnt κs a s f
