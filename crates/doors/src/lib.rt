@@ -4,7 +4,7 @@
 // board open and write by functions of their own (src/outside.rt of each).
 #![tactic(auto)]
 
-ghost use Rattle.std.specs.Prelude.{◌≡◌, ◌<◌, ◌≤◌, IfOk, IfErr, MatchResult, IsUtf8, max, length, take};
+ghost use Rattle.std.specs.Prelude.{◌≡◌, ℕ, ◌<◌, ◌≤◌, IfOk, IfErr, MatchResult, IsUtf8, max, length, take};
 ghost use Rattle.std.specs.IoError.{error_kind};
 ghost use Rattle.std.specs.Process.{exit_status};
 ghost use Rattle.std.specs.Io.KnownBytes.{Consumes, IsAtEnd};
@@ -67,14 +67,16 @@ pub fn word_count(rt: &HostRuntime) -> usize
     usize::MAX
 }
 
-// Puts what a reader gives at the start of the room, up to its end or to the room's, and says how many bytes. std's `read_to_end` wants a
-// `Vec` on the heap.
+// Puts what a reader gives at the start of the room, up to its end or to the room's, and says how many bytes; where a read fails, what came
+// before stands there. std's `read_to_end` wants a `Vec` on the heap.
 #[tactic(auto, using(base::proofs::RoomFilled::room_filled))]
 pub fn fill<R: Read>(from: &mut R, room: &mut [u8]) -> io::Result<usize>
     ensures within { IfOk result (λ n. n ≤ length room.new) }
     ensures bytes { IfOk result (λ n. Consumes (R.remaining from.old) (R.remaining from.new) (take n room.new)) }
     ensures whole { IfOk result (λ n. n < length room.new → IsAtEnd (R.remaining from.new)) }
     ensures room { length room.new ≡ length room.old }
+    ensures none_lost { IfErr result (λ _. (k : ℕ) × (k ≤ length room.new)
+        × Consumes (R.remaining from.old) (R.remaining from.new) (take k room.new)) }
 {
     let mut count = 0;
     for _ in 0..room.len() {

@@ -35,11 +35,13 @@ fn fills_to_the_end_of_either(rt: HostRuntime) -> Result<(), Fail> {
 
 #[test]
 fn a_read_that_fails_is_no_end(rt: HostRuntime) {
-    let failed = fill(&mut Failing { given: false }, &mut [0u8; 4]);
+    let mut room = [0u8; 4];
+    let failed = fill(&mut Failing { given: false }, &mut room);
     assert_eq!(rt;
         failed.map_err(|e| e.kind()),
         Err(ErrorKind::ConnectionReset)
     );
+    assert_eq!(rt; room, *b"pl\0\0");
 }
 
 #[test]

@@ -800,7 +800,7 @@ pub one-fill : (R : RattleType) (L : Laws R) (G : Ghosts R.Denot) (d : _) (κs :
     → fill.Learnt R L G d κs a (Ok n) e → fill.Learnt R L G d κs a (Ok m) f → G.remaining a.0.now ≡ Some xs
     → (n ≡ m) × (take n e.1.0.now ≡ take m f.1.0.now) × (G.remaining e.0.now ≡ G.remaining f.0.now)
 one-fill R L G d κs a e f n m xs h k known =
-    part-one n m e.1.0.now f.1.0.now xs (G.remaining e.0.now) (G.remaining f.0.now) (h.1.1.1 ∙ sym k.1.1.1) h.0 k.0
+    part-one n m e.1.0.now f.1.0.now xs (G.remaining e.0.now) (G.remaining f.0.now) (h.1.1.1.0 ∙ sym k.1.1.1.0) h.0 k.0
     (subst (λ o. Consumes o (G.remaining e.0.now) (take n e.1.0.now)) known h.1.0)
     (subst (λ o. Consumes o (G.remaining f.0.now) (take m f.1.0.now)) known k.1.0) h.1.1.0 k.1.1.0
 

@@ -1,29 +1,7 @@
 -- What two answers from outside share: of a reader whose bytes are known those that came and those that are left, of a write that went
 -- through or not its status, of a name that is no text the kind of the error.
 --     xs the bytes that a reader has; n of them come into a room, ys are left; m come into another as long, zs are left
-use Rattle.base.proofs.Prelude.{
-  ◌≡◌,
-  ◌≤◌,
-  ◌<◌,
-  ◌+◌,
-  refl,
-  sym,
-  ap,
-  ◌∙◌,
-  subst,
-  ℕ,
-  List,
-  [],
-  ◌++◌,
-  arith,
-  length,
-  take,
-  drop,
-  ◌⊎◌,
-  inl,
-  inr,
-  ⊎_elim,
-}
+use Rattle.base.proofs.Prelude.{◌≡◌, ◌≤◌, ◌<◌, ◌+◌, refl, sym, ap, ◌∙◌, subst, ℕ, List, [], ◌++◌, arith, length, take, drop, ◌⊎◌, inl, inr, ⊎_elim}
 use Rattle.std.proofs.Math.Nat.{eq-or-lt_of_le}
 use Rattle.std.proofs.Math.Seq.{drop-append_seam, take-append_seam}
 use Rattle.std.proofs.lemmas.List.{length-append, length-take-le}
